@@ -1,0 +1,131 @@
+-- Demand 3, the statement (01: 'Demand 3'). Its proof is in Proof.antt.
+use Prim.Native.Nat.{ℕ, zero, suc, _+_, _*_, _^_, _<_, _≤_}
+use mathlib.Core.Path.{_≡_}
+use mathlib.Core.Logic.{_≢_, _↔_}
+use mathlib.Core.Bool.{true}
+use mathlib.Core.List.{List, [], _∷_, _++_, map, List·Memᴰ}
+use mathlib.Core.Option.{some}
+use lib.ListN.{take, drop}
+use Rattle.laws.specs.Lists.{NoDup, joined}
+use Rattle.laws.specs.Bytes.{value}
+use Rattle.spec.specs.Ids.{Id, Link, linksOf, fits}
+use Rattle.spec.specs.Store.{Told, Conf, Store, find, statusAt, retained}
+use Rattle.spec.specs.Paths.{Path}
+use Rattle.spec.specs.Rules.{counts}
+use Rattle.spec.specs.History.{limit}
+use Rattle.spec.specs.Calls.{Answer, done, said, handed, refused, Outcome, Beginning, Call, start, resetAll, round, name, resolve, certify, ask, commit, outlook, remove, drop as dropTo, call}
+use Rattle.spec.specs.Level.{Sized}
+
+-- ---- lists of calls
+
+-- "The list holds no reset"; a digest has 32 bytes
+abbrev pub InList : Call → Type 0
+InList c = elim c [ start b ↦ Unit {0} | resetAll ↦ ⊥ | round r peers ↦ Unit {0} | name i ↦ i .digest < 256 ^ 32 | resolve i t ↦ Unit {0} | certify i ↦ Unit {0} | ask ↦ Unit {0} | commit i b ↦ Unit {0} | outlook i b ↦ Unit {0} | remove r from b ↦ Unit {0} | dropTo r ↦ Unit {0} ]
+
+abbrev pub AllInList : List Call → Type 0
+AllInList [] = Unit {0}
+AllInList (c ∷ cs) = InList c × AllInList cs
+
+-- "each call gets the whole store .. as the one before left it"
+unfoldable pub after : Store → List Call → Store
+after s [] = s
+after s (c ∷ cs) = after (call s c .store) cs
+
+-- ---- histories
+
+-- an id read from its 37 bytes
+unfoldable pub readId : List ℕ → Id
+readId bs = record { round = value 0 (take 4 bs); author = value 0 (take 1 (drop 4 bs)); digest = value 0 (take 32 (drop 5 bs)) }
+
+unfoldable pub readIds : ℕ → List ℕ → List Id
+readIds zero bs = []
+readIds (suc n) bs = readId bs ∷ readIds n (drop 37 bs)
+
+-- a history as it was written: the store at its commit, the anchor, the ids
+pub record History : Type 0 where
+  pub at : Store
+  pub anchor : Id
+  pub ids : List Id
+
+-- "Its histories are the ids that follow the number of points, as many as it says, in each anchor record that its commits wrote, in the
+-- order written". The number stands after two ids, the executable byte and the previous anchor round: at byte 79.
+unfoldable pub readRecords : Store → ℕ → List ℕ → List History
+readRecords s zero bs = []
+readRecords s (suc n) bs =
+    let points = value 0 (take 4 (drop 79 bs)) in
+    record { at = s; anchor = readId bs; ids = readIds points (drop 83 bs) } ∷ readRecords s n (drop (83 + points * 37) bs)
+
+-- "records before a refused anchor too": as many as the answer's finished anchors
+unfoldable pub finished : Answer → ℕ
+finished a = elim a [ done ↦ 0 | said b ↦ 0 | handed n ↦ n | refused r n ↦ n ]
+
+unfoldable pub wrote : Store → Call → Outcome → List History
+wrote s c o = elim c [ start b ↦ [] | resetAll ↦ [] | round r peers ↦ [] | name i ↦ [] | resolve i t ↦ [] | certify i ↦ [] | ask ↦ [] | commit i b ↦ readRecords s (finished (o .answer)) (o .buffer) | outlook i b ↦ [] | remove r from b ↦ [] | dropTo r ↦ [] ]
+
+unfoldable pub histories : Store → List Call → List History
+histories s [] = []
+histories s (c ∷ cs) = wrote s c (call s c) ++ histories (call s c .store) cs
+
+-- ---- paths
+
+-- an accepted resolution: the id and the links that it gave
+pub record Given : Type 0 where
+  pub who : Id
+  pub links : List Link
+
+unfoldable pub accepted : Id → Told → Answer → List Given
+accepted i t a = elim a [ done ↦ record { who = i; links = linksOf (t .includes) (t .witness) } ∷ [] | said b ↦ [] | handed n ↦ [] | refused r n ↦ [] ]
+
+unfoldable pub gave : Call → Answer → List Given
+gave c a = elim c [ start b ↦ [] | resetAll ↦ [] | round r peers ↦ [] | name i ↦ [] | resolve i t ↦ accepted i t a | certify i ↦ [] | ask ↦ [] | commit i b ↦ [] | outlook i b ↦ [] | remove r from b ↦ [] | dropTo r ↦ [] ]
+
+unfoldable pub resolutions : Store → List Call → List Given
+resolutions s [] = []
+resolutions s (c ∷ cs) = gave c (call s c .answer) ++ resolutions (call s c .store) cs
+
+-- "links as accepted resolutions gave them, each leading one or two rounds down to the point with that peer and digest"
+pub record Edge (G : List Given) (x y : Id) : Type 0 where
+  pub given : Given
+  pub among : List·Memᴰ given G
+  pub whose : given .who ≡ x
+  pub link : Link
+  pub of : List·Memᴰ link (given .links)
+  pub leads : fits (x .round) y link ≡ true
+
+-- ---- the first half
+
+-- "each history holds exactly the points of the retained rounds, from limit to anchor, that any path from the anchor reaches and no earlier
+-- history held"; "each history goes by the rounds retained at its commit"
+abbrev pub Exact : List Given → List Id → History → Type 0
+Exact G earlier h = (x : Id) → List·Memᴰ x (h .ids)
+    ↔ ((retained (h .at) (x .round) ≡ true) × (limit (h .at .conf) (h .anchor .round) ≤ x .round) × (x .round ≤ h .anchor .round) × Path (Edge G) (h .anchor) x × (List·Memᴰ x earlier → ⊥))
+
+abbrev pub AllExact : List Given → List Id → List History → Type 0
+AllExact G earlier [] = Unit {0}
+AllExact G earlier (h ∷ hs) = Exact G earlier h × AllExact G (earlier ++ h .ids) hs
+
+-- "After a start that isn't refused, for ANY list of the ten calls": "no point stands in two histories or twice in one", and each is exact
+abbrev pub FirstHalf : Type 0
+FirstHalf = (s : Store) (b : Beginning) (cs : List Call) → call s (start b) .answer ≡ done → AllInList cs
+    → let t = call s (start b) .store in NoDup (joined (λ (h : History). h .ids) (histories t cs)) × AllExact (resolutions t cs) [] (histories t cs)
+
+-- ---- the second half
+
+-- "rounds, names, resolutions and certificates"; "No certificate in this list names a point that has status 2 at that call."
+abbrev pub Arrives : Store → Call → Type 0
+Arrives s c = elim c [ start b ↦ ⊥ | resetAll ↦ ⊥ | round r peers ↦ Unit {0} | name i ↦ Unit {0} | resolve i t ↦ Unit {0} | certify i ↦ (q : ℕ) → find s i ≡ some q → statusAt s q ≢ 2 | ask ↦ ⊥ | commit i b ↦ ⊥ | outlook i b ↦ ⊥ | remove r from b ↦ ⊥ | dropTo r ↦ ⊥ ]
+
+abbrev pub AllArrive : Store → List Call → Type 0
+AllArrive s [] = Unit {0}
+AllArrive s (c ∷ cs) = Arrives s c × AllArrive (call s c .store) cs
+
+-- "The second list begins at any tables that count as started. The commit after it is compared with the same one made there at once: the
+-- whole answer, every byte of the buffer." The trigger yields an anchor and no refusal.
+abbrev pub SecondHalf : Type 0
+SecondHalf = (s : Store) → Sized s → counts s ≡ true → (i : Id) (b : List ℕ) (n : ℕ) → call s (commit i b) .answer ≡ handed (suc n)
+    → (cs : List Call) → AllArrive s cs
+    → (call (after s cs) (commit i b) .answer ≡ call s (commit i b) .answer) × (call (after s cs) (commit i b) .buffer ≡ call s (commit i b) .buffer)
+
+-- "This is a single claim about the whole list, not one for each call."
+abbrev pub Demand3 : Type 0
+Demand3 = FirstHalf × SecondHalf

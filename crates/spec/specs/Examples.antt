@@ -1,0 +1,444 @@
+-- Small lists of calls and what they give: each refusal, the order of the tests, chains of several anchors, remove's bytes.
+use Prim.Native.Nat.{ℕ, suc, _+_}
+use mathlib.Core.Path.{_≡_, refl}
+use mathlib.Core.List.{List, [], _∷_, _++_, map, List·Memᴰ}
+use mathlib.Core.Bool.{Bool, true, false, cond}
+use mathlib.Core.Option.{Option, none, some}
+use lib.Dec.{eqb}
+use lib.ListN.{getD, replicate}
+use Rattle.laws.specs.Lists
+use Rattle.spec.specs.Ids.{Id, Ref}
+use Rattle.spec.specs.Store.{Told, Flags, Point, Memory, Conf, Progress, Store, noMemory, word, withProgress, withMemory}
+use Rattle.spec.specs.Chain.{Refusal, orZero}
+use Rattle.spec.specs.Inspect.{weight}
+use Rattle.spec.specs.Calls.{Answer, Outcome, Beginning, Call, start, resetAll, round, name, resolve, certify, ask, commit, outlook, remove, drop as dropTo, call, startOk, conflictRound, done, said, handed, refused}
+use Rattle.spec.specs.Demand.{after}
+use Rattle.spec.specs.Play.{Row, conf, blank, from, id, ref, valid, rounds, computed, numbers, same, agree, agree-elim}
+
+-- ---- short ways to write
+
+-- the answer to the last of a list of calls on tables of n places
+abbrev answer : ℕ → List Call → Call → List ℕ
+answer n cs c = numbers (call (after (blank n) cs) c .answer)
+
+-- a row
+abbrev row : ℕ → List ℕ → List ℕ → Row
+row n x y = record { case = n; given = x; said = y }
+
+-- refused with n, no anchor finished
+abbrev stop : ℕ → List ℕ
+stop n = 4 ∷ n ∷ 0 ∷ []
+
+-- a resolution with this status and these links
+abbrev gave : ℕ → List Ref → List Ref → Told
+gave s is ws = record { status = s; proof = false; trigger = false; cause = true; topProof = id 10 0 0; evidence = 0; includes = is; witness = ws }
+
+-- a start at 10, used by 0, rounds to 12
+abbrev twelve : List Call
+twelve = from 2 10 false (some 0) ∷ round 11 3 ∷ round 12 3 ∷ []
+
+-- ---- start, reset, rounds, names
+
+abbrev begin : Conf → ℕ → Option ℕ → Beginning
+begin c b used = record { conf = c; bottom = b; peers = 3; afterGap = false; used = used }
+
+abbrev confOf : ℕ → ℕ → ℕ → Conf
+confOf g h d = record { genesis = g; historyRounds = h; deduplicateRounds = d }
+
+-- memory of round 7 in tables as a reset leaves them, and in tables that no call wrote
+abbrev remembering : Store → Store
+remembering s = withMemory s (record { last = 7; entries = [] })
+
+abbrev starts : List Row
+starts =
+    row 1 (answer 2 [] (start (begin (confOf 10 0 5) 10 none))) (stop 1)
+    ∷ row 2 (answer 2 [] (start (begin (confOf 10 256 5) 10 none))) (stop 1)
+    ∷ row 3 (answer 2 [] (start (begin (confOf 10 255 65535) 10 none))) (0 ∷ [])
+    ∷ row 4 (answer 2 [] (start (begin (confOf 10 2 65536) 10 none))) (stop 1)
+    ∷ row 5 (answer 2 [] (start (begin (confOf 4000000000 2 5) 4000000000 none))) (0 ∷ [])
+    ∷ row 6 (answer 2 [] (start (begin (confOf 10 2 5) 4000000001 none))) (stop 1)
+    ∷ row 7 (answer 2 [] (start (begin (confOf 10 2 5) 9 none))) (stop 1)
+    ∷ row 8 (answer 2 [] (start (begin (confOf 10 2 5) 10 (some 31)))) (0 ∷ [])
+    ∷ row 9 (answer 2 [] (start (begin (confOf 10 2 5) 10 (some 32)))) (stop 1)
+    ∷ row 10 (answer 0 [] (from 2 10 false none)) (stop 1)
+    ∷ row 11 (cond (startOk 4096 (begin (conf 2) 10 none)) 1 0 ∷ cond (startOk 4097 (begin (conf 2) 10 none)) 1 0 ∷ []) (1 ∷ 0 ∷ [])
+    -- 2: not started, start twice; 1 comes before it
+    ∷ row 12 (answer 2 [] (round 11 3)) (stop 2)
+    ∷ row 13 (answer 2 twelve (from 2 10 false none)) (stop 2)
+    ∷ row 14 (answer 2 twelve (from 0 10 false none)) (stop 1)
+    ∷ row 15 (answer 2 [] resetAll) (stop 2)
+    ∷ row 16 (answer 2 (twelve ++ (resetAll ∷ [])) (round 13 3)) (stop 2)
+    ∷ row 17 (answer 2 (twelve ++ (resetAll ∷ [])) (from 2 10 false none)) (0 ∷ [])
+    -- reset keeps the inspector's memory, a start after it too; a start on other tables clears it
+    ∷ row 18 (call (remembering (after (blank 2) twelve)) resetAll .store .memory .last ∷ []) (7 ∷ [])
+    ∷ row 19 (after (remembering (after (blank 2) twelve)) (resetAll ∷ from 2 10 false none ∷ []) .memory .last ∷ []) (7 ∷ [])
+    ∷ row 20 (call (remembering (blank 2)) (from 2 10 false none) .store .memory .last ∷ []) (0 ∷ [])
+    -- 3, and a round at or below the top
+    ∷ row 21 (answer 2 twelve (round 14 3)) (stop 3)
+    ∷ row 22 (answer 2 twelve (round 13 3)) (0 ∷ [])
+    ∷ row 23 (answer 2 twelve (round 12 1)) (0 ∷ [])
+    ∷ row 24 (after (blank 2) (twelve ++ (round 12 1 ∷ [])) .top ∷ []) (12 ∷ [])
+    ∷ row 25 (answer 2 (from 2 4000000000 false none ∷ []) (round 4000000001 3)) (stop 3)
+    -- the gap question is answered yes once
+    ∷ row 26 (answer 2 twelve ask) (2 ∷ [])
+    ∷ row 27 (answer 2 (from 2 10 true none ∷ []) ask) (1 ∷ [])
+    ∷ row 28 (answer 2 (from 2 10 true none ∷ ask ∷ []) ask) (2 ∷ [])
+    -- drop: the new bottom, the full-history bottom, the last round left
+    ∷ row 29 (answer 2 twelve (dropTo 13)) (2 ∷ [])
+    ∷ row 30 (after (blank 2) (twelve ++ (dropTo 13 ∷ [])) .bottom ∷ []) (12 ∷ [])
+    ∷ row 31 (answer 2 twelve (dropTo 12)) (1 ∷ [])
+    ∷ []
+
+started : agree starts ≡ true
+unfolding computed numbers same agree Lists.all
+started = refl
+
+-- ---- names, resolutions, certificates
+
+abbrev named : List Call
+named = twelve ++ (name (id 11 0 110) ∷ name (id 12 1 121) ∷ [])
+
+abbrev fourth : List Call
+fourth = twelve ++ (name (id 11 0 1) ∷ name (id 11 0 2) ∷ name (id 11 0 3) ∷ name (id 11 0 4) ∷ [])
+
+-- the point 12.1 resolved with this
+abbrev told : Told → List ℕ
+told t = answer 4 named (resolve (id 12 1 121) t)
+
+abbrev points : List Row
+points =
+    row 1 (answer 4 named (name (id 11 32 1))) (stop 5)
+    ∷ row 2 (answer 4 named (name (id 99 32 1))) (stop 5)
+    ∷ row 3 (answer 4 named (name (id 99 2 1))) (stop 6)
+    ∷ row 4 (answer 4 named (name (id 9 0 1))) (stop 6)
+    ∷ row 5 (answer 4 named (name (id 11 2 1))) (stop 5)
+    ∷ row 6 (answer 4 named (name (id 11 1 110))) (stop 7)
+    ∷ row 7 (answer 4 named (name (id 12 1 110))) (0 ∷ [])
+    ∷ row 8 (answer 9 fourth (name (id 11 0 5))) (stop 8)
+    ∷ row 9 (answer 9 fourth (name (id 11 0 4))) (stop 7)
+    ∷ row 10 (answer 9 fourth (name (id 11 1 5))) (0 ∷ [])
+    ∷ row 11 (answer 2 named (name (id 11 1 5))) (stop 4)
+    ∷ row 12 (answer 4 fourth (name (id 11 0 5))) (stop 8)
+    -- 9 and 10
+    ∷ row 13 (answer 4 named (resolve (id 12 0 1) (gave 1 [] []))) (stop 9)
+    ∷ row 14 (answer 4 named (certify (id 12 1 122))) (stop 9)
+    ∷ row 15 (answer 4 named (certify (id 12 1 121))) (0 ∷ [])
+    ∷ row 16 (answer 4 (named ++ (resolve (id 12 1 121) (gave 5 [] []) ∷ [])) (resolve (id 12 1 121) (gave 9 [] []))) (stop 10)
+    -- 11
+    ∷ row 17 (told (gave 0 [] [])) (stop 11)
+    ∷ row 18 (told (gave 6 [] [])) (stop 11)
+    ∷ row 19 (told (gave 1 (ref 1 5 ∷ ref 0 110 ∷ []) [])) (stop 11)
+    ∷ row 20 (told (gave 1 (ref 0 110 ∷ ref 0 110 ∷ []) [])) (stop 11)
+    ∷ row 21 (told (gave 1 (ref 0 110 ∷ ref 32 5 ∷ []) [])) (stop 11)
+    ∷ row 22 (told (gave 4 (ref 0 110 ∷ []) [])) (stop 11)
+    ∷ row 23 (told (gave 3 (ref 0 110 ∷ []) [])) (0 ∷ [])
+    ∷ row 24 (told (record { status = 5; proof = true; trigger = true; cause = true; topProof = id 10 31 0; evidence = 0; includes = []; witness = [] })) (0 ∷ [])
+    ∷ row 25 (told (record { status = 5; proof = true; trigger = true; cause = true; topProof = id 10 32 0; evidence = 0; includes = []; witness = [] })) (stop 11)
+    ∷ row 26 (told (record { status = 5; proof = false; trigger = false; cause = false; topProof = id 10 0 0; evidence = 1; includes = []; witness = [] })) (stop 11)
+    -- 12, after 11; no test below the bottom
+    ∷ row 27 (told (gave 1 (ref 1 5 ∷ []) [])) (stop 12)
+    ∷ row 28 (told (gave 1 (ref 0 110 ∷ []) (ref 1 5 ∷ []))) (stop 12)
+    ∷ row 29 (told (gave 6 (ref 1 5 ∷ []) [])) (stop 11)
+    ∷ row 30 (answer 4 named (resolve (id 11 0 110) (gave 1 [] (ref 1 5 ∷ [])))) (0 ∷ [])
+    ∷ row 31 (answer 4 (start (begin (confOf 0 2 5) 0 none) ∷ round 1 3 ∷ name (id 1 0 1) ∷ []) (resolve (id 1 0 1) (gave 1 [] (ref 0 5 ∷ [])))) (stop 11)
+    ∷ row 32 (answer 4 (start (begin (confOf 0 2 5) 0 none) ∷ name (id 0 0 1) ∷ []) (resolve (id 0 0 1) (gave 1 (ref 0 5 ∷ []) []))) (stop 11)
+    ∷ []
+
+pointed : agree points ≡ true
+unfolding computed numbers same agree Lists.all
+pointed = refl
+
+-- ---- commits: two anchors 13 and 15 by peer 0, proofs 14 and 16, trigger 17; 15 includes the point of 14 by peer 1
+
+-- a point with these marks, top proof and includes
+abbrev point : ℕ → Bool → Bool → Id → List Ref → Told
+point s p t top is = record { status = s; proof = p; trigger = t; cause = true; topProof = top; evidence = 0; includes = is; witness = [] }
+
+-- named and resolved
+abbrev both : Id → Told → List Call
+both i t = name i ∷ resolve i t ∷ []
+
+-- the point of 14 by peer 1 is resolved as told; the trigger too
+abbrev two : Bool → Option ℕ → List Call → Told → List Call
+two gap used side trigger =
+    (from 2 10 gap used ∷ rounds 11 7)
+    ++ (both (id 13 0 130) (point 1 false false (id 10 0 0) [])
+    ++ (both (id 14 0 140) (point 1 true false (id 10 0 0) (ref 0 130 ∷ []))
+    ++ (side
+    ++ (both (id 15 0 150) (point 1 false false (id 14 0 140) (ref 0 140 ∷ ref 1 141 ∷ []))
+    ++ (both (id 16 0 160) (point 1 true false (id 14 0 140) (ref 0 150 ∷ []))
+    ++ both (id 17 0 170) trigger)))))
+
+abbrev firing : Told
+firing = point 1 false true (id 16 0 160) (ref 0 160 ∷ [])
+
+abbrev side : ℕ → List Call
+side x = both (id 14 1 141) (point x false false (id 10 0 0) [])
+
+-- the anchors certified
+abbrev certs : List Call
+certs = certify (id 13 0 130) ∷ certify (id 15 0 150) ∷ []
+
+abbrev onTwo : ℕ → Store
+onTwo x = after (blank 6) (two false (some 0) (side x) firing ++ certs)
+
+abbrev fire : Store → ℕ → Outcome
+fire s n = call s (commit (id 17 0 170) (replicate n 0))
+
+-- last proof and last anchor
+abbrev lasts : Store → List ℕ
+lasts s = orZero (s .progress .lastProof) ∷ orZero (s .progress .lastAnchor) ∷ []
+
+abbrev ended : Outcome → List ℕ
+ended o = numbers (o .answer) ++ lasts (o .store)
+
+abbrev bytes : Outcome → List ℕ → List ℕ
+bytes o is = map (λ i. getD (o .buffer) i 99) is
+
+abbrev commits : List Row
+commits =
+    -- both records: executable, previous anchor, number of points
+    row 1 (ended (fire (onTwo 1) 314)) (3 ∷ 2 ∷ 16 ∷ 15 ∷ [])
+    ∷ row 2 (bytes (fire (onTwo 1) 315) (74 ∷ 78 ∷ 82 ∷ 194 ∷ 198 ∷ 202 ∷ 314 ∷ [])) (1 ∷ 0 ∷ 1 ∷ 1 ∷ 13 ∷ 3 ∷ 0 ∷ [])
+    -- rounds of the points: 13; 14, 14, 15, in a round by digest
+    ∷ row 3 (bytes (fire (onTwo 1) 314) (86 ∷ 206 ∷ 239 ∷ 243 ∷ 276 ∷ 280 ∷ [])) (13 ∷ 14 ∷ 140 ∷ 14 ∷ 141 ∷ 15 ∷ [])
+    -- 21 against the bytes left; the first anchor keeps its record and marks
+    ∷ row 4 (ended (fire (onTwo 1) 313)) (4 ∷ 21 ∷ 1 ∷ 14 ∷ 13 ∷ [])
+    ∷ row 5 (ended (fire (onTwo 1) 119)) (4 ∷ 21 ∷ 0 ∷ 0 ∷ 0 ∷ [])
+    -- 13 at the later anchor
+    ∷ row 6 (ended (fire (onTwo 3) 400)) (4 ∷ 13 ∷ 1 ∷ 14 ∷ 13 ∷ [])
+    ∷ row 7 (bytes (fire (onTwo 3) 400) (82 ∷ 120 ∷ [])) (1 ∷ 0 ∷ [])
+    -- a trans-invalid point is usable unless proved
+    ∷ row 8 (ended (fire (onTwo 2) 400)) (3 ∷ 2 ∷ 16 ∷ 15 ∷ [])
+    ∷ row 9 (ended (fire (after (onTwo 2) (certify (id 14 1 141) ∷ [])) 400)) (4 ∷ 13 ∷ 1 ∷ 14 ∷ 13 ∷ [])
+    -- once the trigger is used up
+    ∷ row 10 (ended (fire (fire (onTwo 1) 314 .store) 0)) (3 ∷ 0 ∷ 16 ∷ 15 ∷ [])
+    ∷ []
+
+committed : agree commits ≡ true
+unfolding computed numbers same agree Lists.all
+committed = refl
+
+-- a history conflict comes with its point's round
+abbrev roundOf : Answer → ℕ
+roundOf a = elim a [ done ↦ 0 | said b ↦ 0 | handed n ↦ 0 | refused r n ↦ orZero (conflictRound r) ]
+
+-- with the trigger told so, not certified; and certified
+abbrev told17 : Told → List Call → List ℕ
+told17 t cs = numbers (fire (after (blank 6) (two false (some 0) (side 1) t ++ (certs ++ cs))) 400 .answer)
+
+abbrev trigger : ℕ → List ℕ
+trigger x = told17 (point x false true (id 16 0 160) (ref 0 160 ∷ [])) []
+
+abbrev certified17 : ℕ → List ℕ
+certified17 x = told17 (point x false true (id 16 0 160) (ref 0 160 ∷ [])) (certify (id 17 0 170) ∷ [])
+
+-- under a certified point of round 18: certified and not proved
+abbrev under18 : ℕ → List ℕ
+under18 x =
+    numbers (fire (after (blank 7) (two false (some 0) (side 1) (point x false true (id 16 0 160) (ref 0 160 ∷ [])) ++ (certs ++ (round 18 3 ∷ (both (id 18 0 180) (gave 1 (ref 0 170 ∷ []) []) ++ (certify (id 18 0 180) ∷ [])))))) 400 .answer)
+
+abbrev triggers : List Row
+triggers =
+    -- 14 unresolved, 15, and 18 after them, at the later anchor
+    row 1 (ended (fire (after (blank 6) (two false (some 0) (name (id 14 1 141) ∷ []) firing ++ certs)) 400)) (4 ∷ 14 ∷ 1 ∷ 14 ∷ 13 ∷ [])
+    ∷ row 2 (ended (fire (after (blank 6) (two false (some 0) (side 3) firing ++ (certify (id 13 0 130) ∷ []))) 400)) (4 ∷ 15 ∷ 1 ∷ 14 ∷ 13 ∷ [])
+    ∷ row 3 (ended (fire (after (blank 6) (two false (some 0) (side 1) firing ++ (certify (id 13 0 130) ∷ []))) 400)) (4 ∷ 18 ∷ 1 ∷ 14 ∷ 13 ∷ [])
+    ∷ row 4 (roundOf (fire (onTwo 3) 400 .answer) ∷ []) (14 ∷ [])
+    -- 20, before 21; after the question the first executable anchor has no previous one and uses the flag up
+    ∷ row 5 (ended (fire (after (blank 6) (two true (some 0) (side 1) firing ++ certs)) 0)) (4 ∷ 20 ∷ 0 ∷ 0 ∷ 0 ∷ [])
+    ∷ row 6 (bytes (fire (after (blank 6) (two true (some 0) (side 1) firing ++ (ask ∷ certs))) 314) (74 ∷ 194 ∷ 198 ∷ [])) (0 ∷ 1 ∷ 0 ∷ [])
+    -- the trigger: 15, 13, no anchors where `filter` turns it away
+    ∷ row 7 (trigger 1) (3 ∷ 2 ∷ [])
+    ∷ row 8 (trigger 2) (4 ∷ 15 ∷ 0 ∷ [])
+    -- (its links refused with status 5, the trigger stays unresolved)
+    ∷ row 9 (trigger 5) (4 ∷ 9 ∷ 0 ∷ [])
+    ∷ row 10 (certified17 2) (4 ∷ 13 ∷ 0 ∷ [])
+    ∷ row 11 (certified17 3) (4 ∷ 13 ∷ 0 ∷ [])
+    ∷ row 12 (under18 2) (3 ∷ 0 ∷ [])
+    ∷ row 13 (under18 3) (4 ∷ 13 ∷ 0 ∷ [])
+    ∷ row 14 (told17 (point 1 false false (id 16 0 160) (ref 0 160 ∷ [])) []) (3 ∷ 0 ∷ [])
+    -- 16: no previous point
+    ∷ row 15 (told17 (point 1 false true (id 16 0 160) []) []) (4 ∷ 16 ∷ 0 ∷ [])
+    ∷ []
+
+fired : agree triggers ≡ true
+unfolding computed numbers same agree Lists.all
+fired = refl
+
+-- ---- outlook, the walk's and the history's other refusals
+
+abbrev look : Store → ℕ → Outcome
+look s n = call s (outlook (id 17 0 170) (replicate n 0))
+
+-- s with a used mark of a at round r, as made-up tables may have it
+abbrev withUsed : Store → ℕ → ℕ → Store
+withUsed s r a = record {
+  phase = s .phase;
+  places = s .places;
+  pt = s .pt;
+  heights = s .heights;
+  bottom = s .bottom;
+  top = s .top;
+  rounds = λ x. cond (eqb x r) (record { peers = s .rounds x .peers; used = some a }) (s .rounds x);
+  conf = s .conf;
+  progress = s .progress;
+  memory = s .memory;
+}
+
+-- trigger 12, proof 11, anchor 10 at genesis, whose top proof is below the bottom
+abbrev genesis : List Call
+genesis =
+    twelve ++ (both (id 10 0 100) (point 1 false false (id 9 0 0) []) ++ (both (id 11 0 110) (point 1 true false (id 10 0 0) (ref 0 100 ∷ [])) ++ both (id 12 0 120) (point 1 false true (id 11 0 110) (ref 0 110 ∷ []))))
+
+-- a start at 20, trigger 23, proof 22, anchor 21; a drop to b, below the bottom
+abbrev missing : ℕ → List Call
+missing b =
+    (from 2 20 false none ∷ rounds 21 3)
+    ++ (both (id 21 0 210) (point 1 false false (id 10 0 0) []) ++ (both (id 22 0 220) (point 1 true false (id 10 0 0) (ref 0 210 ∷ []))
+    ++ (both (id 23 0 230) (point 1 false true (id 22 0 220) (ref 0 220 ∷ [])) ++ (dropTo b ∷ []))))
+
+abbrev others : List Row
+others =
+    -- counted from the marks now: 1 point, then 4; 21 against its own buffer, nothing written; 13, 20 never
+    row 1 (ended (look (onTwo 1) 82)) (3 ∷ 2 ∷ 0 ∷ 0 ∷ [])
+    ∷ row 2 (bytes (look (onTwo 1) 83) (3 ∷ 40 ∷ 44 ∷ 81 ∷ 82 ∷ [])) (13 ∷ 1 ∷ 15 ∷ 4 ∷ 0 ∷ [])
+    ∷ row 3 (numbers (look (onTwo 1) 81 .answer) ++ bytes (look (onTwo 1) 81) (3 ∷ 40 ∷ [])) (4 ∷ 21 ∷ 0 ∷ 0 ∷ 0 ∷ [])
+    ∷ row 4 (numbers (look (onTwo 3) 82 .answer) ++ bytes (look (onTwo 3) 82) (3 ∷ 40 ∷ [])) (4 ∷ 13 ∷ 0 ∷ 0 ∷ 0 ∷ [])
+    ∷ row 5 (numbers (look (after (blank 6) (two true (some 0) (side 1) firing ++ certs)) 82 .answer)) (3 ∷ 2 ∷ [])
+    -- 5, no anchors below the bottom, 6
+    ∷ row 6 (numbers (call (onTwo 1) (commit (id 9 32 1) []) .answer)) (stop 5)
+    ∷ row 7 (numbers (call (onTwo 1) (commit (id 9 2 1) []) .answer)) (3 ∷ 0 ∷ [])
+    ∷ row 8 (numbers (call (onTwo 1) (commit (id 18 2 1) []) .answer)) (stop 6)
+    ∷ row 9 (numbers (call (onTwo 1) (commit (id 17 2 170) []) .answer)) (stop 5)
+    ∷ row 10 (numbers (call (onTwo 1) (commit (id 17 1 170) []) .answer)) (stop 9)
+    -- 16: a used mark of another author; a used mark ends the walk; 19 where it stands above the lowest round
+    ∷ row 11 (numbers (fire (after (blank 6) (two false (some 1) (side 1) firing ++ certs)) 400 .answer)) (stop 16)
+    ∷ row 12 (numbers (fire (withUsed (onTwo 1) 14 0) 400 .answer)) (stop 19)
+    ∷ row 13 (numbers (fire (withUsed (onTwo 1) 16 0) 400 .answer)) (3 ∷ 0 ∷ [])
+    -- 22; 17 before 18 and 20, at its bound; 18 before 20
+    ∷ row 14 (numbers (call (after (blank 6) genesis) (commit (id 12 0 120) []) .answer)) (stop 22)
+    ∷ row 15 (numbers (call (after (blank 6) (missing 10)) (commit (id 23 0 230) []) .answer)) (stop 17)
+    ∷ row 16 (numbers (call (after (blank 6) (missing 17)) (commit (id 23 0 230) []) .answer)) (stop 17)
+    ∷ row 17 (numbers (call (after (blank 6) (missing 18)) (commit (id 23 0 230) []) .answer)) (stop 18)
+    ∷ []
+
+looked : agree others ≡ true
+unfolding computed numbers same agree Lists.all
+looked = refl
+
+-- ---- heights over witness links, flags
+
+-- the certificate words of a store's first places
+abbrev words : Store → List ℕ → List ℕ
+words s qs = map (λ q. word (s .pt q .flags) (s .heights q)) qs
+
+-- 12 is witnessed by 14, which includes 13; certified before it is resolved
+abbrev witnessed : List Call
+witnessed =
+    (from 2 10 false (some 0) ∷ rounds 11 4)
+    ++ (both (id 12 0 120) (gave 1 [] []) ++ (both (id 13 0 130) (gave 5 [] []) ++ (name (id 14 0 140) ∷ certify (id 14 0 140) ∷ [])))
+
+abbrev certificates : List Row
+certificates =
+    row 1 (words (after (blank 3) witnessed) (0 ∷ 1 ∷ 2 ∷ [])) (0x6000 ∷ 0 ∷ 0x8003 ∷ [])
+    ∷ row 2 (words (after (blank 3) (witnessed ++ (resolve (id 14 0 140) (gave 3 (ref 0 130 ∷ []) (ref 0 120 ∷ [])) ∷ []))) (0 ∷ 1 ∷ 2 ∷ [])) (0x6001 ∷ 2 ∷ 0xe003 ∷ [])
+    -- a second certificate changes nothing
+    ∷ row 3 (words (after (blank 3) (witnessed ++ (certify (id 14 0 140) ∷ []))) (0 ∷ 1 ∷ 2 ∷ [])) (0x6000 ∷ 0 ∷ 0x8003 ∷ [])
+    -- a committed point has its bit
+    ∷ row 4 (words (fire (onTwo 1) 314 .store) (0 ∷ 2 ∷ 3 ∷ 4 ∷ [])) (0xf003 ∷ 0x7002 ∷ 0xf003 ∷ 0x6000 ∷ [])
+    ∷ []
+
+certs-agree : agree certificates ≡ true
+unfolding computed numbers same agree Lists.all
+certs-agree = refl
+
+-- ---- remove
+
+-- the last anchor as made-up tables may have it
+abbrev withLast : Store → ℕ → Store
+withLast s r = withProgress s (record {
+  lastProof = some (suc r);
+  lastAnchor = some r;
+  fullBottom = s .progress .fullBottom;
+  firstExecutable = s .progress .firstExecutable;
+  gap = s .progress .gap;
+})
+
+abbrev paid : Store
+paid = fire (onTwo 1) 314 .store
+
+abbrev wipe : Store → ℕ → Option ℕ → ℕ → Outcome
+wipe s r since n = call s (remove r since (replicate n 99))
+
+abbrev removes : List Row
+removes =
+    -- 23, then 21; the last proof stays
+    row 1 (numbers (wipe (onTwo 1) 13 none 100 .answer)) (stop 23)
+    ∷ row 2 (numbers (wipe paid 16 none 0 .answer)) (stop 23)
+    ∷ row 3 (numbers (wipe paid 15 none 4 .answer)) (stop 21)
+    ∷ row 4 (ended (wipe paid 15 none 5)) (0 ∷ 16 ∷ 15 ∷ [])
+    -- peers 0 and 1, rounds 11 and 12: each skipped two, score 4
+    ∷ row 6 (numbers (wipe paid 15 (some 0) 66 .answer)) (stop 21)
+    ∷ row 7 (bytes (wipe paid 15 (some 0) 68) (0 ∷ 1 ∷ 5 ∷ 9 ∷ 13 ∷ 31 ∷ 32 ∷ 62 ∷ 66 ∷ 67 ∷ [])) (2 ∷ 0 ∷ 11 ∷ 12 ∷ 2 ∷ 4 ∷ 1 ∷ 4 ∷ 0 ∷ 99 ∷ [])
+    -- counted from round 12 on
+    ∷ row 8 (bytes (wipe paid 15 (some 12) 68) (0 ∷ 5 ∷ 9 ∷ 13 ∷ 31 ∷ [])) (2 ∷ 12 ∷ 12 ∷ 1 ∷ 2 ∷ [])
+    ∷ row 5 (wipe paid 15 none 5 .store .bottom ∷ bytes (wipe paid 15 none 6) (0 ∷ 1 ∷ 4 ∷ 5 ∷ [])) (13 ∷ 0 ∷ 0 ∷ 0 ∷ 99 ∷ [])
+    ∷ []
+
+removed : agree removes ≡ true
+unfolding computed numbers same agree Lists.all
+removed = refl
+
+-- ---- events
+
+-- a proof of the point of 12 by 0 that peer 1 signed
+abbrev signed : Told
+signed = record { status = 1; proof = false; trigger = false; cause = false; topProof = id 10 0 0; evidence = 2; includes = ref 0 120 ∷ []; witness = [] }
+
+-- peer 1 signed the point of 12 by 0 (evidence in 13.0.130), did not include it at 13, and may witness it at 14; it made a second,
+-- ill-formed point at 14
+abbrev owing : List Ref → List Call → List Call
+owing ws more =
+    (from 2 10 false (some 0) ∷ rounds 11 5)
+    ++ (both (id 12 0 120) (gave 1 [] [])
+    ++ (both (id 13 0 130) signed
+    ++ (both (id 13 1 131) (gave 1 [] [])
+    ++ (both (id 14 1 141) (gave 1 [] ws) ++ (both (id 14 1 142) (gave 4 [] []) ++ more)))))
+
+abbrev blaming : List Ref → List Call → Option ℕ → ℕ → Outcome
+blaming ws more since n = wipe (withLast (after (blank 6) (owing ws more)) 17) 17 since n
+
+abbrev blames : List Row
+blames =
+    -- no counters: kind 3 with 14.1.142, kind 4 with two digests, kind 5 with blamed 13.1.131 and 14.1.141, proof 13.0.130
+    row 1 (bytes (blaming [] [] none 300) (0 ∷ 4 ∷ 5 ∷ 9 ∷ 10 ∷ 42 ∷ 43 ∷ 44 ∷ 48 ∷ 52 ∷ 84 ∷ 116 ∷ 117 ∷ 118 ∷ 122 ∷ 126 ∷ 127 ∷ 159 ∷ 163 ∷ 196 ∷ 200 ∷ 204 ∷ 205 ∷ 237 ∷ 238 ∷ []))
+    (0 ∷ 3 ∷ 3 ∷ 14 ∷ 1 ∷ 142 ∷ 4 ∷ 1 ∷ 14 ∷ 2 ∷ 141 ∷ 142 ∷ 5 ∷ 1 ∷ 2 ∷ 13 ∷ 1 ∷ 131 ∷ 14 ∷ 141 ∷ 1 ∷ 13 ∷ 0 ∷ 130 ∷ 99 ∷ [])
+    -- witnessed at 14: no event of kind 5
+    ∷ row 2 (bytes (blaming (ref 0 120 ∷ []) [] none 300) (4 ∷ 5 ∷ 43 ∷ 117 ∷ [])) (2 ∷ 3 ∷ 4 ∷ 99 ∷ [])
+    -- of two proofs of one previous digest the greater is reported
+    ∷ row 4 (bytes (blaming [] (both (id 13 0 132) signed) none 400) (4 ∷ 274 ∷ 278 ∷ 311 ∷ 312 ∷ [])) (4 ∷ 1 ∷ 13 ∷ 132 ∷ 99 ∷ [])
+    -- the memory is of the last drained round
+    ∷ row 3 (blaming [] [] none 300 .store .memory .last ∷ []) (14 ∷ [])
+    ∷ []
+
+blamed : agree blames ≡ true
+unfolding computed numbers same agree Lists.all
+blamed = refl
+
+-- peer 1 of rounds 11 to 14: skipped 2, valid 2, equivocated 1, ill-formed 1, references 1; score 4 + 20 + 10 + 1
+abbrev pays : List Row
+pays = row 1 (bytes (blaming [] [] (some 0) 400) (0 ∷ 32 ∷ 36 ∷ 40 ∷ 42 ∷ 44 ∷ 46 ∷ 48 ∷ 50 ∷ 52 ∷ 54 ∷ 56 ∷ 58 ∷ 62 ∷ [])) (2 ∷ 1 ∷ 11 ∷ 14 ∷ 0 ∷ 2 ∷ 2 ∷ 0 ∷ 1 ∷ 0 ∷ 0 ∷ 1 ∷ 1 ∷ 35 ∷ []) ∷ []
+
+paying : agree pays ≡ true
+unfolding computed numbers same agree Lists.all
+paying = refl
+
+-- ---- weights at the edges of the bands
+
+abbrev bands : List Row
+bands = row 1 (map (weight 1) (0 ∷ 9 ∷ 10 ∷ 99 ∷ 100 ∷ [])) (2 ∷ 2 ∷ 3 ∷ 3 ∷ 4 ∷ []) ∷ row 2 (map (λ i. weight i 100) (0 ∷ 1 ∷ 2 ∷ 3 ∷ 4 ∷ 5 ∷ 6 ∷ 7 ∷ 8 ∷ [])) (0 ∷ 4 ∷ 0 ∷ 0 ∷ 60 ∷ 12 ∷ 20 ∷ 20 ∷ 3 ∷ []) ∷ []
+
+weighed : agree bands ≡ true
+unfolding computed numbers same agree Lists.all
+weighed = refl

@@ -1,0 +1,184 @@
+-- The history of an anchor and the tests of it (01: back.rs 'History', commit/mod.rs, output.rs, 'Refusals' 13 to 22).
+use Prim.Native.Nat.{ℕ, zero, suc, _+_, _-_, max}
+use mathlib.Core.Path.{_≡_}
+use mathlib.Core.List.{List, [], _∷_, _++_, map}
+use mathlib.Core.Bool.{Bool, true, false, not, _&&_, _||_, cond}
+use mathlib.Core.Option.{Option, none, some}
+use lib.Dec.{eqb, leb, ltb}
+use lib.ListN.{length}
+use Rattle.laws.specs.Scan.{any, those}
+use Rattle.laws.specs.Lists.{joined}
+use Rattle.laws.specs.Sort.{sort}
+use Rattle.laws.specs.Bytes.{be, written}
+use Rattle.spec.specs.Ids.{Id, idBytes, rises, falls, prev}
+use Rattle.spec.specs.Store.{Point, Store, Conf, Round, idAt, roundAt, linksTo}
+use Rattle.spec.specs.Paths.{E, height}
+use Rattle.spec.specs.Chain.{Refusal, Out, bad, good, then, refuse, judged, usableInHistory, Enqueued}
+
+-- 01, back.rs: "limit = the larger of genesis + 1 and anchor − H"
+unfoldable pub limit : Conf → ℕ → ℕ
+limit c r = max (suc (c .genesis)) (r - c .historyRounds)
+
+-- the lowest round of the history of the anchor at a: the limit, or the bottom where rounds are missing
+abbrev pub lowest : Store → ℕ → ℕ
+lowest s a = max (limit (s .conf) (roundAt s a)) (s .bottom)
+
+-- 01, back.rs: "From the anchor downwards, uncommitted points hand on their links; committed ones don't. Needed are the anchor and all
+-- points so linked, committed ones too."
+pub data Need (s : Store) (a : ℕ) : ℕ → Type 0 where
+  anchor : Need s a a
+  hand : (p q : ℕ) → Need s a p → s .pt p .flags .committed ≡ false → E s p q → Need s a q
+
+-- the same as a sweep downwards, round by round: the marked points of round r that aren't committed hand on their links
+unfoldable pub hands : Store → (ℕ → Bool) → ℕ → ℕ → ℕ → Bool
+hands s m r q p = elim (eqb (roundAt s p) r) [ true ↦ elim (m p) [ true ↦ not (s .pt p .flags .committed) && linksTo (s .pt p) (s .pt q) | false ↦ false ] | false ↦ false ]
+
+unfoldable pub pass : Store → (ℕ → Bool) → ℕ → ℕ → Bool
+pass s m r q = elim (m q) [ true ↦ true | false ↦ any (s .places) (hands s m r q) ]
+
+-- k rounds, from r downwards
+unfoldable pub sweep : Store → ℕ → (ℕ → Bool) → ℕ → ℕ → Bool
+sweep s zero m r = m
+sweep s (suc k) m r = sweep s k (pass s m r) (prev r)
+
+unfoldable pub marks : Store → ℕ → ℕ → Bool
+marks s a = sweep s (suc (roundAt s a) - lowest s a) (eqb a) (roundAt s a)
+
+-- the needed points, in the retained rounds from the limit up
+unfoldable pub needed : Store → ℕ → ℕ → Bool
+needed s a q = marks s a q && leb (lowest s a) (roundAt s q)
+
+-- the points of the history: those needed that aren't committed
+unfoldable pub inHistory : Store → ℕ → ℕ → Bool
+inHistory s a q = needed s a q && not (s .pt q .flags .committed)
+
+-- "Rounds rise in the answer"; "inside a round a history rises by digest"
+unfoldable pub history : Store → ℕ → List Id
+history s a = sort rises (map (idAt s) (those (s .places) (inHistory s a)))
+
+-- ---- the tests of an anchor
+
+-- 13 to 15 "over its history downwards .. inside one round, points are tested by rising digest"
+unfoldable pub firstFault : Store → List ℕ → Out ℕ
+firstFault s [] = good 0
+firstFault s (q ∷ qs) = then (judged s usableInHistory q) (λ x. firstFault s qs)
+
+unfoldable pub faults : Store → ℕ → Out ℕ
+faults s a = firstFault s (sort (λ p q. falls (idAt s p) (idAt s q)) (those (s .places) (needed s a)))
+
+-- 17: "limit at or above the full-history bottom, rounds missing"
+unfoldable pub roundsMissing : Store → ℕ → Bool
+roundsMissing s a = leb (s .progress .fullBottom) (limit (s .conf) (roundAt s a)) && ltb (limit (s .conf) (roundAt s a)) (s .bottom)
+
+-- 18: "history point of height 0"
+unfoldable pub isFlat : Store → ℕ → Bool
+isFlat s a = any (s .places) (λ q. inHistory s a q && eqb (height s q) 0)
+
+-- 22: "anchor at genesis"; 13 to 15; 17; 18: what commit and outlook both test
+unfoldable pub tested : Store → ℕ → Out ℕ
+tested s a =
+    refuse (leb (roundAt s a) (s .conf .genesis)) 22 (
+    then (faults s a) (λ x. refuse (roundsMissing s a) 17 (refuse (isFlat s a) 18 (good a)))
+    )
+
+-- 20: "gap question not put"
+unfoldable pub isWaiting : Option Bool → Bool
+isWaiting none = false
+isWaiting (some asked) = not asked
+
+-- all tests of one anchor of a commit that has this many bytes of its buffer left, for a record of this length
+unfoldable pub testAnchor : Store → ℕ → ℕ → ℕ → Out ℕ
+testAnchor s left size a = then (tested s a) (λ x. refuse (isWaiting (s .progress .gap)) 20 (refuse (ltb left size) 21 (good a)))
+
+-- ---- the anchor record
+
+unfoldable pub isExecutable : Store → ℕ → Bool
+isExecutable s a = leb (s .progress .firstExecutable) (roundAt s a)
+
+-- `is_first_executable`: the first executable anchor after a gap, once the gap question was put
+unfoldable pub isAsked : Option Bool → Bool
+isAsked none = false
+isAsked (some asked) = asked
+
+unfoldable pub isFirst : Store → ℕ → Bool
+isFirst s a = isAsked (s .progress .gap) && isExecutable s a
+
+-- "previous anchor round (4; 0 for none)": the round below the previous proof's, above genesis, and none for the first executable one
+unfoldable pub prevAnchor : Store → Enqueued → ℕ
+prevAnchor s e = cond (ltb (s .conf .genesis) (prev (e .prevProofRound)) && not (isFirst s (e .anchor))) (prev (e .prevProofRound)) 0
+
+-- "Anchor record: anchor id, proof id, executable (1 byte), previous anchor round (4; 0 for none), number of points (4), their ids."
+unfoldable pub recordBytes : Store → Enqueued → List ℕ
+recordBytes s e =
+    idBytes (idAt s (e .anchor)) ++ (idBytes (idAt s (e .proof)) ++ (be 1 (cond (isExecutable s (e .anchor)) 1 0) ++ (be 4 (prevAnchor s e)
+    ++ (be 4 (length (history s (e .anchor))) ++ joined idBytes (history s (e .anchor))))))
+
+-- ---- one anchor's commit
+
+unfoldable pub setCommitted : Bool → Point → Point
+setCommitted b p = record {
+  named = p .named;
+  id = p .id;
+  told = p .told;
+  flags = record { top = p .flags .top; started = p .flags .started; completed = p .flags .completed; committed = b || p .flags .committed };
+}
+
+-- the gap flag is used up by the first executable anchor
+unfoldable pub gapAfter : Store → ℕ → Option Bool
+gapAfter s a = cond (isFirst s a) none (s .progress .gap)
+
+-- the proof's round gets its used mark
+unfoldable pub useProof : Round → ℕ → Round
+useProof r a = record { peers = r .peers; used = some a }
+
+-- "Each finished anchor's proof becomes the last committed one": the history is marked, the proof's round used by the anchor's author,
+-- proof and anchor become the last ones
+unfoldable pub committedAt : Store → Enqueued → Store
+committedAt s e = record {
+  phase = s .phase;
+  places = s .places;
+  pt = λ q. setCommitted (inHistory s (e .anchor) q) (s .pt q);
+  heights = s .heights;
+  bottom = s .bottom;
+  top = s .top;
+  rounds = λ r. cond (eqb r (roundAt s (e .proof))) (useProof (s .rounds r) (idAt s (e .anchor) .author)) (s .rounds r);
+  conf = s .conf;
+  progress = record {
+    lastProof = some (roundAt s (e .proof));
+    lastAnchor = some (roundAt s (e .anchor));
+    fullBottom = s .progress .fullBottom;
+    firstExecutable = s .progress .firstExecutable;
+    gap = gapAfter s (e .anchor);
+  };
+  memory = s .memory;
+}
+
+-- what a commit leaves: the store, the buffer and the number of finished anchors, with the refusal that stopped it, if any
+pub record Finished : Type 0 where
+  pub store : Store
+  pub buffer : List ℕ
+  pub anchors : ℕ
+  pub stopped : Option Refusal
+
+-- "Then each anchor, oldest first, is tested .. Finished anchors keep their records and marks." at: the next free byte
+unfoldable pub commitAll : Store → List ℕ → ℕ → ℕ → List Enqueued → Finished
+commitAll s b at n [] = record { store = s; buffer = b; anchors = n; stopped = none }
+commitAll s b at n (e ∷ es) =
+    let bytes = recordBytes s e in
+    elim (testAnchor s (length b - at) (length bytes) (e .anchor)) [
+      | bad r ↦ record { store = s; buffer = b; anchors = n; stopped = some r }
+      | good a ↦ commitAll (committedAt s e) (written b at bytes) (at + length bytes) (suc n) es
+    ]
+
+-- ---- the outlook
+
+-- "for each anchor a trigger would yield, its id and the number of points in its history (4 bytes), counted from the committed marks now"
+unfoldable pub outlookBytes : Store → ℕ → List ℕ
+outlookBytes s a = idBytes (idAt s a) ++ be 4 (length (history s a))
+
+-- "It is refused as the commit would be, by 20 never, by 21 for its own buffer"; left: the bytes of it that are left
+unfoldable pub outlookAll : Store → ℕ → List Enqueued → Out (List ℕ)
+outlookAll s left [] = good []
+outlookAll s left (e ∷ es) =
+    let bytes = outlookBytes s (e .anchor) in
+    then (tested s (e .anchor)) (λ a. refuse (ltb left (length bytes)) 21 (then (outlookAll s (left - length bytes) es) (λ rest. good (bytes ++ rest))))

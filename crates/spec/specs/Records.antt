@@ -1,0 +1,241 @@
+-- The records that a commit writes, and the histories read back from its buffer.
+use Prim.Native.Nat.{ℕ, zero, suc, _+_, _-_, _*_, _^_, _≤_, _<_}
+use mathlib.Core.Path.{_≡_, refl, sym, _∙_, subst, ap, ap₂}
+use mathlib.Core.Option.{some}
+use mathlib.Core.Bool.{Bool, true, false, cond}
+use mathlib.Core.List.{List, [], _∷_, _++_, map, append-assoc, append-nil, List·Memᴰ, List·Memᴰ·head, List·Memᴰ·tail}
+use lib.Dec.{ltb}
+use lib.ListN.{length, take, drop, length-append, take-append-drop}
+use lib.Seq.{take-at, drop-at, drop-drop, take-append-add, length-take-le}
+use borrow.Author.Tests.{ltb-false}
+use native.Mathlib.Omega.{arith}
+use native.Mathlib.Nat.{add-suc, add-assoc, add-zero}
+use Rattle.laws.specs.Lists.{joined}
+use Rattle.laws.specs.Bytes.{be, be-length, value, value-be-fits, written, written-length, written-is}
+use Rattle.spec.specs.Ids.{Id, idBytes}
+use Rattle.spec.specs.Store.{Store, Conf, Progress, idAt, roundAt}
+use Rattle.spec.specs.Chain.{Refusal, Out, bad, good, Enqueued}
+use Rattle.spec.specs.History.{history, isExecutable, prevAnchor, recordBytes, isWaiting, testAnchor, committedAt, Finished, commitAll}
+use Rattle.spec.specs.Demand.{readId, readIds, History, readRecords}
+use Rattle.spec.specs.Walk.{Tested, test-good}
+
+-- ---- ids
+
+-- the id fits its 37 bytes
+abbrev pub Fits : Id → Type 0
+Fits i = (i .round < 256 ^ 4) × (i .author < 256 ^ 1) × (i .digest < 256 ^ 32)
+
+id-shape : (i : Id) (rest : List ℕ) → idBytes i ++ rest ≡ be 4 (i .round) ++ (be 1 (i .author) ++ (be 32 (i .digest) ++ rest))
+unfolding idBytes
+id-shape i rest =
+    append-assoc (be 4 (i .round)) (be 1 (i .author) ++ be 32 (i .digest)) rest ∙ ap (λ (l : List ℕ). be 4 (i .round) ++ l) (append-assoc (be 1 (i .author)) (be 32 (i .digest)) rest)
+
+-- what stands n bytes on, in two steps
+skip : (m n : ℕ) (p q r bs : List ℕ) → length p ≡ m → length q ≡ n → bs ≡ p ++ (q ++ r) → drop (m + n) bs ≡ r
+skip m n p q r bs a b e = sym (drop-drop n m bs) ∙ (ap (drop n) (ap (drop m) e ∙ drop-at p (q ++ r) m a) ∙ drop-at q r n b)
+
+pub read-id : (i : Id) → Fits i → (rest : List ℕ) → readId (idBytes i ++ rest) ≡ i
+unfolding readId
+read-id i f rest = λ k. record { round = r k; author = a k; digest = d k }
+  where
+    bs : List ℕ
+    bs = idBytes i ++ rest
+
+    r : value 0 (take 4 (idBytes i ++ rest)) ≡ i .round
+    r = ap (λ (l : List ℕ). value 0 (take 4 l)) (id-shape i rest) ∙ (ap (value 0) (take-at (be 4 (i .round)) _ 4 (be-length 4 (i .round))) ∙ value-be-fits 4 (i .round) (f .0))
+
+    four : drop 4 (idBytes i ++ rest) ≡ be 1 (i .author) ++ (be 32 (i .digest) ++ rest)
+    four = ap (drop 4) (id-shape i rest) ∙ drop-at (be 4 (i .round)) _ 4 (be-length 4 (i .round))
+
+    five : drop 5 (idBytes i ++ rest) ≡ be 32 (i .digest) ++ rest
+    five = skip 4 1 (be 4 (i .round)) (be 1 (i .author)) _ _ (be-length 4 (i .round)) (be-length 1 (i .author)) (id-shape i rest)
+
+    a : value 0 (take 1 (drop 4 (idBytes i ++ rest))) ≡ i .author
+    a = ap (λ (l : List ℕ). value 0 (take 1 l)) four ∙ (ap (value 0) (take-at (be 1 (i .author)) _ 1 (be-length 1 (i .author))) ∙ value-be-fits 1 (i .author) (f .1))
+
+    d : value 0 (take 32 (drop 5 (idBytes i ++ rest))) ≡ i .digest
+    d = ap (λ (l : List ℕ). value 0 (take 32 l)) five ∙ (ap (value 0) (take-at (be 32 (i .digest)) _ 32 (be-length 32 (i .digest))) ∙ value-be-fits 32 (i .digest) (f .2))
+
+pub id-length : (i : Id) → length (idBytes i) ≡ 37
+unfolding idBytes
+id-length i =
+    length-append (be 4 (i .round)) _
+    ∙ ap₂ _+_ (be-length 4 (i .round)) (length-append (be 1 (i .author)) _ ∙ ap₂ _+_ (be-length 1 (i .author)) (be-length 32 (i .digest)))
+
+pub ids-length : (xs : List Id) → length (joined idBytes xs) ≡ length xs * 37
+unfolding joined
+ids-length [] = refl
+ids-length (x ∷ xs) = let n = length xs in length-append (idBytes x) (joined idBytes xs) ∙ (ap₂ _+_ (id-length x) (ids-length xs) ∙ more (length xs))
+  where
+    more : (n : ℕ) → 37 + n * 37 ≡ suc n * 37
+    more n = omega arith
+
+pub read-ids : (xs : List Id) → ((x : Id) → List·Memᴰ x xs → Fits x) → (rest : List ℕ) → readIds (length xs) (joined idBytes xs ++ rest) ≡ xs
+unfolding joined readIds
+read-ids [] f rest = refl
+read-ids (x ∷ xs) f rest =
+    rw (append-assoc (idBytes x) (joined idBytes xs) rest)
+    (ap₂ _∷_ (read-id x (f x (List·Memᴰ·head refl)) (joined idBytes xs ++ rest))
+    (ap (readIds (length xs)) (drop-at (idBytes x) (joined idBytes xs ++ rest) 37 (id-length x)) ∙ read-ids xs (λ y m. f y (List·Memᴰ·tail m)) rest))
+
+-- ---- records
+
+-- before the number of points
+headBytes : Store → Enqueued → List ℕ
+headBytes s e = idBytes (idAt s (e .anchor)) ++ (idBytes (idAt s (e .proof)) ++ (be 1 (cond (isExecutable s (e .anchor)) 1 0) ++ be 4 (prevAnchor s e)))
+
+head-length : (s : Store) (e : Enqueued) → length (headBytes s e) ≡ 79
+unfolding headBytes
+head-length s e =
+    length-append (idBytes (idAt s (e .anchor))) _
+    ∙ ap₂ _+_ (id-length _) (length-append (idBytes (idAt s (e .proof))) _ ∙ ap₂ _+_ (id-length _) (length-append (be 1 (cond (isExecutable s (e .anchor)) 1 0)) _ ∙ ap₂ _+_ (be-length 1 _) (be-length 4 _)))
+
+five-parts : (a b c d e : List ℕ) → a ++ (b ++ (c ++ (d ++ e))) ≡ (a ++ (b ++ (c ++ d))) ++ e
+five-parts a b c d e =
+    ap (λ (l : List ℕ). a ++ (b ++ l)) (sym (append-assoc c d e)) ∙ (ap (λ (l : List ℕ). a ++ l) (sym (append-assoc b (c ++ d) e)) ∙ sym (append-assoc a (b ++ (c ++ d)) e))
+
+record-shape : (s : Store) (e : Enqueued) (rest : List ℕ) → recordBytes s e ++ rest ≡ headBytes s e ++ (be 4 (length (history s (e .anchor))) ++ (joined idBytes (history s (e .anchor)) ++ rest))
+unfolding recordBytes headBytes
+record-shape s e rest =
+    ap (λ (l : List ℕ). l ++ rest) (five-parts (idBytes (idAt s (e .anchor))) (idBytes (idAt s (e .proof))) (be 1 (cond (isExecutable s (e .anchor)) 1 0)) (be 4 (prevAnchor s e)) (be 4 (length (history s (e .anchor))) ++ joined idBytes (history s (e .anchor))))
+    ∙ (append-assoc (headBytes s e) (be 4 (length (history s (e .anchor))) ++ joined idBytes (history s (e .anchor))) rest
+    ∙ ap (λ (l : List ℕ). headBytes s e ++ l) (append-assoc (be 4 (length (history s (e .anchor)))) (joined idBytes (history s (e .anchor))) rest))
+
+-- the record begins with the anchor's id
+record-anchor : (s : Store) (e : Enqueued) (rest : List ℕ) → (l : List ℕ) × (recordBytes s e ++ rest ≡ idBytes (idAt s (e .anchor)) ++ l)
+unfolding recordBytes
+record-anchor s e rest = (_, append-assoc (idBytes (idAt s (e .anchor))) _ rest)
+
+-- what is read back: the anchor and the history
+abbrev pub readAs : Store → Store → Enqueued → History
+readAs at s e = record { at = at; anchor = idAt s (e .anchor); ids = history s (e .anchor) }
+
+pub read-record : (at s : Store) (e : Enqueued) (n : ℕ) (rest : List ℕ) → Fits (idAt s (e .anchor)) → ((x : Id) → List·Memᴰ x (history s (e .anchor)) → Fits x) → length (history s (e .anchor)) < 256 ^ 4
+    → readRecords at (suc n) (recordBytes s e ++ rest) ≡ readAs at s e ∷ readRecords at n rest
+unfolding readRecords
+read-record at s e n rest fa fs few = λ i. record { at = at; anchor = who i; ids = ids i } ∷ readRecords at n (tail i)
+  where
+    h : List Id
+    h = history s (e .anchor)
+
+    bs : List ℕ
+    bs = recordBytes s e ++ rest
+
+    who : readId (recordBytes s e ++ rest) ≡ idAt s (e .anchor)
+    who = let (l, k) = record-anchor s e rest in ap readId k ∙ read-id (idAt s (e .anchor)) fa l
+
+    at79 : drop 79 (recordBytes s e ++ rest) ≡ be 4 (length (history s (e .anchor))) ++ (joined idBytes (history s (e .anchor)) ++ rest)
+    at79 = ap (drop 79) (record-shape s e rest) ∙ drop-at (headBytes s e) _ 79 (head-length s e)
+
+    at83 : drop 83 (recordBytes s e ++ rest) ≡ joined idBytes (history s (e .anchor)) ++ rest
+    at83 = skip 79 4 (headBytes s e) (be 4 (length (history s (e .anchor)))) _ _ (head-length s e) (be-length 4 (length (history s (e .anchor)))) (record-shape s e rest)
+
+    points : value 0 (take 4 (drop 79 (recordBytes s e ++ rest))) ≡ length (history s (e .anchor))
+    points = ap (λ (l : List ℕ). value 0 (take 4 l)) at79 ∙ (ap (value 0) (take-at (be 4 (length (history s (e .anchor)))) _ 4 (be-length 4 (length (history s (e .anchor))))) ∙ value-be-fits 4 _ few)
+
+    ids : readIds (value 0 (take 4 (drop 79 (recordBytes s e ++ rest)))) (drop 83 (recordBytes s e ++ rest)) ≡ history s (e .anchor)
+    ids = ap₂ readIds points at83 ∙ read-ids (history s (e .anchor)) fs rest
+
+    tail : drop (83 + value 0 (take 4 (drop 79 (recordBytes s e ++ rest))) * 37) (recordBytes s e ++ rest) ≡ rest
+    tail =
+        ap (λ (k : ℕ). drop (83 + k * 37) (recordBytes s e ++ rest)) points
+        ∙ (sym (drop-drop (length (history s (e .anchor)) * 37) 83 (recordBytes s e ++ rest))
+        ∙ (ap (drop (length (history s (e .anchor)) * 37)) at83 ∙ drop-at (joined idBytes (history s (e .anchor))) rest _ (ids-length (history s (e .anchor)))))
+
+-- ---- the anchors that a commit finishes
+
+-- an anchor that was finished, with the store that it was committed from
+pub record Event : Type 0 where
+  pub from : Store
+  pub enq : Enqueued
+
+-- the anchors of a chain that pass their tests, with this many bytes of the buffer left
+unfoldable pub passed : Store → ℕ → List Enqueued → List Event
+passed s left [] = []
+passed s left (e ∷ es) = elim (testAnchor s left (length (recordBytes s e)) (e .anchor)) [
+  | bad r ↦ []
+  | good a ↦ record { from = s; enq = e } ∷ passed (committedAt s e) (left - length (recordBytes s e)) es
+]
+
+abbrev pub bytesOf : Event → List ℕ
+bytesOf e = recordBytes (e .from) (e .enq)
+
+take-more : (b : List ℕ) (at : ℕ) (vs : List ℕ) → at + length vs ≤ length b → take (at + length vs) (written b at vs) ≡ take at b ++ vs
+take-more b at vs l =
+    ap (take (at + length vs)) (written-is b at vs l)
+    ∙ (ap (λ (n : ℕ). take (n + length vs) (take at b ++ (vs ++ drop (at + length vs) b))) (sym (length-take-le at b (omega arith)))
+    ∙ (take-append-add (take at b) (vs ++ drop (at + length vs) b) (length vs) ∙ ap (λ (t : List ℕ). take at b ++ t) (take-at vs (drop (at + length vs) b) (length vs) refl)))
+
+room-left : (b at n size : ℕ) → n ≡ b → b - at - size ≡ n - (at + size)
+room-left b at n size e = omega arith
+
+-- the buffer after a commit: what stood before `at`, the records of the finished anchors, and a rest; and how many were finished
+pub commit-buffer : (s : Store) (b : List ℕ) (at n : ℕ) (es : List Enqueued) → at ≤ length b
+    → (rest : List ℕ) × (commitAll s b at n es .buffer ≡ take at b ++ (joined bytesOf (passed s (length b - at) es) ++ rest)) × (commitAll s b at n es .anchors ≡ n + length (passed s (length b - at) es))
+unfolding commitAll passed joined
+commit-buffer s b at n [] l = (drop at b, sym (take-append-drop at b), sym (add-zero n))
+commit-buffer s b at n (e ∷ es) l = go (testAnchor s (length b - at) (length (recordBytes s e)) (e .anchor)) refl (λ b at n. commit-buffer (committedAt s e) b at n es)
+  where
+    vs : List ℕ
+    vs = recordBytes s e
+
+    fin : Out ℕ → Finished
+    fin o = elim o [
+      | bad r ↦ record { store = s; buffer = b; anchors = n; stopped = some r }
+      | good a ↦ commitAll (committedAt s e) (written b at vs) (at + length vs) (suc n) es
+    ]
+
+    evs : Out ℕ → List Event
+    evs o = elim o [ bad r ↦ [] | good a ↦ record { from = s; enq = e } ∷ passed (committedAt s e) (length b - at - length vs) es ]
+
+    go : (o : Out ℕ) → testAnchor s (length b - at) (length vs) (e .anchor) ≡ o
+        → ((b : List ℕ) (at n : ℕ) → at ≤ length b
+        → (rest : List ℕ) × (commitAll (committedAt s e) b at n es .buffer ≡ take at b ++ (joined bytesOf (passed (committedAt s e) (length b - at) es) ++ rest)) × (commitAll (committedAt s e) b at n es .anchors ≡ n + length (passed (committedAt s e) (length b - at) es)))
+        → (rest : List ℕ) × (fin o .buffer ≡ take at b ++ (joined bytesOf (evs o) ++ rest)) × (fin o .anchors ≡ n + length (evs o))
+    go (bad r) h i = (drop at b, sym (take-append-drop at b), sym (add-zero n))
+    go (good a) h i = (rest, buf, count)
+      where
+        fit : at + length vs ≤ length b
+        fit = let (t, w, k) = test-good s _ _ _ a h in omega (arith, k)
+
+        same : length b - at - length vs ≡ length (written b at vs) - (at + length vs)
+        same = room-left (length b) at (length (written b at vs)) (length vs) (written-length b at vs)
+
+        ih : (rest : List ℕ) × (commitAll (committedAt s e) (written b at vs) (at + length vs) (suc n) es .buffer ≡ take (at + length vs) (written b at vs) ++ (joined bytesOf (passed (committedAt s e) (length (written b at vs) - (at + length vs)) es) ++ rest))
+            × (commitAll (committedAt s e) (written b at vs) (at + length vs) (suc n) es .anchors ≡ suc n + length (passed (committedAt s e) (length (written b at vs) - (at + length vs)) es))
+        ih = i (written b at vs) (at + length vs) (suc n) (subst (λ k. at + length vs ≤ k) (sym (written-length b at vs)) fit)
+
+        rest : List ℕ
+        rest = ih .0
+
+        tailEvents : List Event
+        tailEvents = passed (committedAt s e) (length b - at - length vs) es
+
+        buf : commitAll (committedAt s e) (written b at vs) (at + length vs) (suc n) es .buffer ≡ take at b ++ ((vs ++ joined bytesOf tailEvents) ++ rest)
+        buf = ih .1 ∙ (ap₂ _++_ (take-more b at vs fit) (ap (λ k. joined bytesOf (passed (committedAt s e) k es) ++ rest) (sym same))
+            ∙ (append-assoc (take at b) vs (joined bytesOf tailEvents ++ rest) ∙ ap (λ (l : List ℕ). take at b ++ l) (sym (append-assoc vs (joined bytesOf tailEvents) rest))))
+
+        count : commitAll (committedAt s e) (written b at vs) (at + length vs) (suc n) es .anchors ≡ n + suc (length tailEvents)
+        count = ih .2 ∙ (ap (λ k. suc n + length (passed (committedAt s e) k es)) (sym same) ∙ shift n (length tailEvents))
+          where
+            shift : (n m : ℕ) → suc n + m ≡ n + suc m
+            shift n m = omega arith
+
+-- ---- read back
+
+-- what reading a record asks of a finished anchor
+pub record Readable (e : Event) : Type 0 where
+  pub anchor : Fits (idAt (e .from) (e .enq .anchor))
+  pub points : (x : Id) → List·Memᴰ x (history (e .from) (e .enq .anchor)) → Fits x
+  pub few : length (history (e .from) (e .enq .anchor)) < 256 ^ 4
+
+pub read-all : (at : Store) (evs : List Event) (rest : List ℕ) → ((e : Event) → List·Memᴰ e evs → Readable e)
+    → readRecords at (length evs) (joined bytesOf evs ++ rest) ≡ map (λ (e : Event). readAs at (e .from) (e .enq)) evs
+unfolding joined readRecords
+read-all at [] rest f = refl
+read-all at (e ∷ evs) rest f =
+    ap (readRecords at (suc (length evs))) (append-assoc (bytesOf e) (joined bytesOf evs) rest)
+    ∙ (read-record at (e .from) (e .enq) (length evs) (joined bytesOf evs ++ rest) (r .anchor) (r .points) (r .few) ∙ ap (λ (l : List History). readAs at (e .from) (e .enq) ∷ l) (read-all at evs rest (λ x m. f x (List·Memᴰ·tail m))))
+  where
+    r : Readable e
+    r = f e (List·Memᴰ·head refl)
