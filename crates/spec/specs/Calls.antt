@@ -1,6 +1,6 @@
 -- The eleven calls: answer, store after, bytes written (01: commit/mod.rs, 'Refusals').
-use Prim.Native.Nat.{ℕ, zero, suc, _+_, _-_, _<_, _≤_, max, min}
-use mathlib.Core.List.{List, [], _∷_}
+use Prim.Native.Nat.{ℕ, suc, _+_, _-_, max, min}
+use mathlib.Core.List.{List, []}
 use mathlib.Core.Bool.{Bool, true, false, not, _&&_, _||_, cond}
 use mathlib.Core.Option.{Option, none, some}
 use lib.Dec.{eqb, leb, ltb}
@@ -9,10 +9,10 @@ use Rattle.laws.specs.Scan.{any, lowest}
 use Rattle.laws.specs.Lists.{has}
 use Rattle.laws.specs.Bytes.{written}
 use Rattle.spec.specs.Ids.{Id}
-use Rattle.spec.specs.Store.{Told, Flags, Point, Round, Memory, Conf, Progress, Phase, started, reset, other, Store, unresolved, noFlags, free, noRound, noMemory, idAt, roundAt, resolved, links, retained, withPoints, withProgress, withMemory, withGap}
+use Rattle.spec.specs.Store.{Told, Point, Memory, Conf, started, reset, Store, unresolved, noFlags, free, noRound, noMemory, roundAt, resolved, links, retained, withPoints, withProgress, withMemory, withGap}
 use Rattle.spec.specs.Paths.{height}
 use Rattle.spec.specs.Rules.{isPeer, twin, versions, wellFormed, wild, usedOk, lastRound, confOk, placesOk, counts, wasReset}
-use Rattle.spec.specs.Chain.{Refusal, number, conflict, Out, bad, good, then, refuse, Enqueued, orZero, placeOf, anchorsOf}
+use Rattle.spec.specs.Chain.{Refusal, number, conflict, Out, bad, good, then, refuse, placeOf, anchorsOf}
 use Rattle.spec.specs.History.{isWaiting, Finished, commitAll, outlookAll}
 use Rattle.spec.specs.Inspect.{inspected, memoryAfter, removeBytes}
 

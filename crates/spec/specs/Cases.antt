@@ -2,14 +2,14 @@
 use Prim.Native.Nat.{ℕ}
 use mathlib.Core.Path.{_≡_, refl}
 use mathlib.Core.List.{List, [], _∷_, _++_, map, List·Memᴰ}
-use mathlib.Core.Bool.{Bool, true, false}
+use mathlib.Core.Bool.{true, false}
 use mathlib.Core.Option.{none, some}
 use lib.ListN.{getD, replicate}
 use Rattle.laws.specs.Lists
-use Rattle.spec.specs.Store.{Store, Progress, withProgress}
+use Rattle.spec.specs.Store.{Store, withProgress}
 use Rattle.spec.specs.Chain.{Enqueued}
 use Rattle.spec.specs.History.{limit, prevAnchor}
-use Rattle.spec.specs.Inspect.{Counters, score}
+use Rattle.spec.specs.Inspect.{score}
 use Rattle.spec.specs.Calls.{Outcome, Call, round, name, resolve, certify, commit, drop, call}
 use Rattle.spec.specs.Demand.{after}
 use Rattle.spec.specs.Play.{Row, conf, blank, from, id, ref, valid, rounds, computed, numbers, same, agree, agree-elim}

@@ -1,22 +1,22 @@
 -- What the calls do to heights (01: cert.rs): a certificate and a resolution raise them along paths, drains and commit marks change none.
-use Prim.Native.Nat.{ℕ, zero, suc, _+_, _-_, _≤_, _<_, max}
+use Prim.Native.Nat.{ℕ, suc, _-_, _≤_, _<_, max}
 use mathlib.Core.Path.{_≡_, refl, sym, _∙_, subst, ap}
 use mathlib.Core.Logic.{_⊎_, inl, inr, _≢_, ⊎-elim}
-use mathlib.Core.Bool.{Bool, true, false, not, _&&_, _||_, cond, true≢false, false≢true}
-use lib.Dec.{eqb, leb, ltb}
-use borrow.Author.Tests.{eqb-true, eq-eqb, ne-eqb, ltb-true, lt-ltb, le-ltb}
+use mathlib.Core.Bool.{true, false, _&&_, _||_}
+use lib.Dec.{eqb, ltb}
+use borrow.Author.Tests.{eq-eqb, ne-eqb, lt-ltb, le-ltb}
 use native.Mathlib.Omega.{arith}
 use native.Mathlib.Decide.{ℕ-discrete}
 use Rattle.laws.specs.Test.{byTest, clash, both, and-l, and-r, le-or-lt}
-use Rattle.spec.specs.Store.{Told, Flags, Point, Store, Conf, free, linksTo, resolved, roundAt, withPoints}
-use Rattle.spec.specs.Paths.{Path, here, step, E, isTop, Top, gives, IsHeight, height}
+use Rattle.spec.specs.Store.{Told, Point, Store, free, linksTo, resolved, roundAt, withPoints}
+use Rattle.spec.specs.Paths.{Path, here, step, E, Top, gives, IsHeight, height}
 use Rattle.spec.specs.Chain.{Enqueued}
-use Rattle.spec.specs.History.{committedAt, setCommitted, inHistory}
+use Rattle.spec.specs.History.{committedAt, setCommitted}
 use Rattle.spec.specs.Calls.{settled, setTop, certifyAt, resolvedAs, resolveAt, drained}
-use Rattle.spec.specs.Graph.{append, snoc, carry, path-down}
+use Rattle.spec.specs.Graph.{append, carry, path-down}
 use Rattle.spec.specs.Heights.{height-unique}
-use Rattle.spec.specs.Links.{linked, link-made, Linked, down, source-named}
-use Rattle.spec.specs.Level.{Sized, inside, height-is}
+use Rattle.spec.specs.Links.{linked, down, source-named}
+use Rattle.spec.specs.Level.{Sized, height-is}
 
 le-max-l : (m n : ℕ) {a : ℕ} → a ≤ m → a ≤ max m n
 le-max-l m n l = omega arith

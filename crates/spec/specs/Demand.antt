@@ -3,13 +3,13 @@ use Prim.Native.Nat.{ℕ, zero, suc, _+_, _*_, _^_, _<_, _≤_}
 use mathlib.Core.Path.{_≡_}
 use mathlib.Core.Logic.{_≢_, _↔_}
 use mathlib.Core.Bool.{true}
-use mathlib.Core.List.{List, [], _∷_, _++_, map, List·Memᴰ}
+use mathlib.Core.List.{List, [], _∷_, _++_, List·Memᴰ}
 use mathlib.Core.Option.{some}
 use lib.ListN.{take, drop}
 use Rattle.laws.specs.Lists.{NoDup, joined}
 use Rattle.laws.specs.Bytes.{value}
 use Rattle.spec.specs.Ids.{Id, Link, linksOf, fits}
-use Rattle.spec.specs.Store.{Told, Conf, Store, find, statusAt, retained}
+use Rattle.spec.specs.Store.{Told, Store, find, statusAt, retained}
 use Rattle.spec.specs.Paths.{Path}
 use Rattle.spec.specs.Rules.{counts}
 use Rattle.spec.specs.History.{limit}

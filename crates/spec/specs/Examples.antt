@@ -1,19 +1,19 @@
 -- Small lists of calls and what they give: each refusal, the order of the tests, chains of several anchors, remove's bytes.
-use Prim.Native.Nat.{ℕ, suc, _+_}
+use Prim.Native.Nat.{ℕ, suc}
 use mathlib.Core.Path.{_≡_, refl}
-use mathlib.Core.List.{List, [], _∷_, _++_, map, List·Memᴰ}
+use mathlib.Core.List.{List, [], _∷_, _++_, map}
 use mathlib.Core.Bool.{Bool, true, false, cond}
 use mathlib.Core.Option.{Option, none, some}
 use lib.Dec.{eqb}
 use lib.ListN.{getD, replicate}
 use Rattle.laws.specs.Lists
 use Rattle.spec.specs.Ids.{Id, Ref}
-use Rattle.spec.specs.Store.{Told, Flags, Point, Memory, Conf, Progress, Store, noMemory, word, withProgress, withMemory}
-use Rattle.spec.specs.Chain.{Refusal, orZero}
+use Rattle.spec.specs.Store.{Told, Conf, Store, word, withProgress, withMemory}
+use Rattle.spec.specs.Chain.{orZero}
 use Rattle.spec.specs.Inspect.{weight}
 use Rattle.spec.specs.Calls.{Answer, Outcome, Beginning, Call, start, resetAll, round, name, resolve, certify, ask, commit, outlook, remove, drop as dropTo, call, startOk, conflictRound, done, said, handed, refused}
 use Rattle.spec.specs.Demand.{after}
-use Rattle.spec.specs.Play.{Row, conf, blank, from, id, ref, valid, rounds, computed, numbers, same, agree, agree-elim}
+use Rattle.spec.specs.Play.{Row, conf, blank, from, id, ref, rounds, computed, numbers, same, agree}
 
 -- ---- short ways to write
 

@@ -1,12 +1,12 @@
 -- Heights by paths from tops and by direct predecessors are the same (01: cert.rs).
-use Prim.Native.Nat.{ℕ, zero, suc, _+_, _-_, _≤_, _<_, max}
-use mathlib.Core.Path.{_≡_, refl, sym, _∙_, subst, ap}
-use mathlib.Core.Logic.{_⊎_, inl, inr, _≢_}
+use Prim.Native.Nat.{ℕ, zero, suc, _+_, _-_, _≤_, _<_}
+use mathlib.Core.Path.{_≡_, subst, ap}
+use mathlib.Core.Logic.{_⊎_, inl, inr}
 use native.Mathlib.Omega.{arith}
 use native.Mathlib.Nat.{le-antisymm}
 use Rattle.laws.specs.Test.{zero-or-more}
 use Rattle.spec.specs.Paths.{Path, here, step, gives, IsHeight}
-use Rattle.spec.specs.Graph.{append, snoc, Down, path-down, last-link, carry}
+use Rattle.spec.specs.Graph.{snoc, Down, path-down, last-link, carry}
 
 -- why the table may hold the height n at p
 pub data Why (E : ℕ → ℕ → Type 0) (rnd : ℕ → ℕ) (top : ℕ → Type 0) (H : ℕ) (h : ℕ → ℕ) (p : ℕ) : Type 0 where

@@ -22,13 +22,17 @@ sameId i j = eqb (i .round) (j .round) && (eqb (i .author) (j .author) && eqb (i
 abbrev pub prev : ℕ → ℕ
 prev r = r - 1
 
+-- by round, and inside a round by rising digest
+unfoldable pub byRound : (ℕ → ℕ → Bool) → Id → Id → Bool
+byRound less i j = less (i .round) (j .round) || (eqb (i .round) (j .round) && leb (i .digest) (j .digest))
+
 -- 01, back.rs and 'Forms': rounds rise, "inside a round a history rises by digest"
 unfoldable pub rises : Id → Id → Bool
-rises i j = ltb (i .round) (j .round) || (eqb (i .round) (j .round) && leb (i .digest) (j .digest))
+rises = byRound ltb
 
 -- 01, 'Refusals': a history is tested "downwards"; "inside one round, points are tested by rising digest"
 unfoldable pub falls : Id → Id → Bool
-falls i j = ltb (j .round) (i .round) || (eqb (i .round) (j .round) && leb (i .digest) (j .digest))
+falls = byRound (λ m n. ltb n m)
 
 -- 01, info.rs: includes and witness are links, "peer and digest"
 pub record Ref : Type 0 where

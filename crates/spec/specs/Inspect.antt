@@ -1,5 +1,5 @@
 -- What remove counts and reports of the drained rounds (01: inspector.rs, stats.rs).
-use Prim.Native.Nat.{ℕ, zero, suc, _+_, _-_, _*_, _<_, _≤_, max, min}
+use Prim.Native.Nat.{ℕ, zero, suc, _+_, _-_, _*_, max}
 use mathlib.Core.List.{List, [], _∷_, _++_, map}
 use mathlib.Core.Bool.{Bool, true, false, not, _&&_, _||_, cond}
 use mathlib.Core.Option.{Option, none, some}
@@ -11,7 +11,7 @@ use Rattle.laws.specs.Sort.{sort}
 use Rattle.laws.specs.Peers.{member}
 use Rattle.laws.specs.Bytes.{be}
 use Rattle.spec.specs.Ids.{Id, Ref, idBytes, prev}
-use Rattle.spec.specs.Store.{Point, Told, Flags, Round, Entry, Memory, Conf, Progress, Store, idAt, roundAt, statusAt, resolved, previous}
+use Rattle.spec.specs.Store.{Entry, Memory, Store, idAt, roundAt, statusAt, resolved, previous}
 use Rattle.spec.specs.Paths.{certified, proved}
 
 -- ---- a drained round

@@ -1,5 +1,5 @@
 -- Every call but a reset keeps the rules of the tables; after a start none but another start says 2.
-use Prim.Native.Nat.{ℕ, zero, suc, _+_, _-_, _≤_, _<_}
+use Prim.Native.Nat.{ℕ, suc, _+_, _-_, _≤_, _<_}
 use mathlib.Core.Path.{_≡_, refl, sym, _∙_, subst, ap, ap₂}
 use mathlib.Core.Logic.{_⊎_, inl, inr, _≢_, ⊎-elim}
 use mathlib.Core.Bool.{Bool, true, false, not, _&&_, _||_, true≢false, false≢true}
@@ -15,11 +15,11 @@ use Rattle.laws.specs.Scan.{any, any-none, those-fewer, those-one, lowest, lowe
 use Rattle.laws.specs.Lists.{has}
 use Rattle.laws.specs.Bytes.{written}
 use Rattle.spec.specs.Ids.{Id, Link, fits, prev}
-use Rattle.spec.specs.Store.{Told, Point, Round, Memory, Progress, Store, idAt, roundAt, statusAt, previous, find, resolved, links, linksTo, withPoints, withGap, withMemory, withNumbers}
+use Rattle.spec.specs.Store.{Told, Point, Round, Memory, Progress, Store, idAt, roundAt, statusAt, previous, resolved, links, linksTo, withPoints, withGap, withMemory, withNumbers}
 use Rattle.spec.specs.Paths.{Path, E, Top, gives, IsHeight, height, certified}
 use Rattle.spec.specs.Rules.{isPeer, twin, version, versions, wellFormed, wild, usedOk, lastRound, isStarted, counts}
-use Rattle.spec.specs.Chain.{Refusal, number, conflict, Out, bad, good, then, refuse, usableInWalk, usableInHistory, verdict, judged, needInWalk, Enqueued, Onward, enqueue, toAnchor, toPrevious, atProof, atUsed, visit, walk, unlinked, lowestWalked, emptyWalk, checkOldest, chainFrom, chain, triggerConflict, triggered, placeOf, anchorsOf}
-use Rattle.spec.specs.History.{setCommitted, useProof, committedAt, inHistory, recordBytes, testAnchor, Finished, commitAll, tested, isWaiting, isFlat, roundsMissing, firstFault, faults, outlookBytes, outlookAll}
+use Rattle.spec.specs.Chain.{Refusal, number, conflict, Out, bad, good, then, refuse, Enqueued, walk, lowestWalked, emptyWalk, checkOldest, chainFrom, chain, triggerConflict, triggered, placeOf, anchorsOf}
+use Rattle.spec.specs.History.{setCommitted, useProof, committedAt, inHistory, recordBytes, testAnchor, Finished, commitAll, tested, isWaiting, outlookAll}
 use Rattle.spec.specs.Inspect.{inspected, memoryAfter, removeBytes}
 use Rattle.spec.specs.Calls.{addRound, newPoint, nameAt, settled, resolvedAs, resolveAt, setTop, certifyAt, drained, Beginning, startOk, begun, Answer, done, said, handed, refused, numberOf, Outcome, quiet, finish, memoryKept, doStart, cleared, doRound, atId, intoFree, doName, resolving, doResolve, doCertify, doAsk, commitEnd, doCommit, doOutlook, newBottom, beyond, removing, doRemove, doDrop, Call, start, resetAll, round, name, resolve, certify, ask, commit, outlook, remove, drop, act, isStart, call}
 use Rattle.spec.specs.Graph.{carry, last-link}
@@ -28,7 +28,8 @@ use Rattle.spec.specs.Links.{linked, Linked, fits-elim, resolved-named, 
 use Rattle.spec.specs.Level.{Sized, inside, height-is}
 use Rattle.spec.specs.Changes.{link-res, settled-height, drain-stays, drain-was, drain-sized, drain-height, mark-height}
 use Rattle.spec.specs.Started.{Leads, Wf, tame, counts-elim, counts-intro}
-use Rattle.spec.specs.Walk.{not-good, if-good, then-good, refuse-good, Anchored, Tested, Rising, rising-less, walk-rising, test-good, find-some}
+use Rattle.spec.specs.Refusals.{Ends, refuse-ends, if-ends, then-ends, Sound, refuse-sound, then-sound, place-ends, anchors-sound, tested-sound, outlook-sound}
+use Rattle.spec.specs.Walk.{not-good, if-good, then-good, refuse-good, Anchored, Tested, Rising, rising-less, walk-rising, test-good}
 
 -- ---- progress, memory and rounds
 
@@ -528,193 +529,75 @@ begun-kept n m b h = record {
 
 -- ---- refusals other than 2
 
-abbrev Fine : Refusal → Type 0
-Fine r = numberOf r ≢ 2
+abbrev Two : Refusal → Type 0
+Two r = numberOf r ≢ 2
 
--- not refused with 2; what is handed on meets P
-abbrev Ends : {A : Type 0} → (A → Type 0) → Out A → Type 0
-Ends P (bad r) = Fine r
-Ends P (good a) = P a
+two : (n : ℕ) → n ≢ 2 → Two (number n)
+unfolding numberOf
+two n h = h
 
-refuse-ends : {A : Type 0} (P : A → Type 0) (b : Bool) (n : ℕ) (o : Out A) → n ≢ 2 → (b ≡ false → Ends P o) → Ends P (refuse b n o)
-unfolding refuse numberOf
-refuse-ends P true n o m f = m
-refuse-ends P false n o m f = f refl
+fine : (n : ℕ) → n ≢ 2 → n ≢ 20 → Two (number n)
+fine n a b = two n a
 
-if-ends : {A : Type 0} (P : A → Type 0) (b : Bool) (x y : Out A) → (b ≡ true → Ends P x) → (b ≡ false → Ends P y) → Ends P (elim b [ true ↦ x | false ↦ y ])
-if-ends P true x y f g = f refl
-if-ends P false x y f g = g refl
-
-then-ends : {A B : Type 0} (P : A → Type 0) (Q : B → Type 0) (o : Out A) (f : A → Out B) → Ends P o → ((a : A) → P a → Ends Q (f a)) → Ends Q (then o f)
-then-ends P Q (bad r) f h g = h
-then-ends P Q (good a) f h g = g a h
-
-place-ends : (s : Store) (i : Id) → Ends (λ q. s .pt q .named ≡ true) (placeOf s i)
-unfolding placeOf numberOf
-place-ends s i = go (find s i) refl
-  where
-    go : (o : Option ℕ) → find s i ≡ o → Ends (λ q. s .pt q .named ≡ true) (elim o [ none ↦ bad (number 9) | some q ↦ good q ])
-    go none e = omega arith
-    go (some q) e = find-some s i q e .named
+fine-conflict : (r : ℕ) → Two (conflict r)
+unfolding numberOf
+fine-conflict r = omega arith
 
 -- ---- the calls that change points and rounds
 
-round-ends : (s : Store) → Wf s → (r peers : ℕ) → Ends Wf (doRound s r peers)
+round-ends : (s : Store) → Wf s → (r peers : ℕ) → Ends Two Wf (doRound s r peers)
 unfolding doRound
-round-ends s w r peers = refuse-ends Wf _ 3 _ (omega arith) (λ e. if-ends Wf (leb r (s .top)) (good s) _ (λ t. w) (λ f. refuse-ends Wf _ 4 _ (omega arith) (λ g. round-kept s w peers (fits-in e f) (leb-false _ _ g))))
+round-ends s w r peers = refuse-ends Two Wf _ 3 _ (two 3 (omega arith)) (λ e. if-ends Two Wf (leb r (s .top)) (good s) _ (λ t. w) (λ f. refuse-ends Two Wf _ 4 _ (two 4 (omega arith)) (λ g. round-kept s w peers (fits-in e f) (leb-false _ _ g))))
   where
     fits-in : (ltb (suc (s .top)) r || ltb lastRound r) ≡ false → leb r (s .top) ≡ false → suc (s .top) ≤ lastRound
     fits-in e f = omega (arith, leb-false r (s .top) f, ltb-false lastRound r (or-none (ltb (suc (s .top)) r) (ltb lastRound r) e .1))
 
-id-ends : {A : Type 0} (P : A → Type 0) (s : Store) (i : Id) (o : Out A) → (s .bottom ≤ i .round → i .round ≤ s .top → isPeer s i ≡ true → Ends P o) → Ends P (atId s i o)
+id-ends : {A : Type 0} (P : A → Type 0) (s : Store) (i : Id) (o : Out A) → (s .bottom ≤ i .round → i .round ≤ s .top → isPeer s i ≡ true → Ends Two P o) → Ends Two P (atId s i o)
 unfolding atId
-id-ends P s i o f = refuse-ends P _ 5 _ (omega arith) (λ a. refuse-ends P _ 6 _ (omega arith) (λ b. refuse-ends P _ 5 _ (omega arith) (λ c.
+id-ends P s i o f = refuse-ends Two P _ 5 _ (two 5 (omega arith)) (λ a. refuse-ends Two P _ 6 _ (two 6 (omega arith)) (λ b. refuse-ends Two P _ 5 _ (two 5 (omega arith)) (λ c.
     f (leb-true _ _ (and-l _ _ (not-false _ b))) (leb-true _ _ (and-r (leb (s .bottom) (i .round)) _ (not-false _ b))) (not-false _ c))))
 
-name-ends : (s : Store) → Wf s → (i : Id) → Ends Wf (doName s i)
+name-ends : (s : Store) → Wf s → (i : Id) → Ends Two Wf (doName s i)
 unfolding doName intoFree numberOf
-name-ends s w i = id-ends Wf s i _ (λ a b c. refuse-ends Wf _ 7 _ (omega arith) (λ d. refuse-ends Wf _ 8 _ (omega arith) (λ e. go a b c d (leb-false _ _ e) (lowest (s .places) (λ q. not (s .pt q .named))) refl)))
+name-ends s w i = id-ends Wf s i _ (λ a b c. refuse-ends Two Wf _ 7 _ (two 7 (omega arith)) (λ d. refuse-ends Two Wf _ 8 _ (two 8 (omega arith)) (λ e. go a b c d (leb-false _ _ e) (lowest (s .places) (λ q. not (s .pt q .named))) refl)))
   where
     go : s .bottom ≤ i .round → i .round ≤ s .top → isPeer s i ≡ true → any (s .places) (twin s i) ≡ false → versions s i < 4
-        → (o : Option ℕ) → lowest (s .places) (λ q. not (s .pt q .named)) ≡ o → Ends Wf (intoFree s i o)
-    go a b c d e none k = omega arith
+        → (o : Option ℕ) → lowest (s .places) (λ q. not (s .pt q .named)) ≡ o → Ends Two Wf (intoFree s i o)
+    go a b c d e none k = two 4 (omega arith)
     go a b c d e (some q) k = let (l, t) = lowest-some (s .places) (λ q. not (s .pt q .named)) q k in name-kept s w i q l (not-true _ t) a b d c e
 
-resolve-ends : (s : Store) → Wf s → (i : Id) (t : Told) → Ends Wf (doResolve s i t)
+resolve-ends : (s : Store) → Wf s → (i : Id) (t : Told) → Ends Two Wf (doResolve s i t)
 unfolding doResolve resolving
-resolve-ends s w i t = id-ends Wf s i _ (λ a b c. then-ends (λ q. s .pt q .named ≡ true) Wf (placeOf s i) (resolving s t) (place-ends s i) (λ q n.
-    refuse-ends Wf _ 10 _ (omega arith) (λ d. refuse-ends Wf _ 11 _ (omega arith) (λ e. refuse-ends Wf _ 12 _ (omega arith) (λ f. res-kept s w q t n d (not-false _ e) f)))))
+resolve-ends s w i t = id-ends Wf s i _ (λ a b c. then-ends Two (λ q. s .pt q .named ≡ true) Wf (placeOf s i) (resolving s t) (place-ends Two fine fine-conflict s i) (λ q n.
+    refuse-ends Two Wf _ 10 _ (two 10 (omega arith)) (λ d. refuse-ends Two Wf _ 11 _ (two 11 (omega arith)) (λ e. refuse-ends Two Wf _ 12 _ (two 12 (omega arith)) (λ f. res-kept s w q t n d (not-false _ e) f)))))
 
-certify-ends : (s : Store) → Wf s → (i : Id) → Ends Wf (doCertify s i)
+certify-ends : (s : Store) → Wf s → (i : Id) → Ends Two Wf (doCertify s i)
 unfolding doCertify
-certify-ends s w i = id-ends Wf s i _ (λ a b c. then-ends (λ q. s .pt q .named ≡ true) Wf (placeOf s i) (λ q. good (certifyAt s q)) (place-ends s i) (λ q n. cert-kept s w q n))
+certify-ends s w i = id-ends Wf s i _ (λ a b c. then-ends Two (λ q. s .pt q .named ≡ true) Wf (placeOf s i) (λ q. good (certifyAt s q)) (place-ends Two fine fine-conflict s i) (λ q n. cert-kept s w q n))
 
--- ---- the walk and the tests of an anchor
-
--- not refused with 2
-abbrev Sound : {A : Type 0} → Out A → Type 0
-Sound o = Ends (λ x. Unit {0}) o
-
-refuse-sound : {A : Type 0} (b : Bool) (n : ℕ) (o : Out A) → n ≢ 2 → Sound o → Sound (refuse b n o)
-refuse-sound b n o m h = refuse-ends (λ x. Unit {0}) b n o m (λ e. h)
-
-if-sound : {A : Type 0} (b : Bool) (x y : Out A) → Sound x → Sound y → Sound {A = A} (elim b [ true ↦ x | false ↦ y ])
-if-sound b x y h k = if-ends (λ x. Unit {0}) b x y (λ e. h) (λ e. k)
-
-then-sound : {A B : Type 0} (o : Out A) (f : A → Out B) → Sound o → ((a : A) → Sound (f a)) → Sound (then o f)
-then-sound o f h g = then-ends (λ x. Unit {0}) (λ x. Unit {0}) o f h (λ a u. g a)
-
-place-sound : (s : Store) (i : Id) → Sound (placeOf s i)
-place-sound s i = weaker (placeOf s i) (place-ends s i)
-  where
-    weaker : (o : Out ℕ) → Ends (λ q. s .pt q .named ≡ true) o → Sound o
-    weaker (bad r) h = h
-    weaker (good q) h = tt
-
-verdict-sound : (a u c : Bool) (r q : ℕ) → Sound (verdict a u c r q)
-unfolding verdict numberOf
-verdict-sound false u c r q = omega arith
-verdict-sound true true c r q = tt
-verdict-sound true false true r q = omega arith
-verdict-sound true false false r q = omega arith
-
-need-sound : (s : Store) (i : Id) → Sound (needInWalk s i)
-unfolding needInWalk judged numberOf
-need-sound s i = go (find s i)
-  where
-    go : (o : Option ℕ) → Sound {A = ℕ} (elim o [ none ↦ bad (number 14) | some q ↦ judged s usableInWalk q ])
-    go none = omega arith
-    go (some q) = verdict-sound _ _ _ _ q
-
-module _ (s : Store) (x : ℕ) (low : Bool) (below : Onward) (on : (i : Id) (acc : List Enqueued) → Sound (below i acc)) (acc : List Enqueued) where
-  anchor-sound : (p d : ℕ) → Sound (toAnchor s x low below acc p d)
-  unfolding toAnchor enqueue
-  anchor-sound p d = if-sound low (good acc) _ tt (then-sound (needInWalk s _) (enqueue s below acc p) (need-sound s _) (λ a. on _ _))
-
-  previous-sound : (p : ℕ) (o : Option ℕ) → Sound (toPrevious s x low below acc p o)
-  unfolding toPrevious numberOf
-  previous-sound p none = omega arith
-  previous-sound p (some d) = anchor-sound p d
-
-  proof-sound : (p : ℕ) → Sound (atProof s x low below acc p)
-  unfolding atProof numberOf
-  proof-sound p = if-sound (s .pt p .told .proof) (toPrevious s x low below acc p (previous (s .pt p))) (bad (number 16)) (previous-sound p _) (omega arith)
-
-  used-sound : (i : Id) (o : Option ℕ) → Sound (atUsed s x low below acc i o)
-  unfolding atUsed numberOf
-  used-sound i none = then-sound (needInWalk s i) (atProof s x low below acc) (need-sound s i) proof-sound
-  used-sound i (some a) = if-sound (eqb a (i .author)) (good acc) (bad (number 16)) tt (omega arith)
-
-  visit-sound : (i : Id) → Sound (visit s x low below i acc)
-  unfolding visit numberOf
-  visit-sound i = if-sound (ltb (i .round) x) (below i acc) _ (on i acc) (if-sound (ltb x (i .round)) (bad (number 16)) (atUsed s x low below acc i (s .rounds x .used)) (omega arith) (used-sound i _))
-
-walk-sound : (s : Store) (low k : ℕ) (i : Id) (acc : List Enqueued) → Sound (walk s low k i acc)
-unfolding walk
-walk-sound s low zero i acc = visit-sound s low true (λ i acc. good acc) (λ i acc. tt) acc i
-walk-sound s low (suc k) i acc = visit-sound s (low + suc k) false (walk s low k) (walk-sound s low k) acc i
-
-chain-sound : (s : Store) (t : ℕ) (o : Option ℕ) → Sound (chainFrom s t o)
-unfolding chainFrom checkOldest numberOf
-chain-sound s t none = omega arith
-chain-sound s t (some d) =
-    let low = lowestWalked s in
-    then-sound (walk s low _ _ []) (checkOldest low) (walk-sound s low _ _ []) (λ es. refuse-sound (unlinked low es) 19 (good es) (omega arith) tt)
-
-triggered-sound : (s : Store) (t : ℕ) → Sound (triggered s t)
-unfolding triggered chain numberOf
-triggered-sound s t =
-    refuse-sound (not (resolved (s .pt t))) 9 _ (omega arith) (if-sound (eqb (statusAt s t) 1) (chain s t) _
-    (if-sound (not (s .pt t .told .trigger) || (eqb (roundAt s t) (s .conf .genesis) || emptyWalk s t)) (good []) (chainFrom s t (previous (s .pt t))) tt (chain-sound s t _))
-    (if-sound (triggerConflict s t) (bad (conflict (roundAt s t))) _ (omega arith) (refuse-sound (not (certified s t)) 15 (good []) (omega arith) tt)))
-
-anchors-sound : (s : Store) (i : Id) → Sound (anchorsOf s i)
-unfolding anchorsOf
-anchors-sound s i =
-    refuse-sound (leb 32 (i .author)) 5 _ (omega arith) (if-sound (ltb (i .round) (s .bottom)) (good []) _ tt
-    (refuse-sound (ltb (s .top) (i .round)) 6 _ (omega arith) (refuse-sound (not (isPeer s i)) 5 _ (omega arith) (then-sound (placeOf s i) (triggered s) (place-sound s i) (triggered-sound s)))))
-
-first-sound : (s : Store) (l : List ℕ) → Sound (firstFault s l)
-unfolding firstFault judged
-first-sound s [] = tt
-first-sound s (q ∷ qs) = then-sound (judged s usableInHistory q) (λ x. firstFault s qs) (verdict-sound _ _ _ _ q) (λ x. first-sound s qs)
-
-tested-sound : (s : Store) (a : ℕ) → Sound (tested s a)
-unfolding tested faults
-tested-sound s a =
-    refuse-sound (leb (roundAt s a) (s .conf .genesis)) 22 _ (omega arith) (then-sound (faults s a) _ (first-sound s _)
-    (λ x. refuse-sound (roundsMissing s a) 17 _ (omega arith) (refuse-sound (isFlat s a) 18 (good a) (omega arith) tt)))
-
-test-sound : (s : Store) (left size a : ℕ) → Sound (testAnchor s left size a)
+test-sound : (s : Store) (left size a : ℕ) → Sound Two (testAnchor s left size a)
 unfolding testAnchor
 test-sound s left size a =
-    then-sound (tested s a) _ (tested-sound s a) (λ x. refuse-sound (isWaiting (s .progress .gap)) 20 _ (omega arith) (refuse-sound (ltb left size) 21 (good a) (omega arith) tt))
+    then-sound Two (tested s a) _ (tested-sound Two fine fine-conflict s a) (λ x. refuse-sound Two (isWaiting (s .progress .gap)) 20 _ (two 20 (omega arith)) (refuse-sound Two (ltb left size) 21 (good a) (two 21 (omega arith)) tt))
 
 -- what stopped a commit
 abbrev FineStop : Option Refusal → Type 0
 FineStop none = Unit {0}
-FineStop (some r) = Fine r
+FineStop (some r) = Two r
 
 commit-sound : (s : Store) (b : List ℕ) (at n : ℕ) (es : List Enqueued) → FineStop (commitAll s b at n es .stopped)
 unfolding commitAll
 commit-sound s b at n [] = tt
 commit-sound s b at n (e ∷ es) = go (testAnchor s (length b - at) (length (recordBytes s e)) (e .anchor)) (test-sound s _ _ (e .anchor)) (commit-sound (committedAt s e) _ _ _ es)
   where
-    go : (o : Out ℕ) → Sound o → FineStop (commitAll (committedAt s e) (written b at (recordBytes s e)) (at + length (recordBytes s e)) (suc n) es .stopped)
+    go : (o : Out ℕ) → Sound Two o → FineStop (commitAll (committedAt s e) (written b at (recordBytes s e)) (at + length (recordBytes s e)) (suc n) es .stopped)
         → FineStop ((elim o as (λ x. Finished) [ bad r ↦ record { store = s; buffer = b; anchors = n; stopped = some r } | good a ↦ commitAll (committedAt s e) (written b at (recordBytes s e)) (at + length (recordBytes s e)) (suc n) es ]) .stopped)
     go (bad y) h f = h
     go (good y) h f = f
 
-outlook-sound : (s : Store) (left : ℕ) (es : List Enqueued) → Sound (outlookAll s left es)
-unfolding outlookAll
-outlook-sound s left [] = tt
-outlook-sound s left (e ∷ es) =
-    then-sound (tested s (e .anchor)) _ (tested-sound s (e .anchor)) (λ a.
-    refuse-sound (ltb left (length (outlookBytes s (e .anchor)))) 21 _ (omega arith) (then-sound (outlookAll s _ es) _ (outlook-sound s _ es) (λ rest. tt)))
-
-removing-sound : (s : Store) (r : ℕ) (b bytes : List ℕ) → Sound (removing s r b bytes)
+removing-sound : (s : Store) (r : ℕ) (b bytes : List ℕ) → Sound Two (removing s r b bytes)
 unfolding removing
-removing-sound s r b bytes = refuse-sound (beyond (s .progress .lastAnchor) r) 23 _ (omega arith) (refuse-sound (ltb (length b) (length bytes)) 21 (good bytes) (omega arith) tt)
+removing-sound s r b bytes = refuse-sound Two (beyond (s .progress .lastAnchor) r) 23 _ (two 23 (omega arith)) (refuse-sound Two (ltb (length b) (length bytes)) 21 (good bytes) (two 21 (omega arith)) tt)
 
 -- ---- whole calls
 
@@ -726,7 +609,7 @@ isResetCall c = elim c [ start b ↦ false | resetAll ↦ true | round r peers �
 abbrev NotTwo : Answer → Type 0
 NotTwo a = (n : ℕ) → a ≢ refused (number 2) n
 
-fine-answer : (r : Refusal) (k : ℕ) → Fine r → NotTwo (refused r k)
+fine-answer : (r : Refusal) (k : ℕ) → Two r → NotTwo (refused r k)
 fine-answer r k f n e = f (ap numberOf (is e) ∙ two)
   where
     is : refused r k ≡ refused (number 2) n → r ≡ number 2
@@ -749,7 +632,7 @@ record Goes (o : Outcome) : Type 0 where
   pub rules : Wf (o .store)
   pub answered : NotTwo (o .answer)
 
-finish-goes : (s : Store) → Wf s → (o : Out Store) → Ends Wf o → Goes (finish s o)
+finish-goes : (s : Store) → Wf s → (o : Out Store) → Ends Two Wf o → Goes (finish s o)
 unfolding finish
 finish-goes s w (bad r) h = record { rules = w; answered = fine-answer r 0 h }
 finish-goes s w (good t) h = record { rules = h; answered = done-answer }
@@ -769,23 +652,23 @@ end-goes s b k (some r) w f = record { rules = w; answered = fine-answer r k f }
 
 commit-goes : (s : Store) → Wf s → (i : Id) (b : List ℕ) → Goes (doCommit s i b)
 unfolding doCommit
-commit-goes s w i b = go (anchorsOf s i) refl (anchors-sound s i)
+commit-goes s w i b = go (anchorsOf s i) refl (anchors-sound Two fine fine-conflict s i)
   where
-    go : (o : Out (List Enqueued)) → anchorsOf s i ≡ o → Sound o → Goes (elim o [ bad r ↦ record { answer = refused r 0; store = s; buffer = b } | good es ↦ commitEnd (commitAll s b 0 0 es) ])
+    go : (o : Out (List Enqueued)) → anchorsOf s i ≡ o → Sound Two o → Goes (elim o [ bad r ↦ record { answer = refused r 0; store = s; buffer = b } | good es ↦ commitEnd (commitAll s b 0 0 es) ])
     go (bad r) e h = record { rules = w; answered = fine-answer r 0 h }
     go (good es) e h = end-goes _ _ _ _ (commit-kept s b 0 0 es w (rising-less s (s .bottom) (lowestWalked s) es (omega arith) (anchors-rising s w i es e))) (commit-sound s b 0 0 es)
 
 outlook-goes : (s : Store) → Wf s → (i : Id) (b : List ℕ) → Goes (doOutlook s i b)
 unfolding doOutlook
-outlook-goes s w i b = go (anchorsOf s i) (anchors-sound s i)
+outlook-goes s w i b = go (anchorsOf s i) (anchors-sound Two fine fine-conflict s i)
   where
-    shown : (es : List Enqueued) (o : Out (List ℕ)) → Sound o → Goes (elim o [ bad r ↦ record { answer = refused r 0; store = s; buffer = b } | good bytes ↦ record { answer = handed (length es); store = s; buffer = written b 0 bytes } ])
+    shown : (es : List Enqueued) (o : Out (List ℕ)) → Sound Two o → Goes (elim o [ bad r ↦ record { answer = refused r 0; store = s; buffer = b } | good bytes ↦ record { answer = handed (length es); store = s; buffer = written b 0 bytes } ])
     shown es (bad r) h = record { rules = w; answered = fine-answer r 0 h }
     shown es (good bytes) h = record { rules = w; answered = handed-answer (length es) }
 
-    go : (o : Out (List Enqueued)) → Sound o → Goes (elim o [ bad r ↦ record { answer = refused r 0; store = s; buffer = b } | good es ↦ elim (outlookAll s (length b) es) [ bad r ↦ record { answer = refused r 0; store = s; buffer = b } | good bytes ↦ record { answer = handed (length es); store = s; buffer = written b 0 bytes } ] ])
+    go : (o : Out (List Enqueued)) → Sound Two o → Goes (elim o [ bad r ↦ record { answer = refused r 0; store = s; buffer = b } | good es ↦ elim (outlookAll s (length b) es) [ bad r ↦ record { answer = refused r 0; store = s; buffer = b } | good bytes ↦ record { answer = handed (length es); store = s; buffer = written b 0 bytes } ] ])
     go (bad r) h = record { rules = w; answered = fine-answer r 0 h }
-    go (good es) h = shown es (outlookAll s (length b) es) (outlook-sound s (length b) es)
+    go (good es) h = shown es (outlookAll s (length b) es) (outlook-sound Two fine fine-conflict s (length b) es)
 
 -- the new bottom is a retained round
 pub new-bottom : (s : Store) → Wf s → (r : ℕ) → (s .bottom ≤ newBottom s r) × (newBottom s r ≤ s .top)
@@ -799,7 +682,7 @@ remove-goes s w r from b = go (removing s r b (removeBytes s low from)) (removin
     low : ℕ
     low = newBottom s (r - s .conf .historyRounds)
 
-    go : (o : Out (List ℕ)) → Sound o → Goes (elim o [ bad n ↦ record { answer = refused n 0; store = s; buffer = b } | good bytes ↦ record { answer = done; store = withMemory (drained s low) (memoryAfter s (s .memory) (inspected s low)); buffer = written b 0 bytes } ])
+    go : (o : Out (List ℕ)) → Sound Two o → Goes (elim o [ bad n ↦ record { answer = refused n 0; store = s; buffer = b } | good bytes ↦ record { answer = done; store = withMemory (drained s low) (memoryAfter s (s .memory) (inspected s low)); buffer = written b 0 bytes } ])
     go (bad n) h = record { rules = w; answered = fine-answer n 0 h }
     go (good bytes) h = let (l, m) = new-bottom s w (r - s .conf .historyRounds) in record { rules = numbers-kept (drained s low) _ _ (drain-kept s w low l m); answered = done-answer }
 

@@ -7,7 +7,7 @@ use mathlib.Core.List.{List, [], _∷_, _++_, map, List·Memᴰ, List·Memᴰ·h
 use mathlib.Core.Option.{none, some}
 use lib.Dec.{eqb, leb, ltb}
 use lib.ListN.{length}
-use borrow.Author.Tests.{eqb-true, lt-ltb}
+use borrow.Author.Tests.{eqb-true, lt-ltb, le-ltb}
 use native.Mathlib.Omega.{arith}
 use Rattle.laws.specs.Test.{byTest, both, and-l, and-r, or-l, or-r, or-cases, same-test}
 use Rattle.laws.specs.Scan.{lowest-finds, those, those-elim, those-same}
@@ -18,7 +18,7 @@ use Rattle.spec.specs.Ids.{Id, sameId, idBytes, rises, prev}
 use Rattle.spec.specs.Store.{Point, Round, Conf, Store, idAt, roundAt, statusAt, resolved, links, isNamed, find, previous}
 use Rattle.spec.specs.Paths.{Path, here, E, Top, gives, height, certified, proved}
 use Rattle.spec.specs.Chain.{Out, bad, good, usableInHistory, Enqueued, Onward, enqueue, walk}
-use Rattle.spec.specs.History.{limit, lowest, Need, anchor, hand, needed, inHistory, history, roundsMissing, isExecutable, isAsked, isFirst, prevAnchor, recordBytes, setCommitted, gapAfter, useProof, committedAt, tested, isWaiting, testAnchor, Finished, commitAll}
+use Rattle.spec.specs.History.{limit, lowest, Need, anchor, hand, needed, inHistory, history, roundsMissing, isExecutable, isAsked, isFirst, prevAnchor, recordBytes, setCommitted, gapAfter, useProof, committedAt, isWaiting, testAnchor, Finished, commitAll}
 use Rattle.spec.specs.Graph.{carry}
 use Rattle.spec.specs.Links.{linked, link-made, Linked, fits-elim, resolved-named, down}
 use Rattle.spec.specs.Level.{inside, height-is, Sized}
@@ -26,7 +26,7 @@ use Rattle.spec.specs.Sweep.{needed-is}
 use Rattle.spec.specs.Started.{Wf, Leads}
 use Rattle.spec.specs.Order.{need-named}
 use Rattle.spec.specs.Kept.{mark-kept, rising-mark}
-use Rattle.spec.specs.Walk.{then-good, refuse-good, refuse-back, Found, id-same, find-some, Valid, Visited, over, used-up, ends, goes, visit-good, visit-back, Anchored, Rising, Tested, tested-good, tested-back}
+use Rattle.spec.specs.Walk.{refuse-back, Found, id-same, find-some, Valid, Visited, over, used-up, ends, goes, visit-good, visit-back, Anchored, Rising, Tested, tested-back, test-good}
 
 -- p with another top mark
 abbrev pub reTop : Bool → Point → Point
@@ -122,6 +122,7 @@ unfolding usableInHistory
 usable-by-top s z q n = ap (λ b. eqb (statusAt s q) 1 || (eqb (statusAt s q) 2 && not b)) (proved-top s z q n)
 
 module _ (s t : Store) (ws : Wf s) (wt : Wf t) (la : Late s t) where
+  -- no link is lost
   pub link-up : (p q : ℕ) → E s p q → E t p q
   link-up p q e = link-made _ _ (record {
     by = l .by;
@@ -429,18 +430,10 @@ rising-late s t la b (e ∷ es) (u, x, z) = (subst (λ n. b ≤ n) (sym m) u, an
       above = ap (λ n. n .id .round) (j .is) ∙ (x .above ∙ ap suc (sym m));
     }
 
--- what a commit's tests of one anchor say: its own, the gap question, the room
-pub test-all : (s : Store) (left size a b : ℕ) → testAnchor s left size a ≡ good b → Tested s a × (isWaiting (s .progress .gap) ≡ false) × (ltb left size ≡ false)
+-- an anchor that passes them, with the gap question put and room for its record
+pub test-back : (s : Store) (left size a : ℕ) → Tested s a → isWaiting (s .progress .gap) ≡ false → size ≤ left → testAnchor s left size a ≡ good a
 unfolding testAnchor
-test-all s left size a b h =
-    let (y, u, k) = then-good (tested s a) _ b h in
-    let (g, j) = refuse-good _ 20 _ b k in
-    (tested-good s a y u, g, refuse-good _ 21 _ b j .0)
-
--- and that this is all they say
-pub test-back : (s : Store) (left size a : ℕ) → Tested s a → isWaiting (s .progress .gap) ≡ false → ltb left size ≡ false → testAnchor s left size a ≡ good a
-unfolding testAnchor
-test-back s left size a c g l = rw (tested-back s a c) (refuse-back _ 20 _ g ∙ refuse-back _ 21 _ l)
+test-back s left size a c g l = rw (tested-back s a c) (refuse-back _ 20 _ g ∙ refuse-back _ 21 _ (le-ltb left size l))
 
 -- a commit that nothing stops goes on after its first anchor
 commit-goes : (s : Store) (b : List ℕ) (at n : ℕ) (e : Enqueued) (es : List Enqueued) → commitAll s b at n (e ∷ es) .stopped ≡ none → (a : ℕ) × (testAnchor s (length b - at) (length (recordBytes s e)) (e .anchor) ≡ good a)
@@ -470,7 +463,7 @@ unfolding commitAll
 commit-late s t ws wt la [] low r b at n h = (refl, refl, refl)
 commit-late s t ws wt la (e ∷ es) low r b at n h =
     let (a, u) = commit-goes s b at n e es h in
-    let (c, g, l) = test-all s (length b - at) (length (recordBytes s e)) (e .anchor) a u in
+    let (c, g, l) = test-good s (length b - at) (length (recordBytes s e)) (e .anchor) a u in
     let k : Tested t (e .anchor) = tested-late s t ws wt la e (r .1) c in
     let v : testAnchor t (length b - at) (length (recordBytes t e)) (e .anchor) ≡ good (e .anchor) = test-back t (length b - at) (length (recordBytes t e)) (e .anchor) k (rw (la .progress) g) (rw (record-late s t ws wt la e (r .1) c) l) in
     rw (commit-step s b at n e es a u, commit-step t b at n e es (e .anchor) v) (rw (record-late s t ws wt la e (r .1) c)

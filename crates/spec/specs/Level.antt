@@ -1,17 +1,17 @@
 -- The height function gives the heights by paths, and the local equations have it as their one solution.
-use Prim.Native.Nat.{ℕ, zero, suc, _+_, _-_, _≤_, _<_, max}
-use mathlib.Core.Path.{_≡_, refl, sym, _∙_, subst, ap}
+use Prim.Native.Nat.{ℕ, zero, suc, _≤_, _<_}
+use mathlib.Core.Path.{_≡_, refl, _∙_, subst}
 use mathlib.Core.Logic.{_⊎_, inl, inr, ⊎-elim}
-use mathlib.Core.Bool.{Bool, true, false, _&&_, true≢false, false≢true}
+use mathlib.Core.Bool.{Bool, true, false, false≢true}
 use lib.Dec.{eqb}
-use borrow.Author.Tests.{eqb-true, eqb-false, eq-eqb}
+use borrow.Author.Tests.{eqb-true, eq-eqb}
 use native.Mathlib.Omega.{arith}
 use Rattle.laws.specs.Test.{byTest, clash, le-or-lt, and-l}
-use Rattle.laws.specs.Scan.{any, any-intro, any-elim, best, best-bound, best-met}
-use Rattle.spec.specs.Store.{Point, Store, Conf, linksTo, resolved, roundAt}
+use Rattle.laws.specs.Scan.{any-intro, any-elim, best-bound, best-met}
+use Rattle.spec.specs.Store.{Store, linksTo, roundAt}
 use Rattle.spec.specs.Paths.{Path, here, step, E, isTop, Top, gives, IsHeight, reach, offer, height}
 use Rattle.spec.specs.Heights.{Local, height-unique, local→paths, paths→local}
-use Rattle.spec.specs.Links.{linked, Linked, down}
+use Rattle.spec.specs.Links.{linked, down}
 
 -- 01, 'Forms': a store has points at its places only
 abbrev pub Sized : Store → Type 0

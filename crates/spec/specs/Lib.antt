@@ -16,10 +16,12 @@ pub mod Started
 pub mod Order
 pub mod Walk
 pub mod Ways
+pub mod Refusals
 pub mod Kept
 pub mod Demand
 pub mod Late
 pub mod Second
+pub mod Outlook
 pub mod Records
 pub mod Inv
 pub mod First

@@ -1,15 +1,15 @@
 -- What a link between two points says.
-use Prim.Native.Nat.{ℕ, zero, suc, _+_, _≤_, _<_}
-use mathlib.Core.Path.{_≡_, refl, sym, _∙_, ap}
-use mathlib.Core.Logic.{_⊎_, inl, inr, ⊎-elim}
-use mathlib.Core.Bool.{Bool, true, false, _&&_}
-use mathlib.Core.List.{List, _++_, map, List·Memᴰ, List·Memᴰ·append-cases}
-use borrow.Author.Tests.{eqb-true, eq-eqb, ltb-true, lt-ltb}
+use Prim.Native.Nat.{ℕ, _+_, _≤_, _<_}
+use mathlib.Core.Path.{_≡_, ap}
+use mathlib.Core.Logic.{⊎-elim}
+use mathlib.Core.Bool.{true}
+use mathlib.Core.List.{List, map, List·Memᴰ, List·Memᴰ·append-cases}
+use borrow.Author.Tests.{eqb-true, eq-eqb}
 use native.Mathlib.Omega.{arith}
-use Rattle.laws.specs.Test.{both, and-l, and-r, le-or-lt}
-use Rattle.laws.specs.Lists.{has, has-elim, has-intro, mem-map}
+use Rattle.laws.specs.Test.{both, and-l, and-r}
+use Rattle.laws.specs.Lists.{has-elim, has-intro, mem-map}
 use Rattle.spec.specs.Ids.{Id, Ref, Link, leads, linksOf, fits}
-use Rattle.spec.specs.Store.{Told, Point, Store, resolved, links, linksTo, roundAt}
+use Rattle.spec.specs.Store.{Point, Store, resolved, links, linksTo, roundAt}
 use Rattle.spec.specs.Paths.{E}
 use Rattle.spec.specs.Graph.{Down}
 

@@ -1,21 +1,21 @@
 -- Histories rise by round, inside a round by digest (01: back.rs, 'Forms of the Rust').
-use Prim.Native.Nat.{ℕ, zero, suc, _+_, _≤_, _<_, max}
-use mathlib.Core.Path.{_≡_, refl, sym, _∙_, subst, ap}
-use mathlib.Core.Logic.{_⊎_, inl, inr, ⊎-elim, _↔_}
-use mathlib.Core.Bool.{Bool, true, false, not, _&&_, _||_, true≢false}
-use mathlib.Core.List.{List, [], _∷_, map, List·Memᴰ, List·Memᴰ·head, List·Memᴰ·tail, Memᴰ·cast}
-use lib.Dec.{eqb, leb, ltb}
-use borrow.Author.Tests.{eqb-true, eq-eqb, leb-true, leb-false, le-leb, ltb-true, ltb-false, lt-ltb, not-true}
+use Prim.Native.Nat.{ℕ, _≤_, _<_}
+use mathlib.Core.Path.{_≡_, refl, sym, _∙_, ap, subst}
+use mathlib.Core.Logic.{_⊎_, inl, inr, ⊎-elim}
+use mathlib.Core.Bool.{true, false, Bool}
+use mathlib.Core.List.{List, [], _∷_, List·Memᴰ, List·Memᴰ·head, List·Memᴰ·tail, Memᴰ·cast}
+use lib.Dec.{eqb, ltb}
+use borrow.Author.Tests.{eqb-true, eq-eqb, leb-true, le-leb, ltb-true, lt-ltb}
 use native.Mathlib.Omega.{arith}
-use Rattle.laws.specs.Test.{byTest, both, and-l, and-r, or-l, or-r, or-cases, leOr, sameOr}
+use Rattle.laws.specs.Test.{clash, both, and-l, and-r, or-l, or-r, or-cases, leOr, sameOr}
 use Rattle.laws.specs.Scan.{those, those-elim, those-intro, those-nodup}
 use Rattle.laws.specs.Lists.{NoDup, Pairs, mem-map, map-mem, map-nodup}
-use Rattle.laws.specs.Sort.{sort, sort-mem, sort-once, sort-rises}
-use Rattle.spec.specs.Ids.{Id, rises}
-use Rattle.spec.specs.Store.{Point, Flags, Store, idAt, roundAt}
-use Rattle.spec.specs.History.{Need, anchor, hand, marks, needed, inHistory, history}
-use Rattle.spec.specs.Links.{linked, Linked}
-use Rattle.spec.specs.Level.{Sized, inside}
+use Rattle.laws.specs.Sort.{sort-mem, sort-once, sort-rises}
+use Rattle.spec.specs.Ids.{Id, byRound, rises, falls}
+use Rattle.spec.specs.Store.{Store, idAt}
+use Rattle.spec.specs.History.{Need, anchor, hand, needed, inHistory, history}
+use Rattle.spec.specs.Links.{linked}
+use Rattle.spec.specs.Level.{inside}
 use Rattle.spec.specs.Sweep.{marked→need}
 use Rattle.spec.specs.Started.{Wf}
 
@@ -23,31 +23,64 @@ use Rattle.spec.specs.Started.{Wf}
 abbrev pub Before : Id → Id → Type 0
 Before x y = (x .round < y .round) ⊎ ((x .round ≡ y .round) × (x .digest < y .digest))
 
+-- the order of rounds: transitive, and of two rounds that differ one comes first
+module _ (less : ℕ → ℕ → Bool) (chain : (a b c : ℕ) → less a b ≡ true → less b c ≡ true → less a c ≡ true) (total : (a b : ℕ) → (a ≡ b) ⊎ ((less a b ≡ true) ⊎ (less b a ≡ true))) where
+  abbrev First : Id → Id → Type 0
+  First x y = (less (x .round) (y .round) ≡ true) ⊎ ((x .round ≡ y .round) × (x .digest ≤ y .digest))
+
+  by-elim : (x y : Id) → byRound less x y ≡ true → First x y
+  unfolding byRound
+  by-elim x y h = ⊎-elim (λ t. inl t) (λ t. inr (eqb-true _ _ (and-l _ _ t), leb-true _ _ (and-r (eqb (x .round) (y .round)) _ t))) (or-cases _ _ h)
+
+  by-intro : (x y : Id) → First x y → byRound less x y ≡ true
+  unfolding byRound
+  by-intro x y (inl l) = or-l _ _ l
+  by-intro x y (inr (e, l)) = or-r (less (x .round) (y .round)) _ (both (eq-eqb _ _ e) (le-leb _ _ l))
+
+  by-total : (x y : Id) → byRound less x y ≡ false → byRound less y x ≡ true
+  by-total x y f =
+      ⊎-elim
+      (λ e. leOr (y .digest) (x .digest) (λ m. by-intro y x (inr (sym e, m))) (λ m. absurd (clash (by-intro x y (inr (e, omega arith))) f)))
+      (λ d. ⊎-elim (λ l. absurd (clash (by-intro x y (inl l)) f)) (λ l. by-intro y x (inl l)) d)
+      (total (x .round) (y .round))
+
+  by-trans : (x y z : Id) → byRound less x y ≡ true → byRound less y z ≡ true → byRound less x z ≡ true
+  by-trans x y z h k = by-intro x z (go (by-elim x y h) (by-elim y z k))
+    where
+      go : First x y → First y z → First x z
+      go (inl a) (inl b) = inl (chain _ _ _ a b)
+      go (inl a) (inr (e, b)) = inl (subst (λ n. less (x .round) n ≡ true) e a)
+      go (inr (e, a)) (inl b) = inl (subst (λ n. less n (z .round) ≡ true) (sym e) b)
+      go (inr (e, a)) (inr (f, b)) = inr (e ∙ f, omega arith)
+
+less-chain : (a b c : ℕ) → ltb a b ≡ true → ltb b c ≡ true → ltb a c ≡ true
+less-chain a b c h k = lt-ltb a c (omega (arith, ltb-true a b h, ltb-true b c k))
+
+less-total : (a b : ℕ) → (a ≡ b) ⊎ ((ltb a b ≡ true) ⊎ (ltb b a ≡ true))
+less-total a b = sameOr a b inl (λ n. leOr a b (λ l. inr (inl (lt-ltb a b (omega arith)))) (λ l. inr (inr (lt-ltb b a l))))
+
+more-total : (a b : ℕ) → (a ≡ b) ⊎ ((ltb b a ≡ true) ⊎ (ltb a b ≡ true))
+more-total a b = ⊎-elim inl (λ d. ⊎-elim (λ l. inr (inr l)) (λ l. inr (inl l)) d) (less-total a b)
+
 pub rises-elim : (x y : Id) → rises x y ≡ true → (x .round < y .round) ⊎ ((x .round ≡ y .round) × (x .digest ≤ y .digest))
 unfolding rises
-rises-elim x y h = ⊎-elim (λ t. inl (ltb-true _ _ t)) (λ t. inr (eqb-true _ _ (and-l _ _ t), leb-true _ _ (and-r (eqb (x .round) (y .round)) _ t))) (or-cases _ _ h)
-
-rises-intro : (x y : Id) → (x .round < y .round) ⊎ ((x .round ≡ y .round) × (x .digest ≤ y .digest)) → rises x y ≡ true
-unfolding rises
-rises-intro x y (inl l) = or-l _ _ (lt-ltb _ _ l)
-rises-intro x y (inr (e, l)) = or-r (ltb (x .round) (y .round)) _ (both (eq-eqb _ _ e) (le-leb _ _ l))
+rises-elim x y h = ⊎-elim (λ l. inl (ltb-true _ _ l)) inr (by-elim ltb less-chain less-total x y h)
 
 rises-total : (x y : Id) → rises x y ≡ false → rises y x ≡ true
-rises-total x y f =
-    leOr (y .round) (x .round)
-    (λ l. sameOr (y .round) (x .round)
-    (λ e. leOr (y .digest) (x .digest) (λ m. rises-intro y x (inr (e, m))) (λ m. absurd (true≢false (sym (rises-intro x y (inr (sym e, omega arith))) ∙ f))))
-    (λ n. rises-intro y x (inl (omega arith))))
-    (λ l. absurd (true≢false (sym (rises-intro x y (inl l)) ∙ f)))
+unfolding rises
+rises-total = by-total ltb less-chain less-total
 
 rises-trans : (x y z : Id) → rises x y ≡ true → rises y z ≡ true → rises x z ≡ true
-rises-trans x y z h k = rises-intro x z (go (rises-elim x y h) (rises-elim y z k))
-  where
-    go : (x .round < y .round) ⊎ ((x .round ≡ y .round) × (x .digest ≤ y .digest)) → (y .round < z .round) ⊎ ((y .round ≡ z .round) × (y .digest ≤ z .digest)) → (x .round < z .round) ⊎ ((x .round ≡ z .round) × (x .digest ≤ z .digest))
-    go (inl a) (inl b) = inl (omega arith)
-    go (inl a) (inr (e, b)) = inl (omega arith)
-    go (inr (e, a)) (inl b) = inl (omega arith)
-    go (inr (e, a)) (inr (f, b)) = inr (e ∙ f, omega arith)
+unfolding rises
+rises-trans = by-trans ltb less-chain less-total
+
+pub falls-total : (x y : Id) → falls x y ≡ false → falls y x ≡ true
+unfolding falls
+falls-total = by-total (λ m n. ltb n m) (λ a b c h k. less-chain c b a k h) more-total
+
+pub falls-trans : (x y z : Id) → falls x y ≡ true → falls y z ≡ true → falls x z ≡ true
+unfolding falls
+falls-trans = by-trans (λ m n. ltb n m) (λ a b c h k. less-chain c b a k h) more-total
 
 -- pairs in a list without repeats
 strict : {A : Type 0} (R S : A → A → Type 0) (l : List A) → Pairs R l → NoDup l → ((x y : A) → List·Memᴰ x l → List·Memᴰ y l → R x y → (x ≡ y → ⊥) → S x y) → Pairs S l

@@ -1,11 +1,11 @@
 -- Paths of links and heights (01: cert.rs, 'Demand 3').
-use Prim.Native.Nat.{ℕ, zero, suc, _+_, _-_, _<_, _≤_}
+use Prim.Native.Nat.{ℕ, zero, suc, _-_, _≤_}
 use mathlib.Core.Path.{_≡_}
 use mathlib.Core.Logic.{_⊎_}
-use mathlib.Core.Bool.{Bool, true, false, _&&_, _||_}
-use lib.Dec.{eqb, leb, ltb}
+use mathlib.Core.Bool.{Bool, true, false, _&&_}
+use lib.Dec.{eqb, ltb}
 use Rattle.laws.specs.Scan.{any, best}
-use Rattle.spec.specs.Store.{Point, Store, Conf, Flags, linksTo, roundAt}
+use Rattle.spec.specs.Store.{Store, linksTo, roundAt}
 
 -- 01, 'Demand 3': "A *path* is zero or more links". Over any relation of points.
 pub data Path {A : Type 0} (E : A → A → Type 0) : A → A → Type 0 where

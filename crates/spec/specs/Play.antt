@@ -1,10 +1,9 @@
 -- Lists of calls played on the definitions, and tables of what they give.
-use Prim.Native.Nat.{ℕ, zero, suc, _+_, _-_, _<_, _≤_}
+use Prim.Native.Nat.{ℕ, zero, suc}
 use mathlib.Core.Path.{_≡_, refl, ap₂}
-use mathlib.Core.List.{List, [], _∷_, _++_, map, List·Memᴰ}
+use mathlib.Core.List.{List, [], _∷_, List·Memᴰ}
 use mathlib.Core.Bool.{Bool, true, false, _&&_, false≢true}
-use mathlib.Core.Option.{Option, none, some}
-use lib.ListN.{length, getD, replicate}
+use mathlib.Core.Option.{Option, none}
 use lib.Dec.{eqb}
 use borrow.Author.Tests.{eqb-true}
 use Rattle.laws.specs.Test.{and-l, and-r}
@@ -23,13 +22,12 @@ use Rattle.laws.specs.Sort
 use Rattle.laws.specs.Bytes
 use Rattle.laws.specs.Peers
 use Rattle.spec.specs.Ids.{Id, Ref}
-use Rattle.spec.specs.Store.{Told, Store, Conf, Progress, Phase, other, noId, noRound, noMemory, unresolved, free, withProgress}
+use Rattle.spec.specs.Store.{Told, Store, Conf, other, noRound, noMemory, free}
 use Rattle.spec.specs.Paths.{height}
-use Rattle.spec.specs.Chain.{Refusal, Enqueued, number}
 use Rattle.spec.specs.History.{limit, prevAnchor}
-use Rattle.spec.specs.Inspect.{Counters, score}
+use Rattle.spec.specs.Inspect.{score}
 use Rattle.spec.specs.Demand.{after}
-use Rattle.spec.specs.Calls.{Answer, done, said, handed, refused, numberOf, Outcome, Beginning, Call, start, round, name, resolve, certify, commit, drop, call, begun}
+use Rattle.spec.specs.Calls.{Answer, done, said, handed, refused, numberOf, Call, start, round, call, begun}
 
 -- a row of a table: its number, what the definitions give, what 01 says
 pub record Row : Type 0 where
@@ -80,7 +78,7 @@ rounds r (suc n) = round r 3 ∷ rounds (suc r) n
 
 -- the tables are computed: `unfolding computed` opens every definition that they read
 unfoldable pub computed : ℕ
-unfolding Ids.idBytes Ids.sameId Ids.rises Ids.falls Ids.linksOf Ids.fits Store.resolved Store.linksTo Store.isNamed Store.find Store.under Store.word Store.withPoints Store.withNumbers Paths.reach Paths.offer Paths.height Paths.certified Paths.proved Rules.isPeer Rules.twin Rules.version Rules.refsRise Rules.kindOk Rules.wellFormed Rules.wild Rules.usedOk Rules.confOk Rules.placesOk Rules.roundsOk Rules.idOk Rules.linksOk Rules.certOk Rules.placeOk Rules.isStarted Rules.isReset Rules.counts Rules.wasReset Chain.refuse Chain.usableInWalk Chain.usableInHistory Chain.verdict Chain.judged Chain.needInWalk Chain.enqueue Chain.toAnchor Chain.toPrevious Chain.atProof Chain.atUsed Chain.visit Chain.walk Chain.orZero Chain.unlinked Chain.checkOldest Chain.chainFrom Chain.chain Chain.triggerConflict Chain.triggered Chain.placeOf Chain.anchorsOf History.limit History.hands History.pass History.sweep History.marks History.needed History.inHistory History.history History.firstFault History.faults History.roundsMissing History.isFlat History.tested History.isWaiting History.testAnchor History.isExecutable History.isAsked History.isFirst History.prevAnchor History.recordBytes History.setCommitted History.gapAfter History.useProof History.committedAt History.commitAll History.outlookBytes History.outlookAll Inspect.placesIn Inspect.isFound Inspect.isValid Inspect.isProved Inspect.isTransInvalid Inspect.isInvalid Inspect.isIllFormed Inspect.isTrusted Inspect.refersTo Inspect.includedBy Inspect.witnessedBy Inspect.misses Inspect.entryOf Inspect.remember Inspect.holds Inspect.larger Inspect.greatest Inspect.due Inspect.reported Inspect.proofs Inspect.authoredThen Inspect.authoredNow Inspect.isNil Inspect.blames Inspect.counted Inspect.add Inspect.merge Inspect.upFrom Inspect.lastNonExecutable Inspect.inspected Inspect.seen Inspect.memoryAfter Inspect.shown Inspect.since Inspect.total Inspect.statsOf Inspect.band Inspect.weight Inspect.counterList Inspect.scoreFrom Inspect.score Inspect.onlyIf Inspect.singles Inspect.equivocations Inspect.noInclusions Inspect.over Inspect.events Inspect.statsBytes Inspect.eventBytes Inspect.isSome Inspect.removeBytes Calls.numberOf Calls.conflictRound Calls.finish Calls.startOk Calls.fullBottomAt Calls.begun Calls.memoryKept Calls.doStart Calls.cleared Calls.addRound Calls.doRound Calls.atId Calls.newPoint Calls.nameAt Calls.intoFree Calls.doName Calls.settled Calls.resolvedAs Calls.resolveAt Calls.resolving Calls.doResolve Calls.setTop Calls.certifyAt Calls.doCertify Calls.doAsk Calls.commitEnd Calls.doCommit Calls.doOutlook Calls.drained Calls.newBottom Calls.beyond Calls.removing Calls.doRemove Calls.doDrop Calls.lent Calls.act Calls.isStart Calls.call Scan.any Scan.every Scan.firstFrom Scan.first Scan.lowest Scan.those Scan.best Lists.has Lists.keep Lists.count Lists.joined Lists.upTo Sort.insert Sort.sort Bytes.be Bytes.written Peers.member after
+unfolding Ids.idBytes Ids.sameId Ids.byRound Ids.rises Ids.falls Ids.linksOf Ids.fits Store.resolved Store.linksTo Store.isNamed Store.find Store.under Store.word Store.withPoints Store.withNumbers Paths.reach Paths.offer Paths.height Paths.certified Paths.proved Rules.isPeer Rules.twin Rules.version Rules.refsRise Rules.kindOk Rules.wellFormed Rules.wild Rules.usedOk Rules.confOk Rules.placesOk Rules.roundsOk Rules.idOk Rules.linksOk Rules.certOk Rules.placeOk Rules.isStarted Rules.isReset Rules.counts Rules.wasReset Chain.refuse Chain.usableInWalk Chain.usableInHistory Chain.verdict Chain.judged Chain.needInWalk Chain.enqueue Chain.toAnchor Chain.toPrevious Chain.atProof Chain.atUsed Chain.visit Chain.walk Chain.orZero Chain.unlinked Chain.checkOldest Chain.chainFrom Chain.chain Chain.triggerConflict Chain.triggered Chain.placeOf Chain.anchorsOf History.limit History.hands History.pass History.sweep History.marks History.needed History.inHistory History.history History.firstFault History.faults History.roundsMissing History.isFlat History.tested History.isWaiting History.testAnchor History.isExecutable History.isAsked History.isFirst History.prevAnchor History.recordBytes History.setCommitted History.gapAfter History.useProof History.committedAt History.commitAll History.outlookBytes History.outlookAll Inspect.placesIn Inspect.isFound Inspect.isValid Inspect.isProved Inspect.isTransInvalid Inspect.isInvalid Inspect.isIllFormed Inspect.isTrusted Inspect.refersTo Inspect.includedBy Inspect.witnessedBy Inspect.misses Inspect.entryOf Inspect.remember Inspect.holds Inspect.larger Inspect.greatest Inspect.due Inspect.reported Inspect.proofs Inspect.authoredThen Inspect.authoredNow Inspect.isNil Inspect.blames Inspect.counted Inspect.add Inspect.merge Inspect.upFrom Inspect.lastNonExecutable Inspect.inspected Inspect.seen Inspect.memoryAfter Inspect.shown Inspect.since Inspect.total Inspect.statsOf Inspect.band Inspect.weight Inspect.counterList Inspect.scoreFrom Inspect.score Inspect.onlyIf Inspect.singles Inspect.equivocations Inspect.noInclusions Inspect.over Inspect.events Inspect.statsBytes Inspect.eventBytes Inspect.isSome Inspect.removeBytes Calls.numberOf Calls.conflictRound Calls.finish Calls.startOk Calls.fullBottomAt Calls.begun Calls.memoryKept Calls.doStart Calls.cleared Calls.addRound Calls.doRound Calls.atId Calls.newPoint Calls.nameAt Calls.intoFree Calls.doName Calls.settled Calls.resolvedAs Calls.resolveAt Calls.resolving Calls.doResolve Calls.setTop Calls.certifyAt Calls.doCertify Calls.doAsk Calls.commitEnd Calls.doCommit Calls.doOutlook Calls.drained Calls.newBottom Calls.beyond Calls.removing Calls.doRemove Calls.doDrop Calls.lent Calls.act Calls.isStart Calls.call Scan.any Scan.every Scan.firstFrom Scan.first Scan.lowest Scan.those Scan.best Lists.has Lists.keep Lists.count Lists.joined Lists.upTo Sort.insert Sort.sort Bytes.be Bytes.written Peers.member after
 computed = 0
 
 -- an answer as numbers: 0 done, 1 yes, 2 no, 3 with the anchors, 4 with the refusal's number and the finished anchors

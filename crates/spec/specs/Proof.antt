@@ -1,38 +1,37 @@
 -- Demand 3: the proof of the statement in Demand.antt.
-use Prim.Native.Nat.{ℕ, zero, suc, _+_, _-_, _*_, _^_, _≤_, _<_, max, min}
+use Prim.Native.Nat.{ℕ, suc, _+_, _-_, _^_, _≤_, _<_, max}
 use mathlib.Core.Path.{_≡_, refl, sym, _∙_, subst, ap, ap₂}
-use mathlib.Core.Logic.{_⊎_, inl, inr, _≢_, _↔_, ⊎-elim}
-use mathlib.Core.Bool.{Bool, true, false, not, _&&_, _||_, cond, false≢true}
+use mathlib.Core.Logic.{_⊎_, inl, inr, _↔_, ⊎-elim}
+use mathlib.Core.Bool.{true, false, false≢true}
 use mathlib.Core.List.{List, [], _∷_, _++_, map, append-assoc, append-nil, List·Memᴰ, List·Memᴰ·head, List·Memᴰ·tail, List·Memᴰ·not-nil, List·Memᴰ·cases-cons, List·Memᴰ·append-cases, List·Memᴰ·eq-of-singleton, Memᴰ·append-left, Memᴰ·append-right}
 use mathlib.Core.Option.{Option, none, some}
-use lib.Dec.{leb, ltb}
-use lib.ListN.{length, take, drop, length-map}
+use lib.Dec.{ltb}
+use lib.ListN.{length, take, length-map}
 use borrow.Author.Tests.{leb-true, le-leb, ltb-true}
 use native.Mathlib.Omega.{arith}
 use native.Mathlib.Nat.{le-trans, sub-zero, zero-add}
-use Rattle.laws.specs.Test.{byTest, clash, yes-or-no, both, and-l, and-r}
+use Rattle.laws.specs.Test.{yes-or-no, both, and-l, and-r}
 use Rattle.laws.specs.Scan.{those, those-most}
 use Rattle.laws.specs.Lists.{NoDup, nodup-append, joined}
 use Rattle.laws.specs.Bytes.{written}
-use Rattle.laws.specs.Sort.{sort, sort-length}
-use Rattle.spec.specs.Ids.{Id, Link, linksOf, fits, rises}
-use Rattle.spec.specs.Store.{Told, Flags, Point, Conf, Progress, Memory, Store, idAt, roundAt, resolved, links, retained, withMemory, withNumbers}
+use Rattle.laws.specs.Sort.{sort-length}
+use Rattle.spec.specs.Ids.{Id, rises}
+use Rattle.spec.specs.Store.{Told, Progress, Memory, Store, idAt, roundAt, resolved, retained, withNumbers}
 use Rattle.spec.specs.Paths.{Path, here, step, E}
-use Rattle.spec.specs.Rules.{isPeer, placesOk, lastRound}
+use Rattle.spec.specs.Rules.{isPeer, placesOk}
 use Rattle.spec.specs.Chain.{Refusal, Out, bad, good, Enqueued, orZero, anchorsOf}
-use Rattle.spec.specs.History.{limit, lowest, inHistory, history, recordBytes, testAnchor, isWaiting, committedAt, Finished, commitAll}
-use Rattle.spec.specs.Inspect.{inspected, memoryAfter, removeBytes}
-use Rattle.spec.specs.Calls.{Answer, done, said, handed, refused, Outcome, quiet, finish, Beginning, startOk, memoryKept, doStart, begun, doRound, doName, doResolve, doCertify, doAsk, commitEnd, doCommit, doOutlook, drained, newBottom, removing, doRemove, doDrop, Call, start, resetAll, round, name, resolve, certify, ask, commit, outlook, remove, drop as dropTo, act, call}
-use Rattle.spec.specs.Graph.{snoc, path-down, append}
-use Rattle.spec.specs.Links.{down, linked, resolved-named}
+use Rattle.spec.specs.History.{limit, lowest, inHistory, history, recordBytes, testAnchor, committedAt, Finished, commitAll}
+use Rattle.spec.specs.Calls.{refused, Outcome, finish, Beginning, startOk, memoryKept, doStart, begun, doResolve, commitEnd, doCommit, drained, newBottom, Call, start, resetAll, round, name, resolve, certify, ask, commit, outlook, remove, drop as dropTo, act, call}
+use Rattle.spec.specs.Graph.{snoc, path-down}
+use Rattle.spec.specs.Links.{down, linked}
 use Rattle.spec.specs.Started.{Wf}
 use Rattle.spec.specs.Order.{history-elim, history-named, history-once}
-use Rattle.spec.specs.Ways.{finish-store, ask-way, remove-way, drop-way, round-way, Naming, name-way, Resolving, resolve-way, Certifying, certify-way}
+use Rattle.spec.specs.Ways.{finish-store, ask-way, remove-way, drop-way, round-way, name-way, resolve-way, certify-way}
 use Rattle.spec.specs.Demand.{InList, AllInList, History, readRecords, finished, wrote, histories, Given, accepted, gave, resolutions, Edge, Exact, AllExact, FirstHalf, Demand3}
 use Rattle.spec.specs.Second.{second-half}
 use Rattle.spec.specs.Records.{Fits, Event, passed, bytesOf, commit-buffer, Readable, read-all, readAs}
 use Rattle.spec.specs.Kept.{begun-kept, call-act, start-begun, start-same, new-bottom}
-use Rattle.spec.specs.Inv.{Inv, Next, hist-paths, history-is}
+use Rattle.spec.specs.Inv.{Inv, hist-paths, history-is}
 use Rattle.spec.specs.First.{ids, allIds, Right, AllRight, finishes, eventsOf, Keeps, call-keeps, outlook-store}
 use Rattle.spec.specs.Whole.{givenOf, given, Log, edge-down, path-under, edge-link, ids→places, places→ids, numbers-log, round-log, cert-log, mark-log, drain-log, name-log, res-log, res-first}
 

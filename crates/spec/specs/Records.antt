@@ -1,23 +1,21 @@
 -- The records that a commit writes, and the histories read back from its buffer.
-use Prim.Native.Nat.{ℕ, zero, suc, _+_, _-_, _*_, _^_, _≤_, _<_}
+use Prim.Native.Nat.{ℕ, suc, _+_, _-_, _*_, _^_, _≤_, _<_}
 use mathlib.Core.Path.{_≡_, refl, sym, _∙_, subst, ap, ap₂}
 use mathlib.Core.Option.{some}
-use mathlib.Core.Bool.{Bool, true, false, cond}
-use mathlib.Core.List.{List, [], _∷_, _++_, map, append-assoc, append-nil, List·Memᴰ, List·Memᴰ·head, List·Memᴰ·tail}
-use lib.Dec.{ltb}
+use mathlib.Core.Bool.{cond}
+use mathlib.Core.List.{List, [], _∷_, _++_, map, append-assoc, List·Memᴰ, List·Memᴰ·head, List·Memᴰ·tail}
 use lib.ListN.{length, take, drop, length-append, take-append-drop}
 use lib.Seq.{take-at, drop-at, drop-drop, take-append-add, length-take-le}
-use borrow.Author.Tests.{ltb-false}
 use native.Mathlib.Omega.{arith}
-use native.Mathlib.Nat.{add-suc, add-assoc, add-zero}
+use native.Mathlib.Nat.{add-zero}
 use Rattle.laws.specs.Lists.{joined}
 use Rattle.laws.specs.Bytes.{be, be-length, value, value-be-fits, written, written-length, written-is}
 use Rattle.spec.specs.Ids.{Id, idBytes}
-use Rattle.spec.specs.Store.{Store, Conf, Progress, idAt, roundAt}
-use Rattle.spec.specs.Chain.{Refusal, Out, bad, good, Enqueued}
-use Rattle.spec.specs.History.{history, isExecutable, prevAnchor, recordBytes, isWaiting, testAnchor, committedAt, Finished, commitAll}
+use Rattle.spec.specs.Store.{Store, idAt}
+use Rattle.spec.specs.Chain.{Out, bad, good, Enqueued}
+use Rattle.spec.specs.History.{history, isExecutable, prevAnchor, recordBytes, testAnchor, committedAt, Finished, commitAll}
 use Rattle.spec.specs.Demand.{readId, readIds, History, readRecords}
-use Rattle.spec.specs.Walk.{Tested, test-good}
+use Rattle.spec.specs.Walk.{test-good}
 
 -- ---- ids
 

@@ -1,7 +1,7 @@
 -- The rules of the tables (01: 'Forms of the Rust', first bullet; 'Refusals' 5 to 8, 11, 12 and start's ranges).
-use Prim.Native.Nat.{ℕ, suc, _+_, _-_, _<_, _≤_}
+use Prim.Native.Nat.{ℕ, suc, _+_, _-_}
 use mathlib.Core.List.{List, [], _∷_}
-use mathlib.Core.Bool.{Bool, true, false, not, _&&_, _||_}
+use mathlib.Core.Bool.{Bool, true, false, not, _&&_}
 use mathlib.Core.Option.{Option, none, some}
 use lib.Dec.{eqb, leb, ltb}
 use lib.ListN.{length}
@@ -9,8 +9,8 @@ use Rattle.laws.specs.Test.{only}
 use Rattle.laws.specs.Scan.{any, every, those}
 use Rattle.laws.specs.Lists.{has}
 use Rattle.laws.specs.Peers.{member}
-use Rattle.spec.specs.Ids.{Id, Ref, Link, linksOf, fits}
-use Rattle.spec.specs.Store.{Told, Point, Store, Phase, started, reset, other, Conf, Round, idAt, roundAt, statusAt, resolved, links, retained}
+use Rattle.spec.specs.Ids.{Id, Ref, Link, fits}
+use Rattle.spec.specs.Store.{Told, Store, Phase, started, reset, other, Conf, idAt, roundAt, resolved, links, retained}
 use Rattle.spec.specs.Paths.{height}
 
 -- 5: "author not a peer of its round"

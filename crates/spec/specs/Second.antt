@@ -2,14 +2,14 @@
 use Prim.Native.Nat.{ℕ, suc, _+_, _-_, _≤_, _<_, max}
 use mathlib.Core.Path.{_≡_, refl, sym, _∙_, subst, ap, ap₂}
 use mathlib.Core.Logic.{_⊎_, inl, inr, ⊎-elim, _≢_}
-use mathlib.Core.Bool.{Bool, true, false, not, _&&_, _||_, cond, true≢false}
+use mathlib.Core.Bool.{true, false, not, _&&_, _||_, cond}
 use mathlib.Core.List.{List, [], _∷_}
 use mathlib.Core.Option.{Option, none, some}
 use lib.Dec.{eqb, leb, ltb}
 use lib.ListN.{length}
 use borrow.Author.Tests.{leb-false, ltb-false, eqb-true, ne-eqb, le-ltb, not-false}
 use native.Mathlib.Omega.{arith}
-use Rattle.laws.specs.Test.{clash, or-r}
+use Rattle.laws.specs.Test.{clash, or-r, or-none}
 use Rattle.laws.specs.Peers.{member}
 use Rattle.spec.specs.Ids.{Id, prev}
 use Rattle.spec.specs.Store.{Told, Round, Progress, Store, idAt, roundAt, statusAt, resolved, find, previous, withPoints}
@@ -240,10 +240,6 @@ fires s i e es h = let (a, k) = refuse-good (leb 32 (i .author)) 5 _ (e ∷ es) 
 walk-bound : (w n u : ℕ) → w < n → n ≤ u → w + (n - 1 - w) ≤ u
 walk-bound w n u h k = omega arith
 
-off-r : (x y : Bool) → (x || y) ≡ false → y ≡ false
-off-r true y h = absurd (true≢false h)
-off-r false y h = h
-
 module _ (s t : Store) (ws : Wf s) (wt : Wf t) (la : Late s t) where
   chained-late : (q : ℕ) (es : List Enqueued) → resolved (s .pt q) ≡ true → roundAt s q ≤ s .top → Chained s q es → Chained t q es
   chained-late q es d u c = record {
@@ -264,7 +260,7 @@ module _ (s t : Store) (ws : Wf s) (wt : Wf t) (la : Late s t) where
       low-is = ap₂ max (ap (λ (z : Progress). orZero (z .lastProof)) (la .progress)) (la .bottom)
 
       past : lowestWalked s < roundAt s q
-      past = leb-false _ _ (off-r (eqb (roundAt s q) (s .conf .genesis)) _ (off-r (not (s .pt q .told .trigger)) _ (c .goes-on)))
+      past = leb-false _ _ (or-none (eqb (roundAt s q) (s .conf .genesis)) _ (or-none (not (s .pt q .told .trigger)) _ (c .goes-on) .1) .1)
 
   -- a trigger that yields an anchor yields the same anchors later
   pub fires-late : (i : Id) (es : List Enqueued) → Fires s i es → Fires t i es
@@ -323,7 +319,8 @@ handed-anchor s i b n h = go (anchorsOf s i) refl h
     go (good []) e k = absurd (let z = handed-end (commitAll s b 0 0 []) (suc n) k .1 in omega arith)
     go (good (x ∷ es)) e k = (x, es, e, handed-end _ (suc n) k .0)
 
-commit-is : (s : Store) → Wf s → (i : Id) (b : List ℕ) → call s (commit i b) ≡ doCommit s i b
+-- a commit of tables that keep their rules
+pub commit-is : (s : Store) → Wf s → (i : Id) (b : List ℕ) → call s (commit i b) ≡ doCommit s i b
 unfolding act
 commit-is s w i b = call-act s w (commit i b)
 

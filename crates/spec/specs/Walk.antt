@@ -1,21 +1,21 @@
 -- The ways in which a walk and an anchor's tests come out well, there and back.
-use Prim.Native.Nat.{ℕ, zero, suc, _+_, _-_, _≤_, _<_, max}
+use Prim.Native.Nat.{ℕ, zero, suc, _+_, _-_, _≤_, _<_}
 use mathlib.Core.Path.{_≡_, refl, sym, _∙_, subst, ap}
-use mathlib.Core.Logic.{_⊎_, inl, inr, _≢_, ⊎-elim}
-use mathlib.Core.Bool.{Bool, true, false, not, _&&_, _||_, cond, true≢false, false≢true}
+use mathlib.Core.Logic.{_⊎_, inl, inr}
+use mathlib.Core.Bool.{Bool, true, false, _&&_, true≢false, false≢true}
 use mathlib.Core.List.{List, [], _∷_, List·Memᴰ, List·Memᴰ·head, List·Memᴰ·tail, List·Memᴰ·cases-cons, List·Memᴰ·not-nil}
 use mathlib.Core.Option.{Option, none, some}
 use lib.Dec.{eqb, leb, ltb}
-use borrow.Author.Tests.{eqb-true, leb-true, leb-false, ltb-true, ltb-false, eq-eqb, le-leb, lt-ltb, lt-leb, le-ltb, not-true, ne-eqb, eqb-false}
+use borrow.Author.Tests.{eqb-true, leb-false, ltb-true, ltb-false, eq-eqb, lt-ltb, lt-leb, le-ltb, eqb-false}
 use native.Mathlib.Omega.{arith}
-use Rattle.laws.specs.Test.{byTest, clash, yes-or-no, both, and-l, and-r, or-l, or-r, or-cases}
-use Rattle.laws.specs.Scan.{any, any-intro, any-elim, any-none, lowest-some, those, those-intro, those-elim}
-use Rattle.laws.specs.Sort.{sort, sort-mem}
+use Rattle.laws.specs.Test.{byTest, both, and-l, and-r}
+use Rattle.laws.specs.Scan.{any, any-elim, any-none, lowest-some, those-intro, those-elim}
+use Rattle.laws.specs.Sort.{sort-mem}
 use Rattle.spec.specs.Ids.{Id, sameId, falls, prev}
-use Rattle.spec.specs.Store.{Told, Flags, Point, Round, Conf, Progress, Store, idAt, roundAt, statusAt, resolved, isNamed, find, previous}
-use Rattle.spec.specs.Paths.{height, certified, proved}
+use Rattle.spec.specs.Store.{Store, idAt, roundAt, statusAt, resolved, isNamed, find, previous}
+use Rattle.spec.specs.Paths.{height}
 use Rattle.spec.specs.Chain.{Refusal, number, conflict, Out, bad, good, then, refuse, usableInWalk, usableInHistory, verdict, judged, needInWalk, Enqueued, Onward, enqueue, toAnchor, toPrevious, atProof, atUsed, visit, walk}
-use Rattle.spec.specs.History.{limit, needed, inHistory, firstFault, faults, roundsMissing, isFlat, tested, isWaiting, testAnchor}
+use Rattle.spec.specs.History.{needed, inHistory, firstFault, faults, roundsMissing, isFlat, tested, isWaiting, testAnchor}
 
 -- ---- tests that came out well
 

@@ -1,0 +1,512 @@
+-- The outlook refuses as the commit would (01: commit/mod.rs, 'Refusals').
+use Prim.Native.Nat.{ℕ, zero, suc, _+_, _-_, _*_, _≤_, _<_}
+use mathlib.Core.Path.{_≡_, refl, sym, _∙_, subst, subst₂, ap}
+use mathlib.Core.Logic.{_⊎_, inl, inr, ⊎-elim, _≢_, _↔_}
+use mathlib.Core.Bool.{Bool, true, false, not, _&&_, _||_}
+use mathlib.Core.List.{List, [], _∷_, _++_, List·Memᴰ, List·Memᴰ·head, List·Memᴰ·tail, List·Memᴰ·cases-cons}
+use mathlib.Core.Option.{Option, none, some, Option·some-injective}
+use lib.Dec.{eqb, leb, ltb}
+use lib.ListN.{length, length-append}
+use borrow.Author.Tests.{eqb-true, le-ltb, not-true}
+use native.Mathlib.Omega.{arith}
+use native.Mathlib.Nat.{le-trans}
+use Rattle.laws.specs.Test.{byTest, clash, both, and-l, and-r, or-none, same-test}
+use Rattle.laws.specs.Scan.{any, any-same, those, those-elim}
+use Rattle.laws.specs.Lists.{Pairs, keep, keep-in, joined}
+use Rattle.laws.specs.Sort.{insert, sort, sort-mem, sort-rises}
+use Rattle.laws.specs.Bytes.{be, be-length, written, written-length}
+use Rattle.spec.specs.Ids.{Id, idBytes, falls}
+use Rattle.spec.specs.Store.{Store, idAt, roundAt, statusAt, resolved, linksTo}
+use Rattle.spec.specs.Paths.{E, height, certified, proved}
+use Rattle.spec.specs.Chain.{Refusal, number, conflict, Out, bad, good, then, refuse, usableInHistory, verdict, judged, Enqueued, anchorsOf}
+use Rattle.spec.specs.History.{limit, lowest, Need, anchor, hand, needed, inHistory, history, firstFault, faults, roundsMissing, isFlat, tested, isWaiting, testAnchor, recordBytes, isFirst, gapAfter, setCommitted, committedAt, Finished, commitAll, outlookBytes, outlookAll}
+use Rattle.spec.specs.Calls.{Answer, handed, refused, numberOf, Outcome, commitEnd, doCommit, doOutlook, act, commit, outlook, call}
+use Rattle.spec.specs.Links.{resolved-named}
+use Rattle.spec.specs.Level.{Sized, inside}
+use Rattle.spec.specs.Sweep.{marked→need, needed-is}
+use Rattle.spec.specs.Changes.{mark-height}
+use Rattle.spec.specs.Started.{Wf}
+use Rattle.spec.specs.Order.{need-named, falls-total, falls-trans}
+use Rattle.spec.specs.Refusals.{Sound, anchors-sound, outlook-sound}
+use Rattle.spec.specs.Walk.{not-good, then-good, refuse-back, Anchored, Rising, Tested, tested-good}
+use Rattle.spec.specs.Kept.{mark-kept, rising-mark, anchors-rising, call-act}
+use Rattle.spec.specs.Second.{commit-is}
+use Rattle.spec.specs.Late.{fits-in, test-back, commit-step}
+
+-- ---- lists put in order, and some of their elements left out
+
+module _ {A : Type 0} (le : A → A → Bool) (total : (x y : A) → le x y ≡ false → le y x ≡ true) (trans : (x y z : A) → le x y ≡ true → le y z ≡ true → le x z ≡ true) (g : A → Bool) where
+  insert-first : (x : A) (l : List A) → ((z : A) → List·Memᴰ z l → le x z ≡ true) → insert le x l ≡ x ∷ l
+  unfolding insert
+  insert-first x [] h = refl
+  insert-first x (y ∷ ys) h = rw (h y (List·Memᴰ·head refl)) refl
+
+  insert-kept : (x : A) → g x ≡ true → (l : List A) → Pairs (λ (y z : A). le y z ≡ true) l → keep g (insert le x l) ≡ insert le x (keep g l)
+  unfolding insert keep
+  insert-kept x t [] p = rw t refl
+  insert-kept x t (y ∷ ys) p =
+      byTest (le x y)
+      (λ u. rw u (rw t (sym (insert-first x (keep g (y ∷ ys)) (λ z m. ⊎-elim (λ e. rw e u) (λ k. trans x y z u (p .0 z k)) (List·Memᴰ·cases-cons (keep-in g (y ∷ ys) z .0 m .0)))))))
+      (λ u. rw u (byTest (g y) (λ v. rw (v, u) (ap (λ l. y ∷ l) (insert-kept x t ys (p .1)))) (λ v. rw v (insert-kept x t ys (p .1)))))
+
+  insert-left : (x : A) → g x ≡ false → (l : List A) → keep g (insert le x l) ≡ keep g l
+  unfolding insert keep
+  insert-left x f [] = rw f refl
+  insert-left x f (y ∷ ys) = byTest (le x y) (λ u. rw u (rw f refl)) (λ u. rw u (rw (insert-left x f ys) refl))
+
+  sort-keep : (l : List A) → sort le (keep g l) ≡ keep g (sort le l)
+  unfolding sort keep
+  sort-keep [] = refl
+  sort-keep (x ∷ xs) =
+      byTest (g x)
+      (λ t. rw t (ap (insert le x) (sort-keep xs) ∙ sym (insert-kept x t (sort le xs) (sort-rises le total trans xs))))
+      (λ f. rw f (sort-keep xs ∙ sym (insert-left x f (sort le xs))))
+
+those-keep : (n : ℕ) (f g : ℕ → Bool) → ((i : ℕ) → i < n → g i ≡ true → f i ≡ true) → those n g ≡ keep g (those n f)
+unfolding those keep
+those-keep zero f g h = refl
+those-keep (suc n) f g h =
+    byTest (g n)
+    (λ t. rw (t, h n (omega arith) t) (rw t (ap (λ l. n ∷ l) (those-keep n f g (λ i l. h i (omega arith))))))
+    (λ u. byTest (f n) (λ v. rw (u, v) (rw u (those-keep n f g (λ i l. h i (omega arith))))) (λ v. rw (u, v) (those-keep n f g (λ i l. h i (omega arith)))))
+
+-- points that pass can be left out
+first-keep : (s : Store) (g : ℕ → Bool) (l : List ℕ) → ((q : ℕ) → List·Memᴰ q l → g q ≡ false → judged s usableInHistory q ≡ good q) → firstFault s (keep g l) ≡ firstFault s l
+unfolding firstFault keep
+first-keep s g [] h = refl
+first-keep s g (x ∷ xs) h =
+    byTest (g x)
+    (λ t. rw t (ap (then (judged s usableInHistory x)) (λ i y. first-keep s g xs (λ q m. h q (List·Memᴰ·tail m)) i)))
+    (λ f. rw (f, h x (List·Memᴰ·head refl) f) (first-keep s g xs (λ q m. h q (List·Memᴰ·tail m))))
+
+-- ---- an older anchor's marks
+
+module _ (s : Store) (w : Wf s) (e : Enqueued) where
+  certified-mark : (q : ℕ) → certified (committedAt s e) q ≡ certified s q
+  unfolding certified
+  certified-mark q = ap (ltb 0) (mark-height s (w .sized) e q)
+
+  judged-mark : (q : ℕ) → judged (committedAt s e) usableInHistory q ≡ judged s usableInHistory q
+  unfolding judged usableInHistory proved committedAt setCommitted resolved
+  judged-mark q = ap (λ c. verdict (resolved (s .pt q)) (eqb (statusAt s q) 1 || (eqb (statusAt s q) 2 && not (c && s .pt q .flags .top))) c (roundAt s q) q) (certified-mark q)
+
+  first-mark : (l : List ℕ) → firstFault (committedAt s e) l ≡ firstFault s l
+  unfolding firstFault
+  first-mark [] = refl
+  first-mark (x ∷ xs) = λ i. then (judged-mark x i) (λ y. first-mark xs i)
+
+  link-mark : (p q : ℕ) → E s p q → E (committedAt s e) p q
+  unfolding committedAt setCommitted linksTo resolved
+  link-mark p q l = l
+
+  mark-link : (p q : ℕ) → E (committedAt s e) p q → E s p q
+  unfolding committedAt setCommitted linksTo resolved
+  mark-link p q l = l
+
+  -- marked is what was committed, and the history
+  mark-committed : (q : ℕ) → committedAt s e .pt q .flags .committed ≡ (inHistory s (e .anchor) q || s .pt q .flags .committed)
+  unfolding committedAt setCommitted
+  mark-committed q = refl
+
+  mark-round : (q : ℕ) → roundAt (committedAt s e) q ≡ roundAt s q
+  unfolding committedAt setCommitted
+  mark-round q = refl
+
+  mark-places : committedAt s e .places ≡ s .places
+  unfolding committedAt
+  mark-places = refl
+
+  mark-lowest : (b : ℕ) → lowest (committedAt s e) b ≡ lowest s b
+  unfolding committedAt setCommitted
+  mark-lowest b = refl
+
+  -- with the marks fewer points are needed
+  need-less : (b q : ℕ) → Need (committedAt s e) b q → Need s b q
+  need-less b q anchor = anchor
+  need-less b q (hand p x n d l) = hand p x (need-less b p n) (or-none (inHistory s (e .anchor) p) _ (sym (mark-committed p) ∙ d) .1) (mark-link p x l)
+
+  history-need : (q : ℕ) → inHistory s (e .anchor) q ≡ true → Need s (e .anchor) q
+  unfolding inHistory needed
+  history-need q h = marked→need s (e .anchor) q (and-l _ _ (and-l _ _ h))
+
+  -- and the others were needed by the older anchor
+  need-split : (b q : ℕ) → Need s b q → Need (committedAt s e) b q ⊎ Need s (e .anchor) q
+  need-split b q anchor = inl anchor
+  need-split b q (hand p x n d l) = ⊎-elim go (λ m. inr (hand p x m d l)) (need-split b p n)
+    where
+      go : Need (committedAt s e) b p → Need (committedAt s e) b x ⊎ Need s (e .anchor) x
+      go m =
+          byTest (inHistory s (e .anchor) p)
+          (λ t. inr (hand p x (history-need p t) d l))
+          (λ f. inl (hand p x m (mark-committed p ∙ rw (f, d) refl) (link-mark p x l)))
+
+  module _ (x : Anchored s e) (c : Tested s (e .anchor)) (b : ℕ) (there : s .pt b .named ≡ true) (above : roundAt s (e .anchor) ≤ roundAt s b) where
+    old-named : s .pt (e .anchor) .named ≡ true
+    old-named = resolved-named _ (x .anchor-done)
+
+    fit : lowest s b ≤ suc (roundAt s b)
+    fit = fits-in s w b there
+
+    fit-mark : lowest (committedAt s e) b ≤ suc (roundAt (committedAt s e) b)
+    fit-mark = subst₂ (λ m n. m ≤ suc n) (sym (mark-lowest b)) (sym (mark-round b)) fit
+
+    mark-sized : Sized (committedAt s e)
+    unfolding committedAt setCommitted
+    mark-sized = w .sized
+
+    lower : lowest s (e .anchor) ≤ lowest s b
+    unfolding limit
+    lower = omega (arith, above)
+
+    needed-less : (q : ℕ) → needed (committedAt s e) b q ≡ true → needed s b q ≡ true
+    needed-less q h = let (n, l) = needed-is (committedAt s e) mark-sized b q fit-mark .0 h in
+        needed-is s (w .sized) b q fit .1 (need-less b q n, subst₂ _≤_ (mark-lowest b) (mark-round q) l)
+
+    -- a needed point that the marks leave out was needed by the older anchor
+    left-out : (q : ℕ) → needed s b q ≡ true → needed (committedAt s e) b q ≡ false → needed s (e .anchor) q ≡ true
+    left-out q h f = let (n, l) = needed-is s (w .sized) b q fit .0 h in
+        ⊎-elim
+        (λ m. absurd (clash (needed-is (committedAt s e) mark-sized b q fit-mark .1 (m, subst₂ _≤_ (sym (mark-lowest b)) (sym (mark-round q)) l)) f))
+        (λ m. needed-is s (w .sized) (e .anchor) q (fits-in s w (e .anchor) old-named) .1 (m, le-trans lower l))
+        (need-split b q n)
+
+    judged-good : (q : ℕ) → needed s (e .anchor) q ≡ true → judged s usableInHistory q ≡ good q
+    unfolding judged verdict
+    judged-good q h = let (u, v) = c .ready q (inside s (w .sized) q (need-named s (e .anchor) q old-named (needed-is s (w .sized) (e .anchor) q (fits-in s w (e .anchor) old-named) .0 h .0))) h in rw (u, v) refl
+
+    mark-faults : faults (committedAt s e) b ≡ firstFault (committedAt s e) (sort (λ p q. falls (idAt s p) (idAt s q)) (those (s .places) (needed (committedAt s e) b)))
+    unfolding faults committedAt setCommitted
+    mark-faults = refl
+
+    faults-mark : faults (committedAt s e) b ≡ faults s b
+    unfolding faults
+    faults-mark =
+        mark-faults ∙ (first-mark _
+        ∙ (ap (λ l. firstFault s (sort le l)) (those-keep (s .places) (needed s b) g (λ q l h. needed-less q h))
+        ∙ (ap (firstFault s) (sort-keep le (λ p q. falls-total (idAt s p) (idAt s q)) (λ p q r. falls-trans (idAt s p) (idAt s q) (idAt s r)) g (those (s .places) (needed s b)))
+        ∙ first-keep s g _ (λ q m f. judged-good q (left-out q (those-elim _ _ q (sort-mem le q _ .0 m) .1) f)))))
+      where
+        le : ℕ → ℕ → Bool
+        le p q = falls (idAt s p) (idAt s q)
+
+        g : ℕ → Bool
+        g = needed (committedAt s e) b
+
+    history-mark : (q : ℕ) → inHistory (committedAt s e) b q ≡ true → inHistory s b q ≡ true
+    unfolding inHistory
+    history-mark q h = both (needed-less q (and-l _ _ h)) (ap not (or-none (inHistory s (e .anchor) q) _ (sym (mark-committed q) ∙ not-true _ (and-r (needed (committedAt s e) b q) _ h)) .1))
+
+    -- a point of height 0 is in no history that passed
+    flat-old : (q : ℕ) → q < s .places → height s q ≡ 0 → inHistory s (e .anchor) q ≡ false
+    flat-old q l z = byTest (inHistory s (e .anchor) q) (λ t. absurd (omega (arith, c .tall q l t))) (λ f. f)
+
+    mark-history : (q : ℕ) → q < s .places → height s q ≡ 0 → inHistory s b q ≡ true → inHistory (committedAt s e) b q ≡ true
+    unfolding inHistory
+    mark-history q l z h =
+        both
+        (byTest (needed (committedAt s e) b q) (λ t. t) (λ f. absurd (clash (both (left-out q (and-l _ _ h) f) (and-r (needed s b q) _ h)) (flat-old q l z))))
+        (ap not {y = false} (mark-committed q ∙ rw (flat-old q l z, not-true (s .pt q .flags .committed) (and-r (needed s b q) _ h)) refl))
+
+    flat-mark : isFlat (committedAt s e) b ≡ isFlat s b
+    unfolding isFlat
+    flat-mark = ap (λ n. any n (flat (committedAt s e))) mark-places ∙ any-same (s .places) (flat (committedAt s e)) (flat s) (λ q l. same-test _ _ (less q) (more q l))
+      where
+        flat : Store → ℕ → Bool
+        flat u q = inHistory u b q && eqb (height u q) 0
+
+        less : (q : ℕ) → flat (committedAt s e) q ≡ true → flat s q ≡ true
+        less q h = both (history-mark q (and-l _ _ h)) (ap (λ n. eqb n 0) (sym (mark-height s (w .sized) e q)) ∙ and-r (inHistory (committedAt s e) b q) _ h)
+
+        more : (q : ℕ) → q < s .places → flat s q ≡ true → flat (committedAt s e) q ≡ true
+        more q l h = both (mark-history q l (eqb-true _ _ (and-r (inHistory s b q) _ h)) (and-l _ _ h)) (ap (λ n. eqb n 0) (mark-height s (w .sized) e q) ∙ and-r (inHistory s b q) _ h)
+
+    -- the younger anchor's tests come out as they did before the marks
+    pub tested-mark : tested (committedAt s e) b ≡ tested s b
+    unfolding tested roundsMissing committedAt setCommitted
+    tested-mark = λ i. refuse (leb (roundAt s b) (s .conf .genesis)) 22 (then (faults-mark i) (λ x. refuse (roundsMissing s b) 17 (refuse (flat-mark i) 18 (good b))))
+
+-- ---- all anchors of a chain
+
+-- each anchor's tests in turn, the older ones committed
+unfoldable pub tests : Store → List Enqueued → Out ℕ
+tests s [] = good 0
+tests s (e ∷ es) = then (tested s (e .anchor)) (λ x. tests (committedAt s e) es)
+
+-- each anchor's tests in turn, by the marks as they are
+unfoldable pub testsNow : Store → List Enqueued → Out ℕ
+testsNow s [] = good 0
+testsNow s (e ∷ es) = then (tested s (e .anchor)) (λ x. testsNow s es)
+
+then-same : {A B : Type 0} (o : Out A) (f g : A → Out B) → ((a : A) → o ≡ good a → f a ≡ g a) → then o f ≡ then o g
+then-same (bad r) f g h = refl
+then-same (good a) f g h = h a refl
+
+now-mark : (s : Store) → Wf s → (e : Enqueued) → Anchored s e → Tested s (e .anchor) → (low : ℕ) (es : List Enqueued) → roundAt s (e .anchor) ≤ low → Rising s low es → testsNow (committedAt s e) es ≡ testsNow s es
+unfolding testsNow
+now-mark s w e x c low [] l r = refl
+now-mark s w e x c low (f ∷ es) l (u, y, r) = λ i. then (tested-mark s w e x c (f .anchor) (resolved-named _ (y .anchor-done)) (le-trans l u) i) (λ z. now-mark s w e x c (suc (roundAt s (f .anchor))) es (omega arith) r i)
+
+-- both come out the same
+pub tests-now : (s : Store) → Wf s → (low : ℕ) (es : List Enqueued) → Rising s low es → testsNow s es ≡ tests s es
+unfolding testsNow tests
+tests-now s w low [] r = refl
+tests-now s w low (e ∷ es) (u, x, r) = then-same (tested s (e .anchor)) _ _ (λ a h.
+    let c : Tested s (e .anchor) = tested-good s (e .anchor) a h in
+    sym (now-mark s w e x c (suc (roundAt s (e .anchor))) es (omega arith) r) ∙ tests-now (committedAt s e) (mark-kept s w e x c) (suc (roundAt s (e .anchor))) es (rising-mark s e _ es r))
+
+-- ---- the outlook's tests
+
+outlook-length : (s : Store) (a : ℕ) → length (outlookBytes s a) ≡ 41
+unfolding outlookBytes idBytes
+outlook-length s a =
+    length-append (be 4 (idAt s a .round) ++ (be 1 (idAt s a .author) ++ be 32 (idAt s a .digest))) (be 4 (length (history s a)))
+    ∙ rw (length-append (be 4 (idAt s a .round)) (be 1 (idAt s a .author) ++ be 32 (idAt s a .digest)), length-append (be 1 (idAt s a .author)) (be 32 (idAt s a .digest)), be-length 4 (idAt s a .round), be-length 1 (idAt s a .author), be-length 32 (idAt s a .digest), be-length 4 (length (history s a))) refl
+
+-- with room for all anchors: refused as its tests say, else their bytes
+pub outlook-is : (s : Store) (left : ℕ) (es : List Enqueued) → length es * 41 ≤ left → outlookAll s left es ≡ then (testsNow s es) (λ x. good (joined (λ (e : Enqueued). outlookBytes s (e .anchor)) es))
+unfolding outlookAll testsNow joined
+outlook-is s left [] l = refl
+outlook-is s left (e ∷ es) l = go (tested s (e .anchor)) (outlook-is s (left - length (outlookBytes s (e .anchor))) es (rw (outlook-length s (e .anchor)) (omega arith)))
+  where
+    all : List ℕ
+    all = joined (λ (f : Enqueued). outlookBytes s (f .anchor)) es
+
+    last : (o : Out ℕ) → then (then o (λ x. good all)) (λ rest. good (outlookBytes s (e .anchor) ++ rest)) ≡ then o (λ x. good (outlookBytes s (e .anchor) ++ all))
+    last (bad r) = refl
+    last (good x) = refl
+
+    go : (o : Out ℕ) → outlookAll s (left - length (outlookBytes s (e .anchor))) es ≡ then (testsNow s es) (λ x. good all)
+        → then o (λ a. refuse (ltb left (length (outlookBytes s (e .anchor)))) 21 (then (outlookAll s (left - length (outlookBytes s (e .anchor))) es) (λ rest. good (outlookBytes s (e .anchor) ++ rest))))
+        ≡ then (then o (λ x. testsNow s es)) (λ x. good (outlookBytes s (e .anchor) ++ all))
+    go (bad r) h = refl
+    go (good a) h = refuse-back _ 21 _ (le-ltb left (length (outlookBytes s (e .anchor))) (rw (outlook-length s (e .anchor)) (omega arith))) ∙ rw h (last (testsNow s es))
+
+-- ---- tests that came out badly
+
+same-bad : {A : Type 0} (r q : Refusal) → _≡_ {A = Out A} (bad r) (bad q) → r ≡ q
+same-bad r q h = cc
+
+then-bad : {A B : Type 0} (o : Out A) (f : A → Out B) (r : Refusal) → then o f ≡ bad r → (o ≡ bad r) ⊎ ((a : A) × (o ≡ good a) × (f a ≡ bad r))
+then-bad (bad q) f r h = inl (ap bad (same-bad q r h))
+then-bad (good a) f r h = inr (a, refl, h)
+
+refuse-bad : {A : Type 0} (b : Bool) (n : ℕ) (o : Out A) (r : Refusal) → refuse b n o ≡ bad r → (number n ≡ r) ⊎ (o ≡ bad r)
+unfolding refuse
+refuse-bad true n o r h = inl (same-bad (number n) r h)
+refuse-bad false n o r h = inr h
+
+other-number : (n : ℕ) (r : Refusal) → numberOf r ≢ n → number n ≡ r → ⊥
+unfolding numberOf
+other-number n r f e = f (ap numberOf (sym e))
+
+-- with any room: but for 21, refused as its tests say
+pub outlook-bad : (s : Store) (left : ℕ) (es : List Enqueued) (r : Refusal) → numberOf r ≢ 21 → outlookAll s left es ≡ bad r → testsNow s es ≡ bad r
+unfolding outlookAll testsNow
+outlook-bad s left [] r n h = absurd (not-good r _ (sym h))
+outlook-bad s left (e ∷ es) r n h =
+    let bytes = outlookBytes s (e .anchor) in
+    ⊎-elim (λ u. rw u refl) (λ (a, u, k). rw u
+    (⊎-elim (λ m. absurd (other-number 21 r n m)) (λ j.
+    ⊎-elim (outlook-bad s (left - length bytes) es r n) (λ (x, v, y). absurd (not-good r (bytes ++ x) (sym y))) (then-bad (outlookAll s (left - length bytes) es) (λ rest. good (bytes ++ rest)) r j))
+    (refuse-bad (ltb left (length bytes)) 21 (then (outlookAll s (left - length bytes) es) (λ rest. good (bytes ++ rest))) r k)))
+    (then-bad (tested s (e .anchor)) (λ a. refuse (ltb left (length bytes)) 21 (then (outlookAll s (left - length bytes) es) (λ rest. good (bytes ++ rest)))) r h)
+
+-- ---- the commit's tests
+
+-- the bytes of a chain's records
+unfoldable pub roomFor : Store → List Enqueued → ℕ
+roomFor s [] = 0
+roomFor s (e ∷ es) = length (recordBytes s e) + roomFor (committedAt s e) es
+
+test-bad : (s : Store) (left size a : ℕ) (r : Refusal) → tested s a ≡ bad r → testAnchor s left size a ≡ bad r
+unfolding testAnchor
+test-bad s left size a r h = rw h refl
+
+-- the first anchor is refused
+commit-stop : (s : Store) (b : List ℕ) (at n : ℕ) (e : Enqueued) (es : List Enqueued) (r : Refusal) → testAnchor s (length b - at) (length (recordBytes s e)) (e .anchor) ≡ bad r → commitAll s b at n (e ∷ es) .stopped ≡ some r
+unfolding commitAll
+commit-stop s b at n e es r h = rw (h, commitAll) refl
+
+-- once put, the gap question stays put
+still-put : (s : Store) (e : Enqueued) → isWaiting (s .progress .gap) ≡ false → isWaiting (committedAt s e .progress .gap) ≡ false
+unfolding committedAt gapAfter isWaiting
+still-put s e g = byTest (isFirst s (e .anchor)) (λ t. rw t refl) (λ f. rw f g)
+
+abbrev stop : Out ℕ → Option Refusal
+stop (bad r) = some r
+stop (good x) = none
+
+commit-ends : (s : Store) (es : List Enqueued) → isWaiting (s .progress .gap) ≡ false → (b : List ℕ) (at n : ℕ) → at + roomFor s es ≤ length b → commitAll s b at n es .stopped ≡ stop (tests s es)
+unfolding commitAll tests roomFor
+commit-ends s [] g b at n l = refl
+commit-ends s (e ∷ es) g b at n l = go (tested s (e .anchor)) refl (commit-ends (committedAt s e) es (still-put s e g) (written b at (recordBytes s e)) (at + length (recordBytes s e)) (suc n) (rw (written-length b at (recordBytes s e)) (omega arith)))
+  where
+    go : (o : Out ℕ) → tested s (e .anchor) ≡ o → commitAll (committedAt s e) (written b at (recordBytes s e)) (at + length (recordBytes s e)) (suc n) es .stopped ≡ stop (tests (committedAt s e) es)
+        → commitAll s b at n (e ∷ es) .stopped ≡ stop (then o (λ x. tests (committedAt s e) es))
+    go (bad r) h i = commit-stop s b at n e es r (test-bad s (length b - at) (length (recordBytes s e)) (e .anchor) r h)
+    go (good a) h i = ap (λ f. f .stopped) (commit-step s b at n e es (e .anchor) (test-back s (length b - at) (length (recordBytes s e)) (e .anchor) (tested-good s (e .anchor) a h) g (omega arith))) ∙ i
+
+none-some : {A : Type 0} (x : A) → none ≡ some x → ⊥
+none-some x h = let z : _≡_ {A = ℕ} 0 1 = cc in omega arith
+
+test-cases : (s : Store) (left size a : ℕ) (r : Refusal) → numberOf r ≢ 20 → numberOf r ≢ 21 → testAnchor s left size a ≡ bad r → tested s a ≡ bad r
+unfolding testAnchor
+test-cases s left size a r f g h = ⊎-elim (λ u. u) (λ (x, u, k). ⊎-elim (λ m. absurd (other-number 20 r f m)) (λ j. ⊎-elim (λ m. absurd (other-number 21 r g m)) (λ i. absurd (not-good r a (sym i))) (refuse-bad (ltb left size) 21 (good a) r j)) (refuse-bad (isWaiting (s .progress .gap)) 20 _ r k)) (then-bad (tested s a) _ r h)
+
+commit-stopped : (s : Store) (es : List Enqueued) (b : List ℕ) (at n : ℕ) (r : Refusal) → numberOf r ≢ 20 → numberOf r ≢ 21 → commitAll s b at n es .stopped ≡ some r → tests s es ≡ bad r
+unfolding commitAll tests
+commit-stopped s [] b at n r f g h = absurd (none-some r h)
+commit-stopped s (e ∷ es) b at n r f g h = go (testAnchor s (length b - at) (length (recordBytes s e)) (e .anchor)) refl h (commit-stopped (committedAt s e) es (written b at (recordBytes s e)) (at + length (recordBytes s e)) (suc n) r f g)
+  where
+    res : Out ℕ → Finished
+    res o = elim o [
+      | bad m ↦ record { store = s; buffer = b; anchors = n; stopped = some m }
+      | good z ↦ commitAll (committedAt s e) (written b at (recordBytes s e)) (at + length (recordBytes s e)) (suc n) es
+    ]
+
+    go : (o : Out ℕ) → testAnchor s (length b - at) (length (recordBytes s e)) (e .anchor) ≡ o → res o .stopped ≡ some r → (res (good 0) .stopped ≡ some r → tests (committedAt s e) es ≡ bad r)
+        → then (tested s (e .anchor)) (λ x. tests (committedAt s e) es) ≡ bad r
+    go (bad m) c k i = rw (test-cases s _ _ (e .anchor) r f g (c ∙ ap bad (Option·some-injective m r k))) refl
+    go (good a) c k i = let (x, u, j) = then-good (tested s (e .anchor)) (λ x. refuse (isWaiting (s .progress .gap)) 20 (refuse (ltb (length b - at) (length (recordBytes s e))) 21 (good (e .anchor)))) a (unfold testAnchor in c) in rw u (i k)
+
+-- ---- the calls
+
+-- room for all records that a commit of this trigger writes
+abbrev pub Holds : Store → Id → List ℕ → Type 0
+Holds s i b = (es : List Enqueued) → anchorsOf s i ≡ good es → roomFor s es ≤ length b
+
+-- room for all that an outlook of this trigger writes: 41 bytes an anchor
+abbrev pub Shows : Store → Id → List ℕ → Type 0
+Shows s i b = (es : List Enqueued) → anchorsOf s i ≡ good es → length es * 41 ≤ length b
+
+same-refused : (r q : Refusal) (m n : ℕ) → refused r m ≡ refused q n → r ≡ q
+same-refused r q m n h = cc
+
+not-refused : (r : Refusal) (m n : ℕ) → handed m ≡ refused r n → ⊥
+not-refused r m n h = let z : _≡_ {A = ℕ} 0 1 = cc in omega arith
+
+-- refused by the walk, or after it by r
+abbrev Refuses : Store → Id → (List Enqueued → Type 0) → Refusal → Type 0
+Refuses s i P r = (anchorsOf s i ≡ bad r) ⊎ ((es : List Enqueued) × (anchorsOf s i ≡ good es) × P es)
+
+-- an outlook that is refused
+outlook-was : (s : Store) (i : Id) (b : List ℕ) (r : Refusal) (n : ℕ) → doOutlook s i b .answer ≡ refused r n → Refuses s i (λ es. outlookAll s (length b) es ≡ bad r) r
+unfolding doOutlook
+outlook-was s i b r n h = go (anchorsOf s i) refl h
+  where
+    shown : List Enqueued → Out (List ℕ) → Outcome
+    shown es o = elim o [ bad q ↦ record { answer = refused q 0; store = s; buffer = b } | good bytes ↦ record { answer = handed (length es); store = s; buffer = written b 0 bytes } ]
+
+    does : Out (List Enqueued) → Outcome
+    does o = elim o [ bad q ↦ record { answer = refused q 0; store = s; buffer = b } | good es ↦ shown es (outlookAll s (length b) es) ]
+
+    on : (es : List Enqueued) → anchorsOf s i ≡ good es → (o : Out (List ℕ)) → outlookAll s (length b) es ≡ o → shown es o .answer ≡ refused r n → Refuses s i (λ es. outlookAll s (length b) es ≡ bad r) r
+    on es u (bad q) v k = inr (es, u, v ∙ ap bad (same-refused q r 0 n k))
+    on es u (good bytes) v k = absurd (not-refused r (length es) n k)
+
+    go : (o : Out (List Enqueued)) → anchorsOf s i ≡ o → does o .answer ≡ refused r n → Refuses s i (λ es. outlookAll s (length b) es ≡ bad r) r
+    go (bad q) u k = inl (u ∙ ap bad (same-refused q r 0 n k))
+    go (good es) u k = on es u (outlookAll s (length b) es) refl k
+
+outlook-now : (s : Store) (i : Id) (b : List ℕ) (r : Refusal) → Refuses s i (λ es. outlookAll s (length b) es ≡ bad r) r → doOutlook s i b .answer ≡ refused r 0
+unfolding doOutlook
+outlook-now s i b r (inl u) = rw (u, doOutlook) refl
+outlook-now s i b r (inr (es, u, v)) = rw (u, doOutlook) (rw v refl)
+
+refused-end : (f : Finished) (r : Refusal) (n : ℕ) → commitEnd f .answer ≡ refused r n → f .stopped ≡ some r
+unfolding commitEnd
+refused-end f r n h = go (f .stopped) refl h
+  where
+    ends : Option Refusal → Answer
+    ends none = handed (f .anchors)
+    ends (some q) = refused q (f .anchors)
+
+    go : (o : Option Refusal) → f .stopped ≡ o → ends o ≡ refused r n → f .stopped ≡ some r
+    go none e k = absurd (not-refused r _ n k)
+    go (some q) e k = e ∙ ap some (same-refused q r _ n k)
+
+-- a commit that is refused
+commit-was : (s : Store) (i : Id) (b : List ℕ) (r : Refusal) (n : ℕ) → doCommit s i b .answer ≡ refused r n → Refuses s i (λ es. commitAll s b 0 0 es .stopped ≡ some r) r
+unfolding doCommit
+commit-was s i b r n h = go (anchorsOf s i) refl h
+  where
+    does : Out (List Enqueued) → Outcome
+    does o = elim o [ bad q ↦ record { answer = refused q 0; store = s; buffer = b } | good es ↦ commitEnd (commitAll s b 0 0 es) ]
+
+    go : (o : Out (List Enqueued)) → anchorsOf s i ≡ o → does o .answer ≡ refused r n → Refuses s i (λ es. commitAll s b 0 0 es .stopped ≡ some r) r
+    go (bad q) u k = inl (u ∙ ap bad (same-refused q r 0 n k))
+    go (good es) u k = inr (es, u, refused-end (commitAll s b 0 0 es) r n k)
+
+commit-now : (s : Store) (i : Id) (b : List ℕ) (r : Refusal) → Refuses s i (λ es. commitAll s b 0 0 es .stopped ≡ some r) r → (m : ℕ) × (doCommit s i b .answer ≡ refused r m)
+unfolding doCommit commitEnd
+commit-now s i b r (inl u) = (0, rw (u, doCommit) refl)
+commit-now s i b r (inr (es, u, v)) = (commitAll s b 0 0 es .anchors, rw (u, doCommit) (rw v refl))
+
+stop-bad : (o : Out ℕ) (r : Refusal) → stop o ≡ some r → o ≡ bad r
+stop-bad (bad q) r h = ap bad (Option·some-injective q r h)
+stop-bad (good x) r h = absurd (none-some r h)
+
+-- the same anchors, tested by the marks now and as a commit goes on
+same-tests : (s : Store) → Wf s → (i : Id) (es : List Enqueued) → anchorsOf s i ≡ good es → testsNow s es ≡ tests s es
+same-tests s w i es u = tests-now s w _ es (anchors-rising s w i es u)
+
+outlook-call : (s : Store) → Wf s → (i : Id) (b : List ℕ) → call s (outlook i b) ≡ doOutlook s i b
+unfolding act
+outlook-call s w i b = call-act s w (outlook i b)
+
+-- an outlook refused by another number than 21: so is the commit, once the gap question is put, into a buffer that holds its records
+pub outlook→commit : (s : Store) → Wf s → (i : Id) (b c : List ℕ) → isWaiting (s .progress .gap) ≡ false → Holds s i c → (r : Refusal) (n : ℕ) → numberOf r ≢ 21
+    → call s (outlook i b) .answer ≡ refused r n → (m : ℕ) × (call s (commit i c) .answer ≡ refused r m)
+outlook→commit s w i b c g room r n f h =
+    subst (λ (o : Outcome). (m : ℕ) × (o .answer ≡ refused r m)) (sym (commit-is s w i c)) (commit-now s i c r
+    (⊎-elim inl (λ (es, u, v). inr (es, u, commit-ends s es g c 0 0 (omega (arith, room es u)) ∙ ap stop (sym (same-tests s w i es u) ∙ outlook-bad s (length b) es r f v)))
+    (outlook-was s i b r n (ap (λ (o : Outcome). o .answer) (sym (outlook-call s w i b)) ∙ h))))
+
+-- a commit refused by another number than 20 and 21: so is the outlook, into a buffer that holds its answer
+pub commit→outlook : (s : Store) → Wf s → (i : Id) (b c : List ℕ) → Shows s i b → (r : Refusal) (m : ℕ) → numberOf r ≢ 20 → numberOf r ≢ 21
+    → call s (commit i c) .answer ≡ refused r m → call s (outlook i b) .answer ≡ refused r 0
+commit→outlook s w i b c room r m f g h =
+    ap (λ (o : Outcome). o .answer) (outlook-call s w i b) ∙ outlook-now s i b r
+    (⊎-elim inl (λ (es, u, v). inr (es, u, outlook-is s (length b) es (room es u) ∙ rw (same-tests s w i es u, commit-stopped s es c 0 0 r f g v) refl))
+    (commit-was s i c r m (ap (λ (o : Outcome). o .answer) (sym (commit-is s w i c)) ∙ h)))
+
+-- with room for both answers and the gap question put: the outlook is refused exactly as the commit is
+pub outlook-exact : (s : Store) → Wf s → (i : Id) (b c : List ℕ) → Shows s i b → isWaiting (s .progress .gap) ≡ false → Holds s i c
+    → (r : Refusal) → (call s (outlook i b) .answer ≡ refused r 0) ↔ ((m : ℕ) × (call s (commit i c) .answer ≡ refused r m))
+outlook-exact s w i b c shows g holds r = (there, back)
+  where
+    there : call s (outlook i b) .answer ≡ refused r 0 → (m : ℕ) × (call s (commit i c) .answer ≡ refused r m)
+    there h = subst (λ (o : Outcome). (m : ℕ) × (o .answer ≡ refused r m)) (sym (commit-is s w i c)) (commit-now s i c r
+        (⊎-elim inl (λ (es, u, v). inr (es, u, commit-ends s es g c 0 0 (omega (arith, holds es u)) ∙ ap stop (sym (same-tests s w i es u) ∙ only-tests (testsNow s es) _ (sym (outlook-is s (length b) es (shows es u)) ∙ v))))
+        (outlook-was s i b r 0 (ap (λ (o : Outcome). o .answer) (sym (outlook-call s w i b)) ∙ h))))
+      where
+        only-tests : (o : Out ℕ) (l : List ℕ) → then o (λ x. good l) ≡ bad r → o ≡ bad r
+        only-tests (bad q) l k = ap bad (same-bad q r k)
+        only-tests (good x) l k = absurd (not-good r l (sym k))
+
+    back : (m : ℕ) × (call s (commit i c) .answer ≡ refused r m) → call s (outlook i b) .answer ≡ refused r 0
+    back (m, h) = ap (λ (o : Outcome). o .answer) (outlook-call s w i b) ∙ outlook-now s i b r
+        (⊎-elim inl (λ (es, u, v). inr (es, u, outlook-is s (length b) es (shows es u) ∙ rw (same-tests s w i es u, stop-bad (tests s es) r (sym (commit-ends s es g c 0 0 (omega (arith, holds es u))) ∙ v)) refl))
+        (commit-was s i c r m (ap (λ (o : Outcome). o .answer) (sym (commit-is s w i c)) ∙ h)))
+
+-- ---- "by 20 never"
+
+abbrev Never : Refusal → Type 0
+Never r = numberOf r ≢ 20
+
+never : (n : ℕ) → n ≢ 2 → n ≢ 20 → Never (number n)
+unfolding numberOf
+never n a b = b
+
+never-conflict : (r : ℕ) → Never (conflict r)
+unfolding numberOf
+never-conflict r = omega arith
+
+sound-bad : {A : Type 0} (o : Out A) (r : Refusal) → Sound Never o → o ≡ bad r → Never r
+sound-bad o r h e = subst (Sound Never) e h
+
+-- no outlook is refused by 20
+pub never-20 : (s : Store) → Wf s → (i : Id) (b : List ℕ) (r : Refusal) (n : ℕ) → call s (outlook i b) .answer ≡ refused r n → numberOf r ≢ 20
+never-20 s w i b r n h =
+    ⊎-elim (sound-bad (anchorsOf s i) r (anchors-sound Never never never-conflict s i)) (λ (es, u, v). sound-bad (outlookAll s (length b) es) r (outlook-sound Never never never-conflict s (length b) es) v)
+    (outlook-was s i b r n (ap (λ (o : Outcome). o .answer) (sym (outlook-call s w i b)) ∙ h))
