@@ -1,4 +1,8 @@
 // Document 01 as definitions: specs/ holds them and the theorems about them. The number of history rounds is at most this.
-pub fn most_history_rounds() -> u8 {
+ghost use mathlib.Core.Path.{_≡_};
+
+pub fn most_history_rounds() -> u8
+    ensures { λ r. ⌜ r ≡ 255 ⌝ }
+{
     255
 }

@@ -1,0 +1,18 @@
+-- `dag_few::cell` meets its contract.
+use Rattle.dag_few.specs.Few.{cellOf}
+use borrow.Author.Needs.{needs}
+use Rattle.dag_few.proofs.cell.Statement.{statement}
+use Rattle.dag_few.proofs.cell.Tie as tie
+
+mul-result : tie.Need-mul-result
+mul-result c = search needs
+
+add-result : tie.Need-add-result
+add-result c = search needs
+
+returns : tie.Need-returns
+unfolding cellOf
+returns c = search needs
+
+pub cell-spec : {M : Type 1} → statement M
+cell-spec = tie.close (tie.spec mul-result add-result returns)

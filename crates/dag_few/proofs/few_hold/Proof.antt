@@ -1,0 +1,19 @@
+-- `dag_few::few_hold` meets its contract.
+use Rattle.dag_few.specs.Few.{none-tallied}
+use borrow.Author.Needs.{needs}
+use Rattle.dag_few.proofs.few_hold.Statement.{statement}
+use Rattle.dag_few.proofs.few_hold.Tie as tie
+
+slice-aggregate-count-all : tie.Need-slice-aggregate-count-all
+slice-aggregate-count-all c = search needs
+
+count-all-requires : tie.Need-count-all-requires
+count-all-requires c κs =
+    let at-args = c .before .before .before .args in
+    (search needs, (c .before .before .before .pre .1, none-tallied (at-args .keys .now) (at-args .order .now)))
+
+returns : tie.Need-returns
+returns c = search needs
+
+pub few-hold-spec : {M : Type 1} → statement M
+few-hold-spec = tie.close (tie.spec slice-aggregate-count-all count-all-requires returns)

@@ -1,0 +1,4 @@
+pub mod View
+pub mod Push
+pub mod Cells
+pub mod Exact

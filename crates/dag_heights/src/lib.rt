@@ -1,0 +1,134 @@
+// The stored heights tested in one pass over the links (models/cert.rs).
+ghost use mathlib.Core.Path.{_≡_};
+ghost use Prim.Native.Nat.{_+_, _*_, _-_, _/_, _%_, _<_, _≤_};
+ghost use lib.ListN.{length};
+ghost use Rattle.dag_heights.specs.View.{reach, ownOf};
+ghost use Rattle.dag_heights.specs.Push.{raised, pushed, pushedOne, pushedAll, agrees, heightsHold};
+ghost use Rattle.models.specs.Tables.{Inside, targetAt};
+
+// Raises cell p to v; a p that is no cell is passed over.
+fn raise(cells: &mut [u64], p: u64, v: u64)
+    ensures { λ _. ⌜ now (cells .exit) ≡ raised (now (cells .entry)) p v ⌝ }
+{
+    let i = p as usize;
+    if i < cells.len() {
+        if cells[i] < v {
+            cells[i] = v;
+        }
+    }
+}
+
+fn less(v: u64, d: u64) -> u64
+    ensures { λ r. ⌜ r ≡ v - d ⌝ }
+{
+    if d <= v { v - d } else { 0 }
+}
+
+// Hands the height v of place q down its first m links.
+fn push(cells: &mut [u64], links: &[u64], q: usize, v: u64, m: usize)
+    requires { ⌜ (m ≤ 64) × (q * 328 + 328 ≤ length (now links)) ⌝ }
+    ensures { λ _. ⌜ now (cells .exit) ≡ pushed (targetAt (now (links .entry)) q) (now (cells .entry)) v m ⌝ }
+{
+    let mut k: usize = 0;
+    while k < m {
+        let d = (1 + k / 32) as u64;
+        raise(cells, links[q * 328 + 8 + k], less(v, d));
+        k += 1;
+    }
+}
+
+// How many links of place q are live.
+pub fn live(keys: &[u64], bottom: u64, q: usize) -> usize
+    requires { ⌜ (q * 8 + 8 ≤ length (now keys)) × (bottom ≤ 4000000000) ⌝ }
+    ensures { λ r. ⌜ r ≡ reach bottom (now (keys .entry)) q ⌝ }
+    ensures { λ r. ⌜ r ≤ 64 ⌝ }
+{
+    if keys[q * 8 + 6] == 0 {
+        return 0;
+    }
+    let r = keys[q * 8 + 0];
+    if r < bottom + 1 {
+        return 0;
+    }
+    if r < bottom + 2 {
+        return 32;
+    }
+    64
+}
+
+// H + 1 for a top, else 0.
+fn own(cert: u64, h: u64) -> u64
+    requires { ⌜ h ≤ 255 ⌝ }
+    ensures { λ r. ⌜ r ≡ ownOf h cert ⌝ }
+{
+    if cert / 32768 % 2 == 1 { h + 1 } else { 0 }
+}
+
+// Place q with the certificate word c: its own height, then its m live links.
+fn push_one(cells: &mut [u64], links: &[u64], q: usize, c: u64, h: u64, m: usize)
+    requires { ⌜ (m ≤ 64) × (q * 328 + 328 ≤ length (now links)) × (h ≤ 255) ⌝ }
+    ensures { λ _. ⌜ now (cells .exit) ≡ pushedOne (targetAt (now (links .entry)) q) (now (cells .entry)) (q + 1) (ownOf h c) (c % 4096) m ⌝ }
+{
+    raise(cells, (q + 1) as u64, own(c, h));
+    push(cells, links, q, c % 4096, m);
+}
+
+// The first n places of the order.
+fn push_all(
+    cells: &mut [u64],
+    keys: &[u64],
+    links: &[u64],
+    certs: &[u64],
+    order: &[u64],
+    n: usize,
+    bottom: u64,
+    h: u64,
+)
+    requires { ⌜ (length (now order) ≤ 4096) × (length (now keys) ≡ length (now order) * 8) × (length (now links) ≡ length (now order) * 328) × (length (now certs) ≡ length (now order)) × (n ≤ length (now order)) × (bottom ≤ 4000000000) × (h ≤ 255) ⌝ }
+    requires { ⌜ Inside (now order) n (length (now order)) ⌝ }
+    ensures { λ _. ⌜ now (cells .exit) ≡ pushedAll bottom h (now (keys .entry)) (now (links .entry)) (now (certs .entry)) (now (order .entry)) (now (cells .entry)) n ⌝ }
+{
+    let mut i: usize = 0;
+    while i < n {
+        let q = dag_places::place(order, n, i);
+        let c = certs[q];
+        push_one(cells, links, q, c, h, live(keys, bottom, q));
+        i += 1;
+    }
+}
+
+// Whether each used place's cell holds the height of its word.
+fn agree(cells: &[u64], certs: &[u64], order: &[u64], n: usize) -> bool
+    requires { ⌜ (length (now order) < length (now cells)) × (length (now certs) ≡ length (now order)) × (n ≤ length (now order)) ⌝ }
+    requires { ⌜ Inside (now order) n (length (now order)) ⌝ }
+    ensures { λ r. ⌜ r ≡ agrees (now (cells .entry)) (now (certs .entry)) (now (order .entry)) n ⌝ }
+{
+    let mut i: usize = 0;
+    while i < n {
+        let q = dag_places::place(order, n, i);
+        if cells[q + 1] != certs[q] % 4096 {
+            return false;
+        }
+        i += 1;
+    }
+    true
+}
+
+// Whether every stored height is right.
+pub fn heights_hold(
+    keys: &[u64],
+    links: &[u64],
+    certs: &[u64],
+    order: &[u64],
+    n: usize,
+    bottom: u64,
+    h: u64,
+) -> bool
+    requires { ⌜ (length (now order) ≤ 4096) × (length (now keys) ≡ length (now order) * 8) × (length (now links) ≡ length (now order) * 328) × (length (now certs) ≡ length (now order)) × (n ≤ length (now order)) × (bottom ≤ 4000000000) × (h ≤ 255) ⌝ }
+    requires { ⌜ Inside (now order) n (length (now order)) ⌝ }
+    ensures { λ r. ⌜ r ≡ heightsHold bottom h (now (keys .entry)) (now (links .entry)) (now (certs .entry)) (now (order .entry)) n ⌝ }
+{
+    let mut cells = [0u64; 4097];
+    push_all(&mut cells, keys, links, certs, order, n, bottom, h);
+    agree(&cells, certs, order, n)
+}

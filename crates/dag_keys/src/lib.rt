@@ -1,0 +1,134 @@
+// Origin: `dag/dag_round.rs` (a round's points and look-up of a point).
+// A place has eight words of `keys`: round, author, four of the digest, status, marks. Its key is the round, then the digest.
+// `order` holds the used places in its first n cells, sorted strictly by key.
+ghost use mathlib.Core.Path.{_≡_};
+ghost use Prim.Native.Nat.{_+_, _*_, _/_, _<_, _≤_};
+ghost use lib.ListN.{length, getD};
+ghost use Rattle.dag_keys.specs.Key.{key, before};
+ghost use Rattle.dag_keys.specs.Sorted.{isInside, Sorted, isSorted, placeOf, standing, pointAt};
+ghost use Rattle.models.specs.Tables.{roundAt, authorAt, Inside};
+
+// The round of place i.
+pub fn round(keys: &[u64], i: usize) -> u64
+    requires { ⌜ i * 8 + 8 ≤ length (now keys) ⌝ }
+    ensures { λ r. ⌜ r ≡ roundAt (now (keys .entry)) i ⌝ }
+{
+    keys[i * 8 + 0]
+}
+
+// The author of place i.
+pub fn author(keys: &[u64], i: usize) -> u64
+    requires { ⌜ i * 8 + 8 ≤ length (now keys) ⌝ }
+    ensures { λ r. ⌜ r ≡ authorAt (now (keys .entry)) i ⌝ }
+{
+    keys[i * 8 + 1]
+}
+
+// Whether place i of table a comes before place j of table b.
+pub fn less(a: &[u64], i: usize, b: &[u64], j: usize) -> bool
+    requires { ⌜ (i * 8 + 8 ≤ length (now a)) × (j * 8 + 8 ≤ length (now b)) ⌝ }
+    ensures { λ r. ⌜ r ≡ before (key (now (a .entry)) i) (key (now (b .entry)) j) ⌝ }
+{
+    let x = i * 8;
+    let y = j * 8;
+    let u = a[x + 0];
+    let v = b[y + 0];
+    if u != v {
+        return u < v;
+    }
+    let mut k = 2;
+    while k < 6 {
+        let u = a[x + k];
+        let v = b[y + k];
+        if u != v {
+            return u < v;
+        }
+        k += 1;
+    }
+    false
+}
+
+// Whether the first n cells hold places below `places`.
+pub fn inside(order: &[u64], n: usize, places: usize) -> bool
+    requires { ⌜ n ≤ length (now order) ⌝ }
+    ensures { λ r. ⌜ r ≡ isInside (now (order .entry)) n places ⌝ }
+{
+    let mut p: usize = 0;
+    while p < n {
+        let s = laws::slot(order[p]);
+        if places <= s {
+            return false;
+        }
+        p += 1;
+    }
+    true
+}
+
+// Whether the keys rise strictly over the first n cells.
+pub fn sorted(keys: &[u64], order: &[u64], n: usize) -> bool
+    requires { ⌜ (n ≤ length (now order)) × Inside (now order) n (length (now keys) / 8) ⌝ }
+    ensures { λ r. ⌜ r ≡ isSorted (now (keys .entry)) (now (order .entry)) n ⌝ }
+{
+    let mut k = 1;
+    while k < n {
+        let i = laws::slot(order[k - 1]);
+        let j = laws::slot(order[k]);
+        if !less(keys, i, keys, j) {
+            return false;
+        }
+        k += 1;
+    }
+    true
+}
+
+// The first position whose key does not come before the id's, or n: where the id stands or is to be put.
+pub fn seek(keys: &[u64], order: &[u64], n: usize, id: &[u64]) -> usize
+    requires { ⌜ (n ≤ length (now order)) × ((8 ≤ length (now id)) × Inside (now order) n (length (now keys) / 8)) ⌝ }
+    requires { ⌜ Sorted (now keys) (now order) n ⌝ }
+    ensures { λ r. ⌜ r ≡ placeOf (now (keys .entry)) (now (order .entry)) n (key (now (id .entry)) 0) ⌝ }
+{
+    let mut lo = 0;
+    let mut hi = n;
+    while lo < hi {
+        let mid = lo + (hi - lo) / 2;
+        let i = laws::slot(order[mid]);
+        if less(keys, i, id, 0) {
+            lo = mid + 1;
+        } else {
+            hi = mid;
+        }
+    }
+    lo
+}
+
+// The position of the id's key, or n.
+pub fn find(keys: &[u64], order: &[u64], n: usize, id: &[u64]) -> usize
+    requires { ⌜ (n ≤ length (now order)) × ((8 ≤ length (now id)) × Inside (now order) n (length (now keys) / 8)) ⌝ }
+    requires { ⌜ Sorted (now keys) (now order) n ⌝ }
+    ensures { λ r. ⌜ r ≡ standing (now (keys .entry)) (now (order .entry)) n (key (now (id .entry)) 0) ⌝ }
+{
+    let p = seek(keys, order, n, id);
+    if p < n {
+        let i = laws::slot(order[p]);
+        if !less(id, 0, keys, i) {
+            return p;
+        }
+    }
+    n
+}
+
+// The position of the id's key, if the author there is the id's too, or n.
+pub fn find_point(keys: &[u64], order: &[u64], n: usize, id: &[u64]) -> usize
+    requires { ⌜ (n ≤ length (now order)) × ((8 ≤ length (now id)) × Inside (now order) n (length (now keys) / 8)) ⌝ }
+    requires { ⌜ Sorted (now keys) (now order) n ⌝ }
+    ensures { λ r. ⌜ r ≡ pointAt (now (keys .entry)) (now (order .entry)) n (key (now (id .entry)) 0) (getD (now (id .entry)) 1 0) ⌝ }
+{
+    let at = find(keys, order, n, id);
+    if at < n {
+        let i = laws::slot(order[at]);
+        if author(keys, i) == id[1] {
+            return at;
+        }
+    }
+    n
+}

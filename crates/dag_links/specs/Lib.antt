@@ -1,0 +1,5 @@
+pub mod Links
+pub mod Named
+pub mod Bare
+pub mod Words
+pub mod Ruled

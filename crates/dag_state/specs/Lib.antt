@@ -1,0 +1,5 @@
+pub mod State
+pub mod View
+pub mod Back
+pub mod Reads
+pub mod Numbers

@@ -1,0 +1,180 @@
+// Origin: dag/commit/back.rs (init, extend_from_front, drain_upto), dag/commit/mod.rs (init, reset, is_once_after_gap, drop_upto): what
+// the calls do to the state.
+ghost use mathlib.Core.Path.{_≡_};
+ghost use Prim.Native.Nat.{_+_, _<_, _≤_};
+ghost use Rattle.dag_state.specs.Back.{Starts, begunState, clearedState, extendedState, askedState, droppedState, fullBottom, firstOf, armedOf, usedOf, usedWord};
+ghost use Rattle.spec.specs.Rules.{usedOk};
+ghost use mathlib.Core.Bool.{true};
+use crate::state::Memory;
+use crate::state::RoundRecord;
+use crate::state::State;
+use models::parts::Round;
+
+// The author of a used mark.
+pub enum UsedAuthor {
+    Nobody,
+    Peer(u32),
+}
+
+// What a start takes.
+pub struct Beginning {
+    pub genesis: Round,
+    pub history_rounds: u32,
+    pub deduplicate_rounds: u32,
+    pub bottom: Round,
+    pub peers: u32,
+    pub after_gap: bool,
+    pub used: UsedAuthor,
+}
+
+fn used_ok(used: UsedAuthor) -> bool
+    ensures { λ r. ⌜ r ≡ usedOk (usedOf used) ⌝ }
+{
+    match used {
+        UsedAuthor::Nobody => true,
+        UsedAuthor::Peer(author) => author < 32,
+    }
+}
+
+// An author's number in a round record.
+fn used_word(used: UsedAuthor) -> u32
+    requires { ⌜ usedOk (usedOf used) ≡ true ⌝ }
+    ensures { λ r. ⌜ r ≡ usedWord used ⌝ }
+{
+    match used {
+        UsedAuthor::Nobody => 0,
+        UsedAuthor::Peer(author) => author + 1,
+    }
+}
+
+// The full-history bottom of a start.
+fn full_bottom(genesis: u32, history: u32, bottom: u32) -> u32
+    requires { ⌜ (genesis ≤ 4000000000) × (history ≤ 255) × (bottom ≤ 4000000000) ⌝ }
+    ensures { λ r. ⌜ r ≡ fullBottom genesis history bottom ⌝ }
+{
+    if bottom <= genesis + history {
+        return bottom;
+    }
+    bottom + history
+}
+
+// The first executable round of a start.
+fn first_executable(after_gap: bool, full: u32, deduplicate: u32, bottom: u32) -> u32
+    requires { ⌜ full + deduplicate < 4294967296 ⌝ }
+    ensures { λ r. ⌜ r ≡ firstOf «after_gap» full deduplicate bottom ⌝ }
+{
+    if after_gap {
+        full + deduplicate
+    } else {
+        bottom
+    }
+}
+
+// The number of the gap flag of a start.
+fn armed(after_gap: bool) -> u32
+    ensures { λ r. ⌜ r ≡ armedOf «after_gap» ⌝ }
+{
+    if after_gap { 1 } else { 0 }
+}
+
+// The state after a start.
+pub fn begun(memory: Memory, with: Beginning) -> State
+    requires { ⌜ Starts with ⌝ }
+    ensures { λ r. ⌜ r ≡ begunState memory with ⌝ }
+{
+    let genesis = with.genesis;
+    let bottom = with.bottom;
+    let used = with.used;
+    let b = bottom.0;
+    let word = used_word(used);
+    let full = full_bottom(genesis.0, with.history_rounds, b);
+    let first = first_executable(with.after_gap, full, with.deduplicate_rounds, b);
+    let gap = armed(with.after_gap);
+    let empty = RoundRecord { peers: 0, used: 0 };
+    let mut rounds = [empty; 512];
+    rounds[(b % 512) as usize] = RoundRecord {
+        peers: with.peers,
+        used: word,
+    };
+    State {
+        phase: 1,
+        count: 0,
+        genesis,
+        history_rounds: with.history_rounds,
+        deduplicate_rounds: with.deduplicate_rounds,
+        bottom,
+        top: bottom,
+        last_proof: 0,
+        last_anchor: 0,
+        full_history_bottom: Round(full),
+        first_executable: Round(first),
+        gap,
+        rounds,
+        memory,
+    }
+}
+
+// The state after a reset: the inspector's memory stays.
+pub fn cleared(s: State) -> State
+    ensures { λ r. ⌜ r ≡ clearedState s ⌝ }
+{
+    let empty = RoundRecord { peers: 0, used: 0 };
+    let memory = s.memory;
+    State {
+        phase: 2,
+        count: 0,
+        genesis: Round(0),
+        history_rounds: 0,
+        deduplicate_rounds: 0,
+        bottom: Round(0),
+        top: Round(0),
+        last_proof: 0,
+        last_anchor: 0,
+        full_history_bottom: Round(0),
+        first_executable: Round(0),
+        gap: 0,
+        rounds: [empty; 512],
+        memory,
+    }
+}
+
+// One round more, above the top.
+pub fn extended(s: State, peers: u32) -> State
+    requires { ⌜ s .top .0 < 4000000000 ⌝ }
+    ensures { λ r. ⌜ r ≡ extendedState s peers ⌝ }
+{
+    let top = s.top;
+    let above = top.0 + 1;
+    let mut next = s;
+    next.rounds[(above % 512) as usize] = RoundRecord { peers, used: 0 };
+    let higher = Round(above);
+    next.top = higher;
+    next
+}
+
+// The gap question is put.
+pub fn asked(s: State) -> State
+    ensures { λ r. ⌜ r ≡ askedState s ⌝ }
+{
+    let mut next = s;
+    next.gap = 2;
+    next
+}
+
+// The rounds below bottom are gone, and count places are used; a history is full from H rounds above `actual` on.
+pub fn dropped(s: State, actual: u32, bottom: u32, count: usize) -> State
+    requires { ⌜ (actual ≤ 4000000000) × (s .«history_rounds» ≤ 255) × (s .«deduplicate_rounds» ≤ 65535) ⌝ }
+    ensures { λ r. ⌜ r ≡ droppedState s actual bottom count ⌝ }
+{
+    let full = actual + s.history_rounds;
+    let lowest = Round(bottom);
+    let complete = Round(full);
+    let first = Round(full + s.deduplicate_rounds);
+    let mut next = s;
+    next.bottom = lowest;
+    next.count = count;
+    next.full_history_bottom = complete;
+    next.first_executable = first;
+    next.gap = 1;
+    next
+}

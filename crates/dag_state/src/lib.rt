@@ -1,0 +1,3 @@
+// What of the store goes by value: round records, numbers, the inspector's memory (state), and what the calls do to it (back).
+pub mod back;
+pub mod state;

@@ -1,0 +1,4 @@
+pub mod Digest
+pub mod Parts
+pub mod Tables
+pub mod Cert
