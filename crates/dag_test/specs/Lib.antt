@@ -1,0 +1,6 @@
+pub mod Tested
+pub mod Refs
+pub mod View
+pub mod Edges
+pub mod Tall
+pub mod Count
