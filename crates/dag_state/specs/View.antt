@@ -30,8 +30,9 @@ unfoldable pub refsFrom : List ℕ → ℕ → ℕ → ℕ → ℕ → List Ref
 refsFrom ls q b k zero = []
 refsFrom ls q b k (suc m) = cond (ltb 0 (targetAt ls q (b + k))) (record { peer = k; digest = digestAt ls (q * 328 + 72 + (b + k) * 4) } ∷ refsFrom ls q b (k + 1) m) (refsFrom ls q b (k + 1) m)
 
-unfoldable pub toldAt : List ℕ → List ℕ → ℕ → Told
-toldAt ks ls q = cond (eqb (statusAt ks q) 0) unresolved (record {
+-- what a resolution gave
+abbrev pub givenAt : List ℕ → List ℕ → ℕ → Told
+givenAt ks ls q = record {
   status = statusAt ks q;
   proof = bitOf 1 (marksAt ks q);
   trigger = bitOf 2 (marksAt ks q);
@@ -40,7 +41,10 @@ toldAt ks ls q = cond (eqb (statusAt ks q) 0) unresolved (record {
   evidence = evidenceAt ls q;
   includes = refsFrom ls q 0 0 32;
   witness = refsFrom ls q 32 0 32;
-})
+}
+
+unfoldable pub toldAt : List ℕ → List ℕ → ℕ → Told
+toldAt ks ls q = cond (eqb (statusAt ks q) 0) unresolved (givenAt ks ls q)
 
 unfoldable pub pointAt : List ℕ → List ℕ → List ℕ → ℕ → Point
 pointAt ks ls cs q = record {

@@ -4,3 +4,5 @@ pub mod View
 pub mod Edges
 pub mod Tall
 pub mod Count
+pub mod Formed
+pub mod Four
