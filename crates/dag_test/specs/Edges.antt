@@ -66,7 +66,7 @@ module _ (b n : ℕ) (ks ls cs os : List ℕ) (sorted : Sorted ks os n) (right :
   abbrev idOf : ℕ → Id
   idOf q = record { round = roundAt ks q; author = authorAt ks q; digest = digestOf ks q }
 
-  names-fits : (p k q : ℕ) → Names ks ls p k q → fits (roundAt ks p) (idOf q) (linkAt ls p k) ≡ true
+  pub names-fits : (p k q : ℕ) → Names ks ls p k q → fits (roundAt ks p) (idOf q) (linkAt ls p k) ≡ true
   unfolding fits
   names-fits p k q m = both (eq-eqb _ _ (m .falls)) (both (eq-eqb _ _ (m .author)) (eq-eqb _ _ (digest-words ks ls (q * 8 + 2) (p * 328 + 72 + k * 4) fk fl .0 (words-of _ _ _ _ (m .digest)))))
 

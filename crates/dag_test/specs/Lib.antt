@@ -6,3 +6,5 @@ pub mod Tall
 pub mod Count
 pub mod Formed
 pub mod Four
+pub mod Whole
+pub mod Counts

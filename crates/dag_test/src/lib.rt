@@ -6,6 +6,8 @@ ghost use lib.Dec.{eqb};
 ghost use Rattle.models.specs.Tables.{Inside};
 ghost use Rattle.spec.specs.Rules.{placesOk};
 ghost use Rattle.dag_state.specs.Numbers.{roundsHold};
+ghost use Rattle.spec.specs.Rules.{counts};
+ghost use Rattle.dag_test.specs.View.{view};
 ghost use Rattle.dag_test.specs.Tested.{shape, stateHolds, orderHolds, pointsHold, tested};
 use dag_state::state::State;
 
@@ -133,14 +135,8 @@ fn points_hold(s: State, keys: &[u64], links: &[u64], certs: &[u64], order: &[u6
     dag_heights::heights_hold(keys, links, certs, order, n, b, h)
 }
 
-// Whether the state and the tables count as started. Each test relies on those before it, so that any state and any tables may be given.
-pub fn counts_as_started(
-    s: State,
-    keys: &[u64],
-    links: &[u64],
-    certs: &[u64],
-    order: &[u64],
-) -> bool
+// All tests. Each relies on those before it, so that any state and any tables may be given.
+fn all_hold(s: State, keys: &[u64], links: &[u64], certs: &[u64], order: &[u64]) -> bool
     ensures { λ r. ⌜ r ≡ tested s (now (keys .entry)) (now (links .entry)) (now (certs .entry)) (now (order .entry)) ⌝ }
 {
     if !shape_holds(keys, links, certs, order) {
@@ -153,4 +149,17 @@ pub fn counts_as_started(
         return false;
     }
     points_hold(s, keys, links, certs, order)
+}
+
+// Whether the state and the tables count as started.
+pub fn counts_as_started(
+    s: State,
+    keys: &[u64],
+    links: &[u64],
+    certs: &[u64],
+    order: &[u64],
+) -> bool
+    ensures { λ r. ⌜ r ≡ counts (view s (now (keys .entry)) (now (links .entry)) (now (certs .entry)) (now (order .entry))) ⌝ }
+{
+    all_hold(s, keys, links, certs, order)
 }

@@ -1,0 +1,176 @@
+-- The tables pass the test exactly if they count as started.
+use Prim.Native.Nat.{ℕ, _≤_}
+use mathlib.Core.Path.{_≡_, refl, sym, _∙_, ap, subst}
+use mathlib.Core.List.{List}
+use mathlib.Core.Bool.{true, _&&_}
+use native.Mathlib.Omega.{arith}
+use lib.Dec.{eqb, leb, ltb}
+use lib.ListN.{length}
+use borrow.Author.Tests.{eq-eqb, leb-true, le-leb, ltb-true, lt-ltb}
+use Rattle.laws.specs.Test.{byTest, clash, both, and-l, and-r, or-l, or-r, sameOr, same-test}
+use Rattle.laws.specs.Scan.{every-elim, every-intro}
+use Rattle.spec.specs.Store as store
+use Rattle.spec.specs.Store.{Store}
+use Rattle.spec.specs.Rules.{placesOk, confOk, roundsOk, isStarted, counts}
+use Rattle.spec.specs.Started.{counts-elim, counts-intro}
+use Rattle.models.specs.Digest.{Fit}
+use Rattle.models.specs.Tables.{roundAt, authorAt, statusAt, placeAt, Inside, Used}
+use Rattle.dag_keys.specs.Sorted.{isInside, isSorted, inside-is, sorted-is}
+use Rattle.dag_few.specs.Exact.{Window, few-sound, few-complete}
+use Rattle.dag_heights.specs.Exact.{heights-sound, heights-complete}
+use Rattle.dag_links.specs.Links.{linksHold}
+use Rattle.dag_links.specs.Named.{links-sound, links-fall}
+use Rattle.dag_links.specs.Bare.{bareHold}
+use Rattle.dag_links.specs.Words.{wordsHold}
+use Rattle.dag_links.specs.Ruled.{Words, bare-exact, words-exact}
+use Rattle.dag_ids.specs.Ids.{idHolds, idAtHolds, idsHold}
+use Rattle.dag_state.specs.View.{phaseOf, confOf, roundsOf}
+use Rattle.dag_state.specs.Numbers.{confHolds, roundsHold, conf-is, rounds-is}
+use Rattle.dag_state.specs.declared.state.State.{State}
+use Rattle.dag_test.specs.Tested.{shape, stateHolds, orderHolds, pointsHold, tested, range-says, places-says}
+use Rattle.dag_test.specs.View.{view, regular, wordsFit}
+use Rattle.dag_test.specs.Whole.{Facts, places-is, sized, facts-wf, wf-facts}
+
+module _ (s : State) (ks ls cs os : List ℕ) where
+  -- the window of the retained rounds
+  window-of : roundsHold s ≡ true → ((q : ℕ) → Used os (s .count) q → idAtHolds s ks q ≡ true) → Window (s .bottom .0) ks os (s .count)
+  unfolding roundsHold idHolds
+  window-of ro ids q u =
+      let r = range-says _ _ _ (and-l _ _ ro) in
+      let a = ids q u in
+      let b = and-r (leb (s .bottom .0) (roundAt ks q)) _ a in
+      let c = and-r (leb (roundAt ks q) (s .top .0)) _ b in
+      let low : s .bottom .0 ≤ roundAt ks q = leb-true _ _ (and-l (leb (s .bottom .0) (roundAt ks q)) _ a) in
+      let high : roundAt ks q ≤ s .top .0 = leb-true _ _ (and-l (leb (roundAt ks q) (s .top .0)) _ b) in
+      (low, omega (arith, low, high, r .0, r .2), ltb-true _ _ (and-l (ltb (authorAt ks q) 32) _ c))
+
+  -- the tests say the facts
+  pub tests-facts : placesOk (length os) ≡ true → roundsHold s ≡ true → orderHolds s ks os ≡ true → pointsHold s ks ls cs os ≡ true → Facts s ks ls cs os
+  unfolding orderHolds pointsHold idsHold
+  tests-facts po ro o p =
+      let inside = inside-is os (s .count) (length os) .0 (and-l (isInside os (s .count) (length os)) _ o) in
+      let o2 = and-r (isInside os (s .count) (length os)) _ o in
+      let o3 = and-r (isSorted ks os (s .count)) _ o2 in
+      let p2 = and-r (linksHold (s .bottom .0) ks ls os (s .count)) _ p in
+      let p3 = and-r (bareHold ks ls os (s .count)) _ p2 in
+      let right = links-sound (s .bottom .0) ks ls os (s .count) (and-l (linksHold (s .bottom .0) ks ls os (s .count)) _ p) in
+      let ids : (q : ℕ) → Used os (s .count) q → idAtHolds s ks q ≡ true = λ q (i, l, e). subst (λ x. idAtHolds s ks x ≡ true) e (every-elim (s .count) (λ i. idAtHolds s ks (placeAt os i)) (and-l (idsHold s ks os (s .count)) _ o3) i l) in
+      record {
+        inside = inside;
+        sorted = sorted-is ks os (s .count) .0 (and-l (isSorted ks os (s .count)) _ o2);
+        right = right;
+        words = words-exact ks ls cs os (s .count) .0 (and-l (wordsHold ks ls cs os (s .count)) _ p3);
+        bare = bare-exact ks ls os (s .count) .0 (and-l (bareHold ks ls os (s .count)) _ p2);
+        ids = ids;
+        few = few-sound (s .bottom .0) ks os (s .count) (window-of ro ids) (and-r (idsHold s ks os (s .count)) _ o3);
+        heights = heights-sound (s .bottom .0) (s .«history_rounds») ks ls cs os (s .count) (places-says _ po) inside (links-fall (s .bottom .0) ks ls os (s .count) right) (and-r (wordsHold ks ls cs os (s .count)) _ p3);
+      }
+
+  -- and the facts pass the tests
+  pub facts-order : roundsHold s ≡ true → Facts s ks ls cs os → orderHolds s ks os ≡ true
+  unfolding orderHolds idsHold
+  facts-order ro f =
+      both (inside-is os (s .count) (length os) .1 (f .inside)) (both (sorted-is ks os (s .count) .1 (f .sorted))
+      (both (every-intro (s .count) _ (λ i l. f .ids (placeAt os i) (i, l, refl))) (few-complete (s .bottom .0) ks os (s .count) (window-of ro (f .ids)) (f .few))))
+
+  pub facts-points : placesOk (length os) ≡ true → linksHold (s .bottom .0) ks ls os (s .count) ≡ true → Facts s ks ls cs os → pointsHold s ks ls cs os ≡ true
+  unfolding pointsHold
+  facts-points po lk f =
+      both lk (both (bare-exact ks ls os (s .count) .1 (f .bare)) (both (words-exact ks ls cs os (s .count) .1 (f .words))
+      (heights-complete (s .bottom .0) (s .«history_rounds») ks ls cs os (s .count) (places-says _ po) (f .inside) (links-fall (s .bottom .0) ks ls os (s .count) (f .right)) (f .heights))))
+
+  links-of : pointsHold s ks ls cs os ≡ true → linksHold (s .bottom .0) ks ls os (s .count) ≡ true
+  unfolding pointsHold
+  links-of h = and-l (linksHold (s .bottom .0) ks ls os (s .count)) _ h
+
+  fit-of : (q : ℕ) → Words ks ls cs q → wordsFit ks ls cs q ≡ true
+  unfolding wordsFit
+  fit-of q w =
+      both (lt-ltb _ _ (w .named .marks)) (both (le-leb _ _ (w .named .word))
+      (sameOr (statusAt ks q) 0 (λ e. or-l _ _ (eq-eqb _ _ e)) (λ d. or-r (eqb (statusAt ks q) 0) _ (let t = w .told (omega arith) in both (lt-ltb _ _ (t .evidence)) (lt-ltb _ _ (t .round))))))
+
+  regular-of : leb (s .count) (length os) ≡ true → leb (s .memory .count) 128 ≡ true → linksHold (s .bottom .0) ks ls os (s .count) ≡ true → Facts s ks ls cs os → regular s ks ls cs os ≡ true
+  unfolding regular
+  regular-of a b c f =
+      both a (both b (both (inside-is os (s .count) (length os) .1 (f .inside)) (both (sorted-is ks os (s .count) .1 (f .sorted)) (both c (every-intro (s .count) _ (λ i l. fit-of (placeAt os i) (f .words (placeAt os i) (i, l, refl))))))))
+
+  -- the view's numbers
+  conf-of : (v : Store) → v ≡ view s ks ls cs os → v .conf ≡ confOf s
+  unfolding view
+  conf-of v e = ap (λ (x : Store). x .conf) e
+
+  bottom-of : (v : Store) → v ≡ view s ks ls cs os → v .bottom ≡ s .bottom .0
+  unfolding view
+  bottom-of v e = ap (λ (x : Store). x .bottom) e
+
+  top-of : (v : Store) → v ≡ view s ks ls cs os → v .top ≡ s .top .0
+  unfolding view
+  top-of v e = ap (λ (x : Store). x .top) e
+
+  rounds-are : (v : Store) → v ≡ view s ks ls cs os → v .rounds ≡ roundsOf s
+  unfolding view
+  rounds-are v e = ap (λ (x : Store). x .rounds) e
+
+  regular-says : regular s ks ls cs os ≡ true → (leb (s .count) (length os) ≡ true) × (leb (s .memory .count) 128 ≡ true) × Inside os (s .count) (length os) × (linksHold (s .bottom .0) ks ls os (s .count) ≡ true)
+  unfolding regular
+  regular-says h =
+      let a = and-r (leb (s .count) (length os)) _ h in
+      let b = and-r (leb (s .memory .count) 128) _ a in
+      let c = and-r (isInside os (s .count) (length os)) _ b in
+      let d = and-r (isSorted ks os (s .count)) _ c in
+      (and-l (leb (s .count) (length os)) _ h, and-l (leb (s .memory .count) 128) _ a, inside-is os (s .count) (length os) .0 (and-l (isInside os (s .count) (length os)) _ b), and-l (linksHold (s .bottom .0) ks ls os (s .count)) _ d)
+
+  -- the rule of the rounds
+  rounds-of : counts (view s ks ls cs os) ≡ true → roundsHold s ≡ true
+  unfolding counts
+  rounds-of h =
+      let v = view s ks ls cs os in
+      let a = and-r (isStarted (v .phase)) _ h in
+      let b = and-r (placesOk (v .places)) _ a in
+      let c = and-r (confOk (v .conf)) _ b in
+      sym (rounds-is s v (conf-of v refl) (bottom-of v refl) (top-of v refl) (rounds-are v refl)) ∙ and-l (roundsOk v) _ c
+
+  -- a phase that reads as started
+  begun-elim : isStarted (view s ks ls cs os .phase) ≡ true → (shape ks ls cs os ≡ true) × (regular s ks ls cs os ≡ true) × (eqb (s .phase) 1 ≡ true)
+  unfolding view phaseOf isStarted
+  begun-elim h =
+      byTest (shape ks ls cs os && regular s ks ls cs os)
+      (λ t. byTest (eqb (s .phase) 1)
+      (λ p. (and-l _ _ t, and-r (shape ks ls cs os) _ t, p))
+      (λ p. absurd (byTest (eqb (s .phase) 2) (λ q. clash h (rw (t, p, q) refl)) (λ q. clash h (rw (t, p, q) refl)))))
+      (λ f. absurd (clash h (rw f refl)))
+
+  module _ (fk : Fit ks) (fl : Fit ls) where
+    passed-counts : tested s ks ls cs os ≡ true → counts (view s ks ls cs os) ≡ true
+    unfolding tested stateHolds
+    passed-counts h =
+        let sh : shape ks ls cs os ≡ true = and-l (shape ks ls cs os) _ h in
+        let h2 = and-r (shape ks ls cs os) _ h in
+        let st = and-l (stateHolds s (length os)) _ h2 in
+        let h3 = and-r (stateHolds s (length os)) _ h2 in
+        let s2 = and-r (eqb (s .phase) 1) _ st in
+        let s3 = and-r (placesOk (length os)) _ s2 in
+        let s4 = and-r (confHolds (s .«history_rounds») (s .«deduplicate_rounds»)) _ s3 in
+        let s5 = and-r (roundsHold s) _ s4 in
+        let po = and-l (placesOk (length os)) _ s2 in
+        let ro = and-l (roundsHold s) _ s4 in
+        let pts = and-r (orderHolds s ks os) _ h3 in
+        let f = tests-facts po ro (and-l (orderHolds s ks os) _ h3) pts in
+        let rg = regular-of (and-l (leb (s .count) (length os)) _ s5) (and-r (leb (s .count) (length os)) _ s5) (links-of pts) f in
+        counts-intro (view s ks ls cs os) (sized s ks ls cs os fk fl sh (f .inside)) (facts-wf s ks ls cs os fk fl sh rg (and-l (eqb (s .phase) 1) _ st) po (and-l (confHolds (s .«history_rounds») (s .«deduplicate_rounds»)) _ s3) ro f)
+
+    counted-passes : counts (view s ks ls cs os) ≡ true → tested s ks ls cs os ≡ true
+    unfolding tested stateHolds counts
+    counted-passes h =
+        let (sh, rg, ph) = begun-elim (and-l (isStarted (view s ks ls cs os .phase)) _ h) in
+        let (cn, mm, inside, lk) = regular-says rg in
+        let w = counts-elim (view s ks ls cs os) (sized s ks ls cs os fk fl sh inside) h in
+        let f = wf-facts s ks ls cs os fk fl sh rg w in
+        let po : placesOk (length os) ≡ true = ap placesOk (sym (places-is s ks ls cs os fk fl sh)) ∙ w .places-ok in
+        let ro = rounds-of h in
+        let co = sym (conf-is s) ∙ (ap confOk (sym (conf-of _ refl)) ∙ w .conf-ok) in
+        both sh (both (both ph (both po (both co (both ro (both cn mm))))) (both (facts-order ro f) (facts-points po lk f)))
+
+    -- the tables pass the test exactly if they count as started
+    pub counts-is : counts (view s ks ls cs os) ≡ tested s ks ls cs os
+    counts-is = same-test _ _ counted-passes passed-counts
