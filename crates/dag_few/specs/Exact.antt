@@ -8,8 +8,8 @@ use lib.ListN.{length}
 use lib.Dec.{eqb}
 use borrow.Author.Tests.{eqb-true, eq-eqb, ltb-true, lt-ltb}
 use Rattle.laws.specs.Test.{byTest, both, and-l, and-r, same-test, sameOr}
-use Rattle.laws.specs.Scan.{every-elim, every-intro, those, those-same, those-most}
-use Rattle.dag_few.specs.Few.{cellOf, cellAt, inCell, tally, fewHold, those-yes, those-no}
+use Rattle.laws.specs.Scan.{every-elim, every-intro, those, those-same, those-most, those-yes, those-no}
+use Rattle.dag_few.specs.Few.{cellOf, cellAt, inCell, tally, fewHold}
 use Rattle.models.specs.Tables.{roundAt, authorAt, placeAt, Used}
 
 -- the place at position i has the round and the author of the place q

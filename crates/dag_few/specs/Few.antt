@@ -10,7 +10,7 @@ use lib.Seq.{getD-set-same, getD-set-other}
 use lib.Dec.{eqb, ltb}
 use borrow.Author.Tests.{ltb-true, lt-ltb, le-ltb, eq-eqb, ne-eqb}
 use Rattle.laws.specs.Test.{sameOr}
-use Rattle.laws.specs.Scan.{every, those}
+use Rattle.laws.specs.Scan.{every, those, those-yes, those-no}
 use Rattle.models.specs.Tables.{roundAt, authorAt, placeAt}
 
 -- the cell that a round and an author count in
@@ -43,16 +43,6 @@ fits ks os i = ltb (tally ks os i (cellAt ks (placeAt os i))) 4
 -- the test that the code makes
 unfoldable pub fewHold : List ℕ → List ℕ → ℕ → Bool
 fewHold ks os n = every n (fits ks os)
-
--- one position more, which passes
-pub those-yes : (n : ℕ) (f : ℕ → Bool) → f n ≡ true → length (those (suc n) f) ≡ suc (length (those n f))
-unfolding those
-those-yes n f h = rw h refl
-
--- one position more, which fails
-pub those-no : (n : ℕ) (f : ℕ → Bool) → f n ≡ false → length (those (suc n) f) ≡ length (those n f)
-unfolding those
-those-no n f h = rw h refl
 
 -- the cell i is full
 pub counted-full : (ks s : List ℕ) (q i : ℕ) → i ≡ cellAt ks q → 4 ≤ getD s i 0 → (false ≡ room ks s q) × (s ≡ counted ks s q)

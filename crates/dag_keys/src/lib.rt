@@ -8,14 +8,6 @@ ghost use Rattle.dag_keys.specs.Key.{key, before};
 ghost use Rattle.dag_keys.specs.Sorted.{isInside, Sorted, isSorted, placeOf, standing, pointAt};
 ghost use Rattle.models.specs.Tables.{roundAt, authorAt, Inside};
 
-// The round of place i.
-pub fn round(keys: &[u64], i: usize) -> u64
-    requires { ⌜ i * 8 + 8 ≤ length (now keys) ⌝ }
-    ensures { λ r. ⌜ r ≡ roundAt (now (keys .entry)) i ⌝ }
-{
-    keys[i * 8 + 0]
-}
-
 // The author of place i.
 pub fn author(keys: &[u64], i: usize) -> u64
     requires { ⌜ i * 8 + 8 ≤ length (now keys) ⌝ }

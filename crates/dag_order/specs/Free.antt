@@ -7,11 +7,9 @@ use native.Mathlib.Omega.{arith}
 use native.Mathlib.Numerals.{add-one}
 use lib.ListN.{length, getD, set}
 use lib.Seq.{getD-set-same, getD-set-other}
-use lib.Dec.{eqb}
-use mathlib.Core.Logic.{_↔_}
-use borrow.Author.Tests.{eq-eqb, ne-eqb, eqb-true, not-true, not-false}
+use borrow.Author.Tests.{eq-eqb, ne-eqb, not-true, not-false}
 use Rattle.laws.specs.Test.{sameOr, not-yes, not-no}
-use Rattle.laws.specs.Scan.{any, any-elim, any-intro, first, first-is, first-le, first-hit, first-miss}
+use Rattle.laws.specs.Scan.{any, first, first-is, first-le, first-hit, first-miss}
 use Rattle.models.specs.Tables.{isUsed}
 
 -- the least place that is not, or `places`
@@ -31,14 +29,6 @@ used-more o m p s l h =
     (sameOr (getD o p 0) s
     (λ e. rw (eq-eqb (getD o p 0) s e, e) (getD-set-same m s true false (rw e at l)))
     (λ n. rw (ne-eqb (getD o p 0) s n) (getD-set-other m (getD o p 0) s true false (λ e. n (sym e)) ∙ h)))
-
--- it stands at some position
-pub used-is : (o : List ℕ) (n s : ℕ) → (isUsed o n s ≡ true) ↔ ((p : ℕ) × (p < n) × (getD o p 0 ≡ s))
-unfolding isUsed
-used-is o n s = (
-  (λ h. let (p, l, e) = any-elim n (λ p. eqb (getD o p 0) s) h in (p, l, eqb-true (getD o p 0) s e)),
-  λ w. any-intro n _ (w .0) (w .1) (eq-eqb (getD o (w .0) 0) s (w .2)),
-)
 
 -- the place that is found is free
 pub free-is-free : (o : List ℕ) (n places : ℕ) → firstFree o n places < places → isUsed o n (firstFree o n places) ≡ false

@@ -12,8 +12,7 @@ use Rattle.laws.specs.Scan.{first-ext}
 use Rattle.dag_keys.specs.Key.{key, key-same}
 use Rattle.dag_keys.specs.Sorted.{Sorted, keyAt, placeOf}
 use Rattle.dag_order.specs.Shift.{inserted, inserted-sorted}
-use Rattle.dag_order.specs.Free.{used-is}
-use Rattle.models.specs.Tables.{isUsed}
+use Rattle.models.specs.Tables.{isUsed, used-is}
 
 -- t with the first f words of the id in place s
 unfoldable pub stored : List ℕ → List ℕ → ℕ → ℕ → List ℕ

@@ -8,32 +8,24 @@ use lib.Dec.{eqb}
 use lib.ListN.{length}
 use borrow.Author.Tests.{eqb-true, eq-eqb}
 use Rattle.laws.specs.Test.{byTest, clash, both, and-l, and-r, sameOr, same-test}
-use Rattle.laws.specs.Scan.{any, any-intro, any-elim, those, those-fewer, those-one, those-same}
-
-yes : (n : ℕ) (f : ℕ → Bool) → f n ≡ true → length (those (suc n) f) ≡ suc (length (those n f))
-unfolding those
-yes n f h = rw h refl
-
-no : (n : ℕ) (f : ℕ → Bool) → f n ≡ false → length (those (suc n) f) ≡ length (those n f)
-unfolding those
-no n f h = rw h refl
+use Rattle.laws.specs.Scan.{any, any-intro, any-elim, those, those-fewer, those-one, those-same, those-yes, those-no}
 
 -- one that passes, and the others
 without : (P : ℕ) (f g : ℕ → Bool) (q : ℕ) → q < P → f q ≡ true → g q ≡ false → ((p : ℕ) → p < P → p ≢ q → f p ≡ g p) → length (those P f) ≡ suc (length (those P g))
 without zero f g q l a b h = absurd (omega arith)
 without (suc P) f g q l a b h =
     sameOr P q
-    (λ e. yes P f (rw e a) ∙ ap suc (ap length (those-same P f g (λ p k. h p (omega arith) (λ d. omega arith))) ∙ sym (no P g (rw e b))))
+    (λ e. those-yes P f (rw e a) ∙ ap suc (ap length (those-same P f g (λ p k. h p (omega arith) (λ d. omega arith))) ∙ sym (those-no P g (rw e b))))
     (λ d. let r = without P f g q (omega arith) a b (λ p k. h p (omega arith)) in
     byTest (f P)
-    (λ t. yes P f t ∙ (ap suc r ∙ ap suc (sym (yes P g (sym (h P (omega arith) d) ∙ t)))))
-    (λ t. no P f t ∙ (r ∙ ap suc (sym (no P g (sym (h P (omega arith) d) ∙ t))))))
+    (λ t. those-yes P f t ∙ (ap suc r ∙ ap suc (sym (those-yes P g (sym (h P (omega arith) d) ∙ t)))))
+    (λ t. those-no P f t ∙ (r ∙ ap suc (sym (those-no P g (sym (h P (omega arith) d) ∙ t))))))
 
 -- none passes
 none : (P : ℕ) (g : ℕ → Bool) → ((p : ℕ) → p < P → g p ≡ true → ⊥) → length (those P g) ≤ 0
 unfolding those
 none zero g h = omega arith
-none (suc P) g h = byTest (g P) (λ t. absurd (h P (omega arith) t)) (λ f. let r = none P g (λ p l. h p (omega arith)) in omega (arith, no P g f))
+none (suc P) g h = byTest (g P) (λ t. absurd (h P (omega arith) t)) (λ f. let r = none P g (λ p l. h p (omega arith)) in omega (arith, those-no P g f))
 
 module _ (P : ℕ) (at : ℕ → ℕ) (f : ℕ → Bool) where
   -- passes, and stands at one of the first m positions
@@ -60,8 +52,8 @@ module _ (P : ℕ) (at : ℕ → ℕ) (f : ℕ → Bool) where
   fewer (suc m) =
       let r = fewer m in
       byTest (f (at m))
-      (λ t. omega (arith, yes m (λ i. f (at i)) t, those-one P (among m) (among (suc m)) (at m) (λ p l d h. among-less m p d h)))
-      (λ t. omega (arith, no m (λ i. f (at i)) t, those-fewer P (among m) (among (suc m)) (λ p l h. among-less m p (λ e. clash (among-elim (suc m) p h .0) (ap f e ∙ t)) h)))
+      (λ t. omega (arith, those-yes m (λ i. f (at i)) t, those-one P (among m) (among (suc m)) (at m) (λ p l d h. among-less m p d h)))
+      (λ t. omega (arith, those-no m (λ i. f (at i)) t, those-fewer P (among m) (among (suc m)) (λ p l h. among-less m p (λ e. clash (among-elim (suc m) p h .0) (ap f e ∙ t)) h)))
 
   pub places-fewer : (n : ℕ) → ((p : ℕ) → p < P → f p ≡ true → (i : ℕ) × (i < n) × (at i ≡ p)) → length (those P f) ≤ length (those n (λ i. f (at i)))
   places-fewer n h =
@@ -77,11 +69,11 @@ module _ (P : ℕ) (at : ℕ → ℕ) (f : ℕ → Bool) where
       byTest (f (at m))
       (λ t. omega (
         arith,
-        yes m (λ i. f (at i)) t,
+        those-yes m (λ i. f (at i)) t,
         without P (among (suc m)) (among m) (at m) (inside m (omega arith)) (among-intro (suc m) (at m) m t (omega arith) refl)
             (not-among t) (λ p k d. same-test _ _ (among-less m p d) (among-more m p)),
       ))
-      (λ t. omega (arith, no m (λ i. f (at i)) t, those-fewer P (among (suc m)) (among m) (λ p k h. among-more m p h)))
+      (λ t. omega (arith, those-no m (λ i. f (at i)) t, those-fewer P (among (suc m)) (among m) (λ p k h. among-more m p h)))
     where
       not-among : f (at m) ≡ true → among m (at m) ≡ false
       not-among t = byTest (among m (at m)) (λ h. let (a, (i, k, e)) = among-elim m (at m) h in let x = one i m (omega arith) (omega arith) e in absurd (omega arith)) (λ h. h)

@@ -8,7 +8,8 @@ use Rattle.laws.specs.Test.{both, and-l, and-r}
 use Rattle.spec.specs.Store as store
 use Rattle.spec.specs.Store.{Store, linksTo, resolved}
 use Rattle.spec.specs.Paths as paths
-use Rattle.spec.specs.Paths.{Path, here, step, E, gives, IsHeight, height}
+use Rattle.spec.specs.Paths.{E, gives, IsHeight, height}
+use Rattle.spec.specs.Graph.{carry}
 use Rattle.spec.specs.Heights.{height-unique}
 use Rattle.spec.specs.Links.{resolved-named}
 use Rattle.spec.specs.Level.{Sized, height-is}
@@ -23,16 +24,12 @@ use Rattle.dag_state.specs.View.{pointAt}
 use Rattle.dag_test.specs.View.{seenAt, seen-used, seen-named}
 use Rattle.dag_test.specs.Edges.{edge-elim, edge-intro}
 
-map-path : {E F : ℕ → ℕ → Type 0} → ((x y : ℕ) → E x y → F x y) → {p q : ℕ} → Path E p q → Path F p q
-map-path f here = here
-map-path f (step e k) = step (f _ _ e) (map-path f k)
-
 -- a height by other links, rounds and tops that are the same
 height-move : {E F : ℕ → ℕ → Type 0} {r s : ℕ → ℕ} {T U : ℕ → Type 0} {H p m : ℕ} → ((x y : ℕ) → E x y → F x y) → ((x y : ℕ) → F x y → E x y)
     → ((x : ℕ) → T x → U x × (r x ≡ s x)) → ((x : ℕ) → U x → T x) → r p ≡ s p → IsHeight E r T H p m → IsHeight F s U H p m
 height-move {r = r} {s = s} {H = H} {p = p} {m = m} f g t u e h = record {
-  bound = λ x a k. subst (λ z. z ≤ m) (same x (t x (u x a) .1)) (h .bound x (u x a) (map-path g k));
-  met = ⊎-elim (λ z. inl z) (λ (x, a, k, z). inr (x, t x a .0, map-path f k, z ∙ same x (t x a .1))) (h .met);
+  bound = λ x a k. subst (λ z. z ≤ m) (same x (t x (u x a) .1)) (h .bound x (u x a) (carry g k));
+  met = ⊎-elim (λ z. inl z) (λ (x, a, k, z). inr (x, t x a .0, carry f k, z ∙ same x (t x a .1))) (h .met);
 }
   where
     same : (x : ℕ) → r x ≡ s x → gives H r x p ≡ gives H s x p

@@ -3,16 +3,14 @@ use Prim.Native.Nat.{ℕ}
 use mathlib.Core.Path.{_≡_, refl}
 use mathlib.Core.List.{List}
 use mathlib.Core.Bool.{Bool, true, _&&_, _||_, cond}
-use mathlib.Core.Logic.{_↔_}
 use lib.Dec.{eqb, leb, ltb}
 use lib.ListN.{length, getD}
-use borrow.Author.Tests.{eq-eqb, eqb-true}
 use Rattle.laws.specs.Test.{byTest, clash}
-use Rattle.laws.specs.Scan.{any-elim, any-intro, every}
+use Rattle.laws.specs.Scan.{every}
 use Rattle.spec.specs.Store as store
 use Rattle.spec.specs.Store.{Point, Store, free}
 use Rattle.models.specs.Cert.{heightOf}
-use Rattle.models.specs.Tables.{statusAt, marksAt, placeAt, Used, isUsed, evidenceAt}
+use Rattle.models.specs.Tables.{statusAt, marksAt, placeAt, Used, isUsed, evidenceAt, used-is}
 use Rattle.dag_keys.specs.Sorted.{isInside, isSorted}
 use Rattle.dag_links.specs.Links.{linksHold}
 use Rattle.dag_links.specs.Words.{proofRoundAt}
@@ -49,14 +47,6 @@ view s ks ls cs os = record {
   progress = progressOf s;
   memory = memoryOf (s .memory);
 }
-
--- a place in the order is used
-pub used-is : (os : List ℕ) (n q : ℕ) → (isUsed os n q ≡ true) ↔ Used os n q
-unfolding isUsed
-used-is os n q = (
-  (λ h. let (i, l, e) = any-elim n (λ i. eqb (placeAt os i) q) h in (i, l, eqb-true _ _ e)),
-  λ (i, l, e). any-intro n (λ i. eqb (placeAt os i) q) i l (eq-eqb _ _ e),
-)
 
 module _ (ks ls cs os : List ℕ) (n q : ℕ) where
   pub seen-used : Used os n q → seenAt ks ls cs os n q ≡ pointAt ks ls cs q

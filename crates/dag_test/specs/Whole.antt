@@ -21,6 +21,7 @@ use Rattle.spec.specs.Started as rules
 use Rattle.spec.specs.Started.{Wf}
 use Rattle.models.specs.Digest.{Fit}
 use Rattle.models.specs.Cert.{flagsOf, heightOf}
+use Rattle.models.specs.Tables as tables
 use Rattle.models.specs.Tables.{roundAt, authorAt, statusAt, marksAt, evidenceAt, placeAt, Inside, Used, dist}
 use Rattle.dag_keys.specs.Sorted.{Sorted, isInside, isSorted, inside-is, sorted-is}
 use Rattle.dag_few.specs.Exact.{Few}
@@ -37,7 +38,6 @@ use Rattle.dag_state.specs.Numbers.{confHolds, rangeHolds, usedHold, roundsHold
 use Rattle.dag_state.specs.declared.state.State.{State}
 use Rattle.dag_test.specs.Tested.{shape}
 use Rattle.dag_test.specs.Refs.{links-elim}
-use Rattle.dag_test.specs.View as seen
 use Rattle.dag_test.specs.View.{seenAt, seen-used, seen-named, view, regular, wordsFit}
 use Rattle.dag_test.specs.Edges.{resolved-is, links-seen, one-place, names-fits}
 use Rattle.dag_test.specs.Tall.{tall-elim, tall-intro}
@@ -87,7 +87,7 @@ module _ (s : State) (ks ls cs os : List ℕ) (fk : Fit ks) (fl : Fit ls) (sh : 
 
   height-at : (q : ℕ) → Used os (s .count) q → v .heights q ≡ heightAt cs q
   unfolding view heightOf
-  height-at q u = rw (seen.used-is os (s .count) q .1 u) refl
+  height-at q u = rw (tables.used-is os (s .count) q .1 u) refl
 
   -- the rounds from bottom to top, and the peers of their records
   peers-is : (r : ℕ) → s .bottom .0 ≤ r → r ≤ s .top .0 → v .rounds r .peers ≡ recordOf (s .rounds) r .peers

@@ -8,10 +8,12 @@
 use Prim.Native.Nat.{ℕ, _+_, _*_, _/_, _<_}
 use mathlib.Core.Path.{_≡_}
 use mathlib.Core.List.{List}
-use mathlib.Core.Bool.{Bool}
+use mathlib.Core.Bool.{Bool, true}
+use mathlib.Core.Logic.{_↔_}
 use lib.ListN.{getD}
 use lib.Dec.{eqb}
-use Rattle.laws.specs.Scan.{any}
+use borrow.Author.Tests.{eq-eqb, eqb-true}
+use Rattle.laws.specs.Scan.{any, any-elim, any-intro}
 use Rattle.models.specs.Digest.{digestAt}
 
 abbrev pub roundAt : List ℕ → ℕ → ℕ
@@ -44,6 +46,14 @@ Used os n q = (i : ℕ) × (i < n) × (placeAt os i ≡ q)
 -- the test of it
 unfoldable pub isUsed : List ℕ → ℕ → ℕ → Bool
 isUsed os n q = any n (λ i. eqb (placeAt os i) q)
+
+-- it passes exactly then
+pub used-is : (os : List ℕ) (n q : ℕ) → (isUsed os n q ≡ true) ↔ Used os n q
+unfolding isUsed
+used-is os n q = (
+  (λ h. let (i, l, e) = any-elim n (λ i. eqb (placeAt os i) q) h in (i, l, eqb-true _ _ e)),
+  λ (i, l, e). any-intro n (λ i. eqb (placeAt os i) q) i l (eq-eqb _ _ e),
+)
 
 abbrev pub evidenceAt : List ℕ → ℕ → ℕ
 evidenceAt ls q = getD ls (q * 328 + 0) 0
