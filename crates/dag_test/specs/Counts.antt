@@ -31,6 +31,18 @@ use Rattle.dag_test.specs.Tested.{shape, stateHolds, orderHolds, pointsH
 use Rattle.dag_test.specs.View.{view, regular, wordsFit}
 use Rattle.dag_test.specs.Whole.{Facts, places-is, sized, facts-wf, wf-facts}
 
+-- what the tables hold that count as started
+pub record Started (s : State) (ks ls cs os : List ℕ) : Type 0 where
+  pub shaped : shape ks ls cs os ≡ true
+  pub regulated : regular s ks ls cs os ≡ true
+  pub begun : eqb (s .phase) 1 ≡ true
+  pub places-ok : placesOk (length os) ≡ true
+  pub conf-ok : confHolds (s .«history_rounds») (s .«deduplicate_rounds») ≡ true
+  pub rounds-ok : roundsHold s ≡ true
+  pub count-ok : s .count ≤ length os
+  pub memory-ok : s .memory .count ≤ 128
+  pub facts : Facts s ks ls cs os
+
 module _ (s : State) (ks ls cs os : List ℕ) where
   -- the window of the retained rounds
   window-of : roundsHold s ≡ true → ((q : ℕ) → Used os (s .count) q → idAtHolds s ks q ≡ true) → Window (s .bottom .0) ks os (s .count)
@@ -159,17 +171,30 @@ module _ (s : State) (ks ls cs os : List ℕ) where
         let rg = regular-of (and-l (leb (s .count) (length os)) _ s5) (and-r (leb (s .count) (length os)) _ s5) (links-of pts) f in
         counts-intro (view s ks ls cs os) (sized s ks ls cs os fk fl sh (f .inside)) (facts-wf s ks ls cs os fk fl sh rg (and-l (eqb (s .phase) 1) _ st) po (and-l (confHolds (s .«history_rounds») (s .«deduplicate_rounds»)) _ s3) ro f)
 
-    counted-passes : counts (view s ks ls cs os) ≡ true → tested s ks ls cs os ≡ true
-    unfolding tested stateHolds counts
-    counted-passes h =
+    pub counted : counts (view s ks ls cs os) ≡ true → Started s ks ls cs os
+    unfolding counts
+    counted h =
         let (sh, rg, ph) = begun-elim (and-l (isStarted (view s ks ls cs os .phase)) _ h) in
         let (cn, mm, inside, lk) = regular-says rg in
         let w = counts-elim (view s ks ls cs os) (sized s ks ls cs os fk fl sh inside) h in
-        let f = wf-facts s ks ls cs os fk fl sh rg w in
-        let po : placesOk (length os) ≡ true = ap placesOk (sym (places-is s ks ls cs os fk fl sh)) ∙ w .places-ok in
-        let ro = rounds-of h in
-        let co = sym (conf-is s) ∙ (ap confOk (sym (conf-of _ refl)) ∙ w .conf-ok) in
-        both sh (both (both ph (both po (both co (both ro (both cn mm))))) (both (facts-order ro f) (facts-points po lk f)))
+        record {
+          shaped = sh;
+          regulated = rg;
+          begun = ph;
+          places-ok = ap placesOk (sym (places-is s ks ls cs os fk fl sh)) ∙ w .places-ok;
+          conf-ok = sym (conf-is s) ∙ (ap confOk (sym (conf-of _ refl)) ∙ w .conf-ok);
+          rounds-ok = rounds-of h;
+          count-ok = leb-true _ _ cn;
+          memory-ok = leb-true _ _ mm;
+          facts = wf-facts s ks ls cs os fk fl sh rg w;
+        }
+
+    counted-passes : counts (view s ks ls cs os) ≡ true → tested s ks ls cs os ≡ true
+    unfolding tested stateHolds
+    counted-passes h =
+        let t = counted h in
+        both (t .shaped) (both (both (t .begun) (both (t .places-ok) (both (t .conf-ok) (both (t .rounds-ok) (both (le-leb _ _ (t .count-ok)) (le-leb _ _ (t .memory-ok)))))))
+        (both (facts-order (t .rounds-ok) (t .facts)) (facts-points (t .places-ok) (regular-says (t .regulated) .3) (t .facts))))
 
     -- the tables pass the test exactly if they count as started
     pub counts-is : counts (view s ks ls cs os) ≡ tested s ks ls cs os
