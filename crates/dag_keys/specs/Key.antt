@@ -158,7 +158,7 @@ before-roundKey t i r =
     (λ n. before-here _ _ _ _ n)
 
 -- equal words, one by one
-words-same : (t u : List ℕ) (p q m : ℕ) → ((j : ℕ) → j < m → getD t (p + j) 0 ≡ getD u (q + j) 0) → words t p m ≡ words u q m
+pub words-same : (t u : List ℕ) (p q m : ℕ) → ((j : ℕ) → j < m → getD t (p + j) 0 ≡ getD u (q + j) 0) → words t p m ≡ words u q m
 unfolding words
 words-same t u p q zero h = refl
 words-same t u p q (suc m) h =

@@ -27,7 +27,7 @@ pub struct Beginning {
     pub used: UsedAuthor,
 }
 
-fn used_ok(used: UsedAuthor) -> bool
+pub fn used_ok(used: UsedAuthor) -> bool
     ensures { λ r. ⌜ r ≡ usedOk (usedOf used) ⌝ }
 {
     match used {

@@ -9,17 +9,16 @@ use lib.ListN.{length}
 use borrow.Author.Tests.{eq-eqb, leb-true, le-leb, ltb-true, lt-ltb}
 use Rattle.laws.specs.Test.{byTest, clash, both, and-l, and-r, or-l, or-r, sameOr, same-test}
 use Rattle.laws.specs.Scan.{every-elim, every-intro}
-use Rattle.spec.specs.Store as store
 use Rattle.spec.specs.Store.{Store}
 use Rattle.spec.specs.Rules.{placesOk, confOk, roundsOk, isStarted, counts}
 use Rattle.spec.specs.Started.{counts-elim, counts-intro}
 use Rattle.models.specs.Digest.{Fit}
-use Rattle.models.specs.Tables.{roundAt, authorAt, statusAt, placeAt, Inside, Used}
+use Rattle.models.specs.Tables.{roundAt, authorAt, statusAt, placeAt, Used}
 use Rattle.dag_keys.specs.Sorted.{isInside, isSorted, inside-is, sorted-is}
 use Rattle.dag_few.specs.Exact.{Window, few-sound, few-complete}
 use Rattle.dag_heights.specs.Exact.{heights-sound, heights-complete}
 use Rattle.dag_links.specs.Links.{linksHold}
-use Rattle.dag_links.specs.Named.{links-sound, links-fall}
+use Rattle.dag_links.specs.Named.{links-sound, links-complete, links-fall}
 use Rattle.dag_links.specs.Bare.{bareHold}
 use Rattle.dag_links.specs.Words.{wordsHold}
 use Rattle.dag_links.specs.Ruled.{Words, bare-exact, words-exact}
@@ -29,6 +28,7 @@ use Rattle.dag_state.specs.Numbers.{confHolds, roundsHold, conf-is, rounds-is}
 use Rattle.dag_state.specs.declared.state.State.{State}
 use Rattle.dag_test.specs.Tested.{shape, stateHolds, orderHolds, pointsHold, tested, range-says, places-says}
 use Rattle.dag_test.specs.View.{view, regular, wordsFit}
+use Rattle.dag_test.specs.Regular.{regular-elim, regular-intro}
 use Rattle.dag_test.specs.Whole.{Facts, places-is, sized, facts-wf, wf-facts}
 
 -- what the tables hold that count as started
@@ -41,6 +41,7 @@ pub record Started (s : State) (ks ls cs os : List ℕ) : Type 0 where
   pub rounds-ok : roundsHold s ≡ true
   pub count-ok : s .count ≤ length os
   pub memory-ok : s .memory .count ≤ 128
+  pub fits : (q : ℕ) → Used os (s .count) q → wordsFit ks ls cs q ≡ true
   pub facts : Facts s ks ls cs os
 
 module _ (s : State) (ks ls cs os : List ℕ) where
@@ -85,26 +86,17 @@ module _ (s : State) (ks ls cs os : List ℕ) where
       both (inside-is os (s .count) (length os) .1 (f .inside)) (both (sorted-is ks os (s .count) .1 (f .sorted))
       (both (every-intro (s .count) _ (λ i l. f .ids (placeAt os i) (i, l, refl))) (few-complete (s .bottom .0) ks os (s .count) (window-of ro (f .ids)) (f .few))))
 
-  pub facts-points : placesOk (length os) ≡ true → linksHold (s .bottom .0) ks ls os (s .count) ≡ true → Facts s ks ls cs os → pointsHold s ks ls cs os ≡ true
+  pub facts-points : placesOk (length os) ≡ true → Facts s ks ls cs os → pointsHold s ks ls cs os ≡ true
   unfolding pointsHold
-  facts-points po lk f =
-      both lk (both (bare-exact ks ls os (s .count) .1 (f .bare)) (both (words-exact ks ls cs os (s .count) .1 (f .words))
+  facts-points po f =
+      both (links-complete (s .bottom .0) ks ls os (s .count) (f .inside) (places-says _ po) (f .right)) (both (bare-exact ks ls os (s .count) .1 (f .bare)) (both (words-exact ks ls cs os (s .count) .1 (f .words))
       (heights-complete (s .bottom .0) (s .«history_rounds») ks ls cs os (s .count) (places-says _ po) (f .inside) (links-fall (s .bottom .0) ks ls os (s .count) (f .right)) (f .heights))))
-
-  links-of : pointsHold s ks ls cs os ≡ true → linksHold (s .bottom .0) ks ls os (s .count) ≡ true
-  unfolding pointsHold
-  links-of h = and-l (linksHold (s .bottom .0) ks ls os (s .count)) _ h
 
   fit-of : (q : ℕ) → Words ks ls cs q → wordsFit ks ls cs q ≡ true
   unfolding wordsFit
   fit-of q w =
       both (lt-ltb _ _ (w .named .marks)) (both (le-leb _ _ (w .named .word))
       (sameOr (statusAt ks q) 0 (λ e. or-l _ _ (eq-eqb _ _ e)) (λ d. or-r (eqb (statusAt ks q) 0) _ (let t = w .told (omega arith) in both (lt-ltb _ _ (t .evidence)) (lt-ltb _ _ (t .round))))))
-
-  regular-of : leb (s .count) (length os) ≡ true → leb (s .memory .count) 128 ≡ true → linksHold (s .bottom .0) ks ls os (s .count) ≡ true → Facts s ks ls cs os → regular s ks ls cs os ≡ true
-  unfolding regular
-  regular-of a b c f =
-      both a (both b (both (inside-is os (s .count) (length os) .1 (f .inside)) (both (sorted-is ks os (s .count) .1 (f .sorted)) (both c (every-intro (s .count) _ (λ i l. fit-of (placeAt os i) (f .words (placeAt os i) (i, l, refl))))))))
 
   -- the view's numbers
   conf-of : (v : Store) → v ≡ view s ks ls cs os → v .conf ≡ confOf s
@@ -123,17 +115,8 @@ module _ (s : State) (ks ls cs os : List ℕ) where
   unfolding view
   rounds-are v e = ap (λ (x : Store). x .rounds) e
 
-  regular-says : regular s ks ls cs os ≡ true → (leb (s .count) (length os) ≡ true) × (leb (s .memory .count) 128 ≡ true) × Inside os (s .count) (length os) × (linksHold (s .bottom .0) ks ls os (s .count) ≡ true)
-  unfolding regular
-  regular-says h =
-      let a = and-r (leb (s .count) (length os)) _ h in
-      let b = and-r (leb (s .memory .count) 128) _ a in
-      let c = and-r (isInside os (s .count) (length os)) _ b in
-      let d = and-r (isSorted ks os (s .count)) _ c in
-      (and-l (leb (s .count) (length os)) _ h, and-l (leb (s .memory .count) 128) _ a, inside-is os (s .count) (length os) .0 (and-l (isInside os (s .count) (length os)) _ b), and-l (linksHold (s .bottom .0) ks ls os (s .count)) _ d)
-
   -- the rule of the rounds
-  rounds-of : counts (view s ks ls cs os) ≡ true → roundsHold s ≡ true
+  pub rounds-of : counts (view s ks ls cs os) ≡ true → roundsHold s ≡ true
   unfolding counts
   rounds-of h =
       let v = view s ks ls cs os in
@@ -152,6 +135,11 @@ module _ (s : State) (ks ls cs os : List ℕ) where
       (λ p. absurd (byTest (eqb (s .phase) 2) (λ q. clash h (rw (t, p, q) refl)) (λ q. clash h (rw (t, p, q) refl)))))
       (λ f. absurd (clash h (rw f refl)))
 
+  -- the tables have one number of places, and the inspector's memory is within its own
+  pub shape-of : counts (view s ks ls cs os) ≡ true → (shape ks ls cs os ≡ true) × (s .memory .count ≤ 128)
+  unfolding counts
+  shape-of h = let (sh, rg, ph) = begun-elim (and-l (isStarted (view s ks ls cs os .phase)) _ h) in (sh, regular-elim s ks ls cs os rg .memory)
+
   module _ (fk : Fit ks) (fl : Fit ls) where
     passed-counts : tested s ks ls cs os ≡ true → counts (view s ks ls cs os) ≡ true
     unfolding tested stateHolds
@@ -168,15 +156,22 @@ module _ (s : State) (ks ls cs os : List ℕ) where
         let ro = and-l (roundsHold s) _ s4 in
         let pts = and-r (orderHolds s ks os) _ h3 in
         let f = tests-facts po ro (and-l (orderHolds s ks os) _ h3) pts in
-        let rg = regular-of (and-l (leb (s .count) (length os)) _ s5) (and-r (leb (s .count) (length os)) _ s5) (links-of pts) f in
+        let rg = regular-intro s ks ls cs os (places-says _ po) (record {
+          room = leb-true _ _ (and-l (leb (s .count) (length os)) _ s5);
+          memory = leb-true _ _ (and-r (leb (s .count) (length os)) _ s5);
+          inside = f .inside;
+          sorted = f .sorted;
+          right = f .right;
+          fits = λ q u. fit-of q (f .words q u);
+        }) in
         counts-intro (view s ks ls cs os) (sized s ks ls cs os fk fl sh (f .inside)) (facts-wf s ks ls cs os fk fl sh rg (and-l (eqb (s .phase) 1) _ st) po (and-l (confHolds (s .«history_rounds») (s .«deduplicate_rounds»)) _ s3) ro f)
 
     pub counted : counts (view s ks ls cs os) ≡ true → Started s ks ls cs os
     unfolding counts
     counted h =
         let (sh, rg, ph) = begun-elim (and-l (isStarted (view s ks ls cs os .phase)) _ h) in
-        let (cn, mm, inside, lk) = regular-says rg in
-        let w = counts-elim (view s ks ls cs os) (sized s ks ls cs os fk fl sh inside) h in
+        let g = regular-elim s ks ls cs os rg in
+        let w = counts-elim (view s ks ls cs os) (sized s ks ls cs os fk fl sh (g .inside)) h in
         record {
           shaped = sh;
           regulated = rg;
@@ -184,8 +179,9 @@ module _ (s : State) (ks ls cs os : List ℕ) where
           places-ok = ap placesOk (sym (places-is s ks ls cs os fk fl sh)) ∙ w .places-ok;
           conf-ok = sym (conf-is s) ∙ (ap confOk (sym (conf-of _ refl)) ∙ w .conf-ok);
           rounds-ok = rounds-of h;
-          count-ok = leb-true _ _ cn;
-          memory-ok = leb-true _ _ mm;
+          count-ok = g .room;
+          memory-ok = g .memory;
+          fits = g .fits;
           facts = wf-facts s ks ls cs os fk fl sh rg w;
         }
 
@@ -194,7 +190,7 @@ module _ (s : State) (ks ls cs os : List ℕ) where
     counted-passes h =
         let t = counted h in
         both (t .shaped) (both (both (t .begun) (both (t .places-ok) (both (t .conf-ok) (both (t .rounds-ok) (both (le-leb _ _ (t .count-ok)) (le-leb _ _ (t .memory-ok)))))))
-        (both (facts-order (t .rounds-ok) (t .facts)) (facts-points (t .places-ok) (regular-says (t .regulated) .3) (t .facts))))
+        (both (facts-order (t .rounds-ok) (t .facts)) (facts-points (t .places-ok) (t .facts))))
 
     -- the tables pass the test exactly if they count as started
     pub counts-is : counts (view s ks ls cs os) ≡ tested s ks ls cs os

@@ -1,6 +1,8 @@
 pub mod Tested
 pub mod Refs
 pub mod View
+pub mod Same
+pub mod Regular
 pub mod Edges
 pub mod Tall
 pub mod Count

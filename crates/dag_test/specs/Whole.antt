@@ -8,7 +8,7 @@ use lib.Dec.{eqb, leb, ltb}
 use lib.ListN.{length, getD}
 use borrow.Author.Tests.{eqb-true, eq-eqb, ne-eqb, leb-true, le-leb, ltb-true, lt-ltb}
 use Rattle.laws.specs.Test.{byTest, both, and-l, and-r, sameOr}
-use Rattle.laws.specs.Scan.{every, every-elim}
+use Rattle.laws.specs.Scan.{every-elim}
 use Rattle.laws.specs.Peers.{member}
 use Rattle.spec.specs.Ids.{Link, fits}
 use Rattle.spec.specs.Store as store
@@ -22,13 +22,12 @@ use Rattle.spec.specs.Started.{Wf}
 use Rattle.models.specs.Digest.{Fit}
 use Rattle.models.specs.Cert.{flagsOf, heightOf}
 use Rattle.models.specs.Tables as tables
-use Rattle.models.specs.Tables.{roundAt, authorAt, statusAt, marksAt, evidenceAt, placeAt, Inside, Used, dist}
-use Rattle.dag_keys.specs.Sorted.{Sorted, isInside, isSorted, inside-is, sorted-is}
+use Rattle.models.specs.Tables.{roundAt, authorAt, statusAt, marksAt, evidenceAt, Inside, Used, dist}
+use Rattle.dag_keys.specs.Sorted.{Sorted}
 use Rattle.dag_few.specs.Exact.{Few}
 use Rattle.dag_heights.specs.View.{heightAt, Live}
 use Rattle.dag_heights.specs.Exact.{Heights}
-use Rattle.dag_links.specs.Named.{Links, links-sound}
-use Rattle.dag_links.specs.Links.{linksHold}
+use Rattle.dag_links.specs.Named.{Links}
 use Rattle.dag_links.specs.Words.{proofAuthorAt}
 use Rattle.dag_links.specs.Ruled.{Bare, Words}
 use Rattle.dag_ids.specs.Ids.{idHolds, idAtHolds}
@@ -39,6 +38,7 @@ use Rattle.dag_state.specs.declared.state.State.{State}
 use Rattle.dag_test.specs.Tested.{shape}
 use Rattle.dag_test.specs.Refs.{links-elim}
 use Rattle.dag_test.specs.View.{seenAt, seen-used, seen-named, view, regular, wordsFit}
+use Rattle.dag_test.specs.Regular.{Regular, regular-elim}
 use Rattle.dag_test.specs.Edges.{resolved-is, links-seen, one-place, names-fits}
 use Rattle.dag_test.specs.Tall.{tall-elim, tall-intro}
 use Rattle.dag_test.specs.Formed.{formed-elim, formed-intro}
@@ -177,27 +177,8 @@ module _ (s : State) (ks ls cs os : List ℕ) (fk : Fit ks) (fl : Fit ls) (sh : 
 
   -- and back
   module _ (rg : regular s ks ls cs os ≡ true) (w : Wf v) where
-    sane : (isInside os (s .count) (length os) && (isSorted ks os (s .count) && (linksHold (s .bottom .0) ks ls os (s .count) && every (s .count) (λ i. wordsFit ks ls cs (placeAt os i))))) ≡ true
-    unfolding regular
-    sane = and-r (leb (s .memory .count) 128) _ (and-r (leb (s .count) (length os)) _ rg)
-
-    is-inside : Inside os (s .count) (length os)
-    is-inside = inside-is os (s .count) (length os) .0 (and-l _ _ sane)
-
-    sane2 : (isSorted ks os (s .count) && (linksHold (s .bottom .0) ks ls os (s .count) && every (s .count) (λ i. wordsFit ks ls cs (placeAt os i)))) ≡ true
-    sane2 = and-r (isInside os (s .count) (length os)) _ sane
-
-    is-sorted : Sorted ks os (s .count)
-    is-sorted = sorted-is ks os (s .count) .0 (and-l _ _ sane2)
-
-    sane3 : (linksHold (s .bottom .0) ks ls os (s .count) && every (s .count) (λ i. wordsFit ks ls cs (placeAt os i))) ≡ true
-    sane3 = and-r (isSorted ks os (s .count)) _ sane2
-
-    is-right : Links (s .bottom .0) ks ls os (s .count)
-    is-right = links-sound (s .bottom .0) ks ls os (s .count) (and-l _ _ sane3)
-
-    fit : (q : ℕ) → Used os (s .count) q → wordsFit ks ls cs q ≡ true
-    fit q (i, l, e) = subst (λ x. wordsFit ks ls cs x ≡ true) e (every-elim (s .count) (λ i. wordsFit ks ls cs (placeAt os i)) (and-r (linksHold (s .bottom .0) ks ls os (s .count)) _ sane3) i l)
+    held : Regular s ks ls cs os
+    held = regular-elim s ks ls cs os rg
 
     is-named : (q : ℕ) → Used os (s .count) q → v .pt q .named ≡ true
     unfolding pointAt
@@ -227,11 +208,11 @@ module _ (s : State) (ks ls cs os : List ℕ) (fk : Fit ks) (fl : Fit ls) (sh : 
     is-words : (q : ℕ) → Used os (s .count) q → Words ks ls cs q
     unfolding wordsFit
     is-words q u =
-        let a = and-r (ltb (marksAt ks q) 8) _ (fit q u) in
+        let a = and-r (ltb (marksAt ks q) 8) _ (held .fits q u) in
         record {
           named = record {
             status = sameOr (statusAt ks q) 0 (λ e. omega arith) (λ d. is-formed q u (omega arith) .0);
-            marks = ltb-true _ _ (and-l (ltb (marksAt ks q) 8) _ (fit q u));
+            marks = ltb-true _ _ (and-l (ltb (marksAt ks q) 8) _ (held .fits q u));
             author = ltb-true _ _ (and-l _ _ (is-peer q u));
             word = leb-true _ _ (and-l (leb (getD cs q 0) 65_535) _ a);
             committed = is-firm q u;
@@ -252,12 +233,12 @@ module _ (s : State) (ks ls cs os : List ℕ) (fk : Fit ks) (fl : Fit ls) (sh : 
     pub wf-facts : Facts s ks ls cs os
     unfolding idHolds view confOf
     wf-facts = record {
-      inside = is-inside;
-      sorted = is-sorted;
-      right = is-right;
+      inside = held .inside;
+      sorted = held .sorted;
+      right = held .right;
       words = is-words;
       bare = is-bare;
       ids = λ q u. both (le-leb _ _ (is-low q u)) (both (le-leb _ _ (is-high q u)) (is-peer q u));
-      few = four-intro (s .count) ks ls cs os v named point is-sorted (subst (Inside os (s .count)) (sym places-is) is-inside) (λ q u. w .four q (is-named q u));
-      heights = tall-intro (s .bottom .0) (s .count) ks ls cs os is-sorted is-right is-low fk fl v (sized is-inside) sees is-tall;
+      few = four-intro (s .count) ks ls cs os v named point (held .sorted) (subst (Inside os (s .count)) (sym places-is) (held .inside)) (λ q u. w .four q (is-named q u));
+      heights = tall-intro (s .bottom .0) (s .count) ks ls cs os (held .sorted) (held .right) is-low fk fl v (sized (held .inside)) sees is-tall;
     }

@@ -32,7 +32,7 @@ fn link_words(a: usize, n: usize) -> bool
 }
 
 // Whether the tables have room for the same number of places.
-fn shape_holds(keys: &[u64], links: &[u64], certs: &[u64], order: &[u64]) -> bool
+pub fn shape_holds(keys: &[u64], links: &[u64], certs: &[u64], order: &[u64]) -> bool
     ensures { λ r. ⌜ r ≡ shape (now (keys .entry)) (now (links .entry)) (now (certs .entry)) (now (order .entry)) ⌝ }
 {
     let n = order.len();
@@ -46,7 +46,7 @@ fn shape_holds(keys: &[u64], links: &[u64], certs: &[u64], order: &[u64]) -> boo
 }
 
 // Start's range of the number of places.
-fn places_hold(places: usize) -> bool
+pub fn places_hold(places: usize) -> bool
     ensures { λ r. ⌜ r ≡ placesOk places ⌝ }
 {
     if places == 0 {

@@ -1,3 +1,6 @@
-// Rounds, heights, digests, ids and peer sets (parts), the certificate word (cert).
+// Rounds, heights, digests, ids and peer sets (parts), the certificate word (cert), what a resolution gives (info) and its five cases
+// (dag_point).
 pub mod cert;
+pub mod dag_point;
+pub mod info;
 pub mod parts;

@@ -3,9 +3,6 @@ use mathlib.Core.Path.{sym, _∙_}
 use Rattle.dag_test.specs.Counts.{counts-is}
 use Rattle.dag_test.proofs.counts_as_started.Statement.{statement}
 use Rattle.dag_test.proofs.counts_as_started.Tie as tie
-use Rattle.dag_test.proofs.counts_as_started.Reads as reads
-use Rattle.dag_test.proofs.counts_as_started.Lts as lts
-use Rattle.dag_test.proofs.all_hold.Reads as all-hold-reads
 
 -- src/lib.rt:170:5
 all-hold-requires : tie.Need-all-hold-requires

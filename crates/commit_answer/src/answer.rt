@@ -1,0 +1,36 @@
+// Origin: dag/commit/mod.rs (HistoryConflict, the results of the calls). What a call answers.
+ghost use mathlib.Core.Path.{_≡_};
+ghost use Rattle.commit_answer.specs.Answer.{refusal};
+use dag_state::state::State;
+use models::parts::Round;
+
+// Document 01's number of a refusal; 13, the history conflict, holds its round.
+pub enum Refusal {
+    Number(u32),
+    Conflict(Round),
+}
+
+// Refused holds the number of finished anchors.
+pub enum Answer {
+    Done,
+    Said(bool),
+    Handed(u32),
+    Refused(Refusal, u32),
+}
+
+// A call's answer and the state after it.
+pub struct Outcome {
+    pub answer: Answer,
+    pub state: State,
+}
+
+// A call refused with a number: the state stays.
+pub fn refused(s: State, number: u32) -> Outcome
+    ensures { λ r. ⌜ r ≡ refusal s number ⌝ }
+{
+    let why = Refusal::Number(number);
+    Outcome {
+        answer: Answer::Refused(why, 0),
+        state: s,
+    }
+}

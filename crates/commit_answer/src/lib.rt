@@ -1,0 +1,2 @@
+// The answers of the committer's calls.
+pub mod answer;

@@ -1,0 +1,118 @@
+use borrow.Author.Needs.{needs}
+use mathlib.Core.Path.{refl}
+use native.Mathlib.Omega.{arith}
+use Rattle.models.specs.Digest.{Fit}
+use Rattle.dag_drain.specs.Cut.{below-le}
+use Rattle.commit_answer.specs.Answer.{isRefused, board, tested-no, tested-by, says-refused, says-done}
+use Rattle.commit_rounds.specs.Drop.{droppedBoard, wholly, dropTested, call-drop, given, drop-outcome, drop-board}
+use Rattle.commit_rounds.proofs.drop_upto.Statement.{statement}
+use Rattle.commit_rounds.proofs.drop_upto.Tie as tie
+
+counts-as-started-requires : tie.Need-counts-as-started-requires
+counts-as-started-requires c κs = search needs
+
+refused-requires : tie.Need-refused-requires
+refused-requires c κs = search needs
+
+same-length : tie.Need-same-length
+same-length c = search needs
+
+same-length-2 : tie.Need-same-length-2
+same-length-2 c = search needs
+
+same-length-3 : tie.Need-same-length-3
+same-length-3 c = search needs
+
+same-length-4 : tie.Need-same-length-4
+same-length-4 c = search needs
+
+returns : tie.Need-returns
+unfolding isRefused
+returns c =
+    let a = c .before .before .before .before .before .before .before .before .before .before .before .args in
+    let fk : Fit (a .keys .now) = λ p. c .before .before .before .before .before .before .before .before .before .before .slice-known .given p .fits in
+    let fl : Fit (a .links .now) = λ p. c .before .before .before .before .before .before .before .before .before .slice-known2 .given p .fits in
+    says-refused (board (a .s) (a .keys .now) (a .links .now) (a .certs .now) (a .order .now)) (droppedBoard (a .s) (a .keys .now) (a .links .now) (a .certs .now) (a .order .now) (a .round .0)) (wholly (a .s) (a .keys .now) (a .links .now) (a .certs .now) (a .order .now) (a .round .0)) refl (dropTested (a .s) (a .keys .now) (a .links .now) (a .certs .now) (a .order .now) (a .round .0)) _ (call-drop (a .s) (a .keys .now) (a .links .now) (a .certs .now) (a .order .now) (a .round .0) fk fl) _ (tested-no _ _ _ (c .before .before .counts-as-started .ensures) (c .before .if1 .taken)) (λ e. omega arith) _ (c .refused .ensures)
+
+least-requires : tie.Need-least-requires
+least-requires c κs = search needs
+
+most-requires : tie.Need-most-requires
+most-requires c κs = search needs
+
+cut-requires : tie.Need-cut-requires
+cut-requires c κs =
+    let a = c .before .before .before .before .before .before .before .before .before .before .before .before .before .before .before .before .args in
+    let fk : Fit (a .keys .now) = λ p. c .before .before .before .before .before .before .before .before .before .before .before .before .before .before .before .slice-known .given p .fits in
+    let fl : Fit (a .links .now) = λ p. c .before .before .before .before .before .before .before .before .before .before .before .before .before .before .slice-known2 .given p .fits in
+    let g = given (a .s) (a .keys .now) (a .links .now) (a .certs .now) (a .order .now) fk fl _ (c .before .before .before .before .before .before .before .counts-as-started .ensures) (c .before .before .before .before .before .before .if1 .left) in
+    ((g .keys, g .room, g .inside), g .sorted)
+
+drain-upto-requires : tie.Need-drain-upto-requires
+drain-upto-requires c κs =
+    let a = c .before .before .before .before .before .before .before .before .before .before .before .before .before .before .before .before .before .before .before .before .before .args in
+    let fk : Fit (a .keys .now) = λ p. c .before .before .before .before .before .before .before .before .before .before .before .before .before .before .before .before .before .before .before .before .slice-known .given p .fits in
+    let fl : Fit (a .links .now) = λ p. c .before .before .before .before .before .before .before .before .before .before .before .before .before .before .before .before .before .before .before .slice-known2 .given p .fits in
+    let g = given (a .s) (a .keys .now) (a .links .now) (a .certs .now) (a .order .now) fk fl _ (c .before .before .before .before .before .before .before .before .before .before .before .before .counts-as-started .ensures) (c .before .before .before .before .before .before .before .before .before .before .before .if1 .left) in
+    let l = below-le (a .keys .now) (a .order .now) (a .s .count) (c .before .before .before .before .before .before .before .most .result) in
+    ((omega (arith, l, c .before .before .before .before .cut .ensures), g .room, g .keys, g .links, g .certs), g .inside)
+
+sub-dropped : tie.Need-sub-dropped
+sub-dropped c =
+    let a = c .before .before .before .before .before .before .before .before .before .before .before .before .before .before .before .before .before .before .before .before .before .before .before .before .before .before .before .before .before .before .args in
+    let l = below-le (a .keys .now) (a .order .now) (a .s .count) (c .before .before .before .before .before .before .before .before .before .before .before .before .before .before .before .before .most .result) in
+    omega (arith, l, c .before .before .before .before .before .before .before .before .before .before .before .before .before .cut .ensures)
+
+dropped-requires : tie.Need-dropped-requires
+dropped-requires c κs =
+    let a = c .before .before .before .before .before .before .before .before .before .before .before .before .before .before .before .before .before .before .before .before .before .before .before .before .before .before .before .before .before .before .args in
+    let fk : Fit (a .keys .now) = λ p. c .before .before .before .before .before .before .before .before .before .before .before .before .before .before .before .before .before .before .before .before .before .before .before .before .before .before .before .before .before .slice-known .given p .fits in
+    let fl : Fit (a .links .now) = λ p. c .before .before .before .before .before .before .before .before .before .before .before .before .before .before .before .before .before .before .before .before .before .before .before .before .before .before .before .before .slice-known2 .given p .fits in
+    let g = given (a .s) (a .keys .now) (a .links .now) (a .certs .now) (a .order .now) fk fl _ (c .before .before .before .before .before .before .before .before .before .before .before .before .before .before .before .before .before .before .before .before .before .counts-as-started .ensures) (c .before .before .before .before .before .before .before .before .before .before .before .before .before .before .before .before .before .before .before .before .if1 .left) in
+    (omega (arith, g .top, c .before .before .before .before .before .before .before .before .before .before .before .before .before .before .before .before .before .least .ensures), g .history, g .deduplicate)
+
+same-length-5 : tie.Need-same-length-5
+same-length-5 c = search needs
+
+same-length-6 : tie.Need-same-length-6
+same-length-6 c = search needs
+
+same-length-7 : tie.Need-same-length-7
+same-length-7 c = search needs
+
+same-length-8 : tie.Need-same-length-8
+same-length-8 c = search needs
+
+returns-2 : tie.Need-returns-2
+unfolding isRefused
+returns-2 c =
+    let a = c .before .before .before .before .before .before .before .before .before .before .before .before .before .before .before .before .before .before .before .before .before .before .before .before .before .before .before .before .before .before .before .args in
+    let fk : Fit (a .keys .now) = λ p. c .before .before .before .before .before .before .before .before .before .before .before .before .before .before .before .before .before .before .before .before .before .before .before .before .before .before .before .before .before .before .slice-known .given p .fits in
+    let fl : Fit (a .links .now) = λ p. c .before .before .before .before .before .before .before .before .before .before .before .before .before .before .before .before .before .before .before .before .before .before .before .before .before .before .before .before .before .slice-known2 .given p .fits in
+    let k = c .before .before .before .before .before .before .before .before .before .drain-upto .ensures in
+    says-done (board (a .s) (a .keys .now) (a .links .now) (a .certs .now) (a .order .now)) (droppedBoard (a .s) (a .keys .now) (a .links .now) (a .certs .now) (a .order .now) (a .round .0)) (wholly (a .s) (a .keys .now) (a .links .now) (a .certs .now) (a .order .now) (a .round .0)) refl (dropTested (a .s) (a .keys .now) (a .links .now) (a .certs .now) (a .order .now) (a .round .0)) _ (call-drop (a .s) (a .keys .now) (a .links .now) (a .certs .now) (a .order .now) (a .round .0) fk fl) 0 (tested-by _ 0 0 _ (c .before .before .before .before .before .before .before .before .before .before .before .before .before .before .before .before .before .before .before .before .before .before .counts-as-started .ensures) (c .before .before .before .before .before .before .before .before .before .before .before .before .before .before .before .before .before .before .before .before .before .if1 .left) refl) refl _ _
+    (drop-outcome (a .s) (a .keys .now) (a .links .now) (a .certs .now) (a .order .now) (a .round .0) _ _ _ (c .before .before .before .before .before .before .before .before .before .before .before .before .before .before .before .before .before .before .least .ensures) (c .before .before .before .before .before .before .before .before .before .before .before .before .before .before .before .before .before .most .ensures) (c .before .before .before .before .before .before .before .before .before .before .before .before .before .before .cut .ensures) _ (c .dropped .ensures))
+    (drop-board (a .s) (a .keys .now) (a .links .now) (a .certs .now) (a .order .now) (a .round .0) _ _ _ (c .before .before .before .before .before .before .before .before .before .before .before .before .before .before .before .before .before .before .least .ensures) (c .before .before .before .before .before .before .before .before .before .before .before .before .before .before .before .before .before .most .ensures) (c .before .before .before .before .before .before .before .before .before .before .before .before .before .before .cut .ensures) _ (c .dropped .ensures) (k .0) (k .1 .0) (k .1 .1 .0) (k .1 .1 .1))
+
+pub drop-upto-spec : {M : Type 1} → statement M
+drop-upto-spec =
+    tie.close
+    (tie.spec
+    counts-as-started-requires
+    refused-requires
+    same-length
+    same-length-2
+    same-length-3
+    same-length-4
+    returns
+    least-requires
+    most-requires
+    cut-requires
+    drain-upto-requires
+    sub-dropped
+    dropped-requires
+    same-length-5
+    same-length-6
+    same-length-7
+    same-length-8
+    returns-2)

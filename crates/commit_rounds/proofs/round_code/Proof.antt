@@ -1,0 +1,40 @@
+use borrow.Author.Needs.{needs}
+use Rattle.commit_rounds.specs.Round.{round-beyond, round-last, round-old, round-full, round-new}
+use Rattle.commit_rounds.proofs.round_code.Statement.{statement}
+use Rattle.commit_rounds.proofs.round_code.Tie as tie
+
+-- src/calls.rt:51:8
+add-if1 : tie.Need-add-if1
+add-if1 c = search needs
+
+-- src/calls.rt:52:9
+returns : tie.Need-returns
+returns c = search round-beyond
+
+-- src/calls.rt:55:9
+returns-2 : tie.Need-returns-2
+returns-2 c = search round-last
+
+-- src/calls.rt:58:9
+returns-3 : tie.Need-returns-3
+returns-3 c = search round-old
+
+-- src/calls.rt:60:15
+add-if4 : tie.Need-add-if4
+add-if4 c = search needs
+
+-- src/calls.rt:60:15
+sub-if4 : tie.Need-sub-if4
+sub-if4 c = search needs
+
+-- src/calls.rt:61:9
+returns-4 : tie.Need-returns-4
+returns-4 c = search round-full
+
+-- src/calls.rt:47:1
+returns-5 : tie.Need-returns-5
+returns-5 c = search round-new
+
+pub round-code-spec : {M : Type 1} → statement M
+round-code-spec =
+    tie.close (tie.spec add-if1 returns returns-2 returns-3 add-if4 sub-if4 returns-4 returns-5)

@@ -1,0 +1,3 @@
+pub mod Gap
+pub mod Round
+pub mod Drop

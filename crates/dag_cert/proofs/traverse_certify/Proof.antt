@@ -1,0 +1,36 @@
+-- The queue begins with place q, and has room.
+use Rattle.dag_cert.specs.Work.{start, traversed}
+use Rattle.dag_cert.specs.Sane.{start-ready}
+use borrow.Author.Needs.{needs}
+use Rattle.dag_cert.proofs.traverse_certify.Statement.{statement}
+use Rattle.dag_cert.proofs.traverse_certify.Tie as tie
+
+array-write-queue : tie.Need-array-write-queue
+array-write-queue c = search needs
+
+slice-aggregate-certify-queued : tie.Need-slice-aggregate-certify-queued
+slice-aggregate-certify-queued c = search needs
+
+certify-queued-requires : tie.Need-certify-queued-requires
+unfolding start
+certify-queued-requires c κs =
+    let p = c .before .before .before .before .before .pre in
+    let a = c .before .before .before .before .before .args in
+    (search needs, start-ready (a .bottom) (a .keys .now) (a .links .now) (a .certs .now) (a .q) (p .1))
+
+same-length : tie.Need-same-length
+same-length c = search needs
+
+returns : tie.Need-returns
+unfolding start traversed
+returns c = c .before .before .before .certify-queued .ensures
+
+pub traverse-certify-spec : {M : Type 1} → statement M
+traverse-certify-spec =
+    tie.close
+    (tie.spec
+    array-write-queue
+    slice-aggregate-certify-queued
+    certify-queued-requires
+    same-length
+    returns)

@@ -1,0 +1,4 @@
+pub mod Work
+pub mod Queue
+pub mod Sane
+pub mod Exact

@@ -1,0 +1,88 @@
+// Origin: models/cert.rs (traverse_certify, certify_deeper, max_height_published).
+// A height that rose is handed on along the links: each place that rises is queued once, and no other place is touched.
+ghost use mathlib.Core.Path.{_≡_};
+ghost use Prim.Native.Nat.{_+_, _*_, _<_, _≤_};
+ghost use lib.ListN.{length};
+ghost use Rattle.models.specs.Tables.{targetAt};
+ghost use Rattle.dag_heights.specs.View.{heightAt};
+ghost use Rattle.dag_cert.specs.Work.{work, deeper, Fits, handed, Open, Ready, settled, traversed};
+ghost use Rattle.dag_cert.specs.Sane.{Placed};
+
+// A link with the target word `target`, d rounds down from a place of height h: its target rises to h - d if it is lower, and is
+// queued. Returns the new end of the queue.
+fn certify_deeper(
+    certs: &mut [u64],
+    queue: &mut [u64],
+    tail: usize,
+    target: u64,
+    h: u64,
+    d: u64,
+) -> usize
+    requires { ⌜ (length (now queue) ≡ 4096) × (h < 4096) × (d ≤ 2) ⌝ }
+    requires { ⌜ Fits (work (now certs) (now queue) tail) target h d ⌝ }
+    ensures { λ r. ⌜ work (now (certs .exit)) (now (queue .exit)) r ≡ deeper (work (now (certs .entry)) (now (queue .entry)) tail) target h d ⌝ }
+{
+    if target == 0 {
+        return tail;
+    }
+    let t = (target - 1) as usize;
+    let c = certs[t];
+    if c % 4096 + d < h {
+        certs[t] = c / 4096 * 4096 + (h - d);
+        queue[tail] = target - 1;
+        return tail + 1;
+    }
+    tail
+}
+
+// Hands the height of place p on along its first m links. Returns the new end of the queue.
+fn certify_deps(
+    links: &[u64],
+    certs: &mut [u64],
+    queue: &mut [u64],
+    tail: usize,
+    p: usize,
+    m: usize,
+) -> usize
+    requires { ⌜ (m ≤ 64) × (p * 328 + 328 ≤ length (now links)) × (p < length (now certs)) × (length (now queue) ≡ 4096) ⌝ }
+    requires { ⌜ Open (now links) (work (now certs) (now queue) tail) p m ⌝ }
+    ensures { λ r. ⌜ work (now (certs .exit)) (now (queue .exit)) r ≡ handed (targetAt (now (links .entry)) p) (heightAt (now (certs .entry)) p) (work (now (certs .entry)) (now (queue .entry)) tail) m ⌝ }
+{
+    let h = certs[p] % 4096;
+    let mut end = tail;
+    let mut k: usize = 0;
+    while k < m {
+        let target = links[p * 328 + 8 + k];
+        let d = (1 + k / 32) as u64;
+        end = certify_deeper(certs, queue, end, target, h, d);
+        k += 1;
+    }
+    end
+}
+
+// Visits the queue, whose first entry is there, until no entry is left.
+fn certify_queued(keys: &[u64], links: &[u64], certs: &mut [u64], queue: &mut [u64], bottom: u64)
+    requires { ⌜ (length (now keys) ≡ length (now certs) * 8) × (length (now links) ≡ length (now certs) * 328) × (length (now queue) ≡ 4096) × (bottom ≤ 4000000000) ⌝ }
+    requires { ⌜ Ready bottom (now keys) (now links) (work (now certs) (now queue) 1) ⌝ }
+    ensures { λ _. ⌜ now (certs .exit) ≡ settled bottom (now (keys .entry)) (now (links .entry)) (work (now (certs .entry)) (now (queue .entry)) 1) ⌝ }
+{
+    let mut tail: usize = 1;
+    let mut head: usize = 0;
+    while head < tail {
+        let p = laws::slot(queue[head]);
+        let m = dag_heights::live(keys, bottom, p);
+        tail = certify_deps(links, certs, queue, tail, p, m);
+        head += 1;
+    }
+}
+
+// Hands the height of place q on to all places that its links lead to.
+pub fn traverse_certify(keys: &[u64], links: &[u64], certs: &mut [u64], q: usize, bottom: u64)
+    requires { ⌜ (length (now keys) ≡ length (now certs) * 8) × (length (now links) ≡ length (now certs) * 328) × (bottom ≤ 4000000000) ⌝ }
+    requires { ⌜ Placed bottom (now keys) (now links) (now certs) q ⌝ }
+    ensures { λ _. ⌜ now (certs .exit) ≡ traversed bottom (now (keys .entry)) (now (links .entry)) (now (certs .entry)) q ⌝ }
+{
+    let mut queue = [0u64; 4096];
+    queue[0] = q as u64;
+    certify_queued(keys, links, certs, &mut queue, bottom);
+}

@@ -1,0 +1,33 @@
+-- A chain of refusals as one number: 0, or the number of the first test that refuses.
+use Prim.Native.Nat.{ℕ, zero, suc}
+use mathlib.Core.Path.{_≡_, refl}
+use mathlib.Core.Bool.{Bool, true, false, cond}
+use mathlib.Core.Option.{none, some}
+use Rattle.spec.specs.Ids.{Id}
+use Rattle.spec.specs.Store.{Store}
+use Rattle.spec.specs.Chain.{number, Out, bad, good, refuse}
+use Rattle.spec.specs.Calls.{nameAt, intoFree}
+use Rattle.dag_name.specs.Name.{orElse}
+
+-- refused with the number, unless it is 0
+unfoldable pub unless : {A : Type 0} → ℕ → Out A → Out A
+unless zero o = o
+unless (suc n) o = bad (number (suc n))
+
+-- a test before a chain
+pub refuse-is : {A : Type 0} (b : Bool) (n m : ℕ) (o : Out A) → refuse b (suc n) (unless m o) ≡ unless (cond b (suc n) m) o
+unfolding refuse unless
+refuse-is true n m o = refl
+refuse-is false n m o = refl
+
+-- a chain before a chain
+pub unless-else : {A : Type 0} (n m : ℕ) (o : Out A) → unless n (unless m o) ≡ unless (orElse n m) o
+unfolding unless orElse
+unless-else zero m o = refl
+unless-else (suc n) m o = refl
+
+-- the last test of naming
+pub into-is : (s : Store) (i : Id) (b : Bool) (q : ℕ) → intoFree s i (cond b (some q) none) ≡ unless (cond b 0 4) (good (nameAt s i q))
+unfolding intoFree unless
+into-is s i true q = refl
+into-is s i false q = refl
