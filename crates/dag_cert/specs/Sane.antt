@@ -25,6 +25,10 @@ pub record Rooted (b : ℕ) (ks ls cs os : List ℕ) (n q : ℕ) : Type 0 where
 abbrev pub Placed : ℕ → List ℕ → List ℕ → List ℕ → ℕ → Type 0
 Placed b ks ls cs q = (os : List ℕ) × (n : ℕ) × Rooted b ks ls cs os n q
 
+-- the place fits the queue's entries
+pub placed-low : (b : ℕ) (ks ls cs : List ℕ) (q : ℕ) → Placed b ks ls cs q → (q < 4096) × (length cs ≤ 4096)
+placed-low b ks ls cs q (os, n, r) = let (i, l, e) = r .first in (omega (arith, r .inside i l, r .small), r .small)
+
 -- the work w, begun at place q with the words cs: queued places are different, a path leads to each from q, and each has the height that q
 -- hands on along it; the others keep their words, and all keep their flags
 pub record Sane (b : ℕ) (ks ls cs os : List ℕ) (n q : ℕ) (w : Work) : Type 0 where

@@ -12,13 +12,13 @@ ghost use Rattle.dag_cert.specs.Sane.{Placed};
 // queued. Returns the new end of the queue.
 fn certify_deeper(
     certs: &mut [u64],
-    queue: &mut [u64],
+    queue: &mut [u16],
     tail: usize,
     target: u64,
     h: u64,
     d: u64,
 ) -> usize
-    requires { ⌜ (length (now queue) ≡ 4096) × (h < 4096) × (d ≤ 2) ⌝ }
+    requires { ⌜ (length (now queue) ≡ 4096) × (h < 4096) × (d ≤ 2) × (length (now certs) ≤ 4096) ⌝ }
     requires { ⌜ Fits (work (now certs) (now queue) tail) target h d ⌝ }
     ensures { λ r. ⌜ work (now (certs .exit)) (now (queue .exit)) r ≡ deeper (work (now (certs .entry)) (now (queue .entry)) tail) target h d ⌝ }
 {
@@ -29,7 +29,7 @@ fn certify_deeper(
     let c = certs[t];
     if c % 4096 + d < h {
         certs[t] = c / 4096 * 4096 + (h - d);
-        queue[tail] = target - 1;
+        queue[tail] = (target - 1) as u16;
         return tail + 1;
     }
     tail
@@ -39,12 +39,12 @@ fn certify_deeper(
 fn certify_deps(
     links: &[u64],
     certs: &mut [u64],
-    queue: &mut [u64],
+    queue: &mut [u16],
     tail: usize,
     p: usize,
     m: usize,
 ) -> usize
-    requires { ⌜ (m ≤ 64) × (p * 328 + 328 ≤ length (now links)) × (p < length (now certs)) × (length (now queue) ≡ 4096) ⌝ }
+    requires { ⌜ (m ≤ 64) × (p * 328 + 328 ≤ length (now links)) × (p < length (now certs)) × (length (now queue) ≡ 4096) × (length (now certs) ≤ 4096) ⌝ }
     requires { ⌜ Open (now links) (work (now certs) (now queue) tail) p m ⌝ }
     ensures { λ r. ⌜ work (now (certs .exit)) (now (queue .exit)) r ≡ handed (targetAt (now (links .entry)) p) (heightAt (now (certs .entry)) p) (work (now (certs .entry)) (now (queue .entry)) tail) m ⌝ }
 {
@@ -60,16 +60,23 @@ fn certify_deps(
     end
 }
 
+// A queued place. Two bytes are enough for 4,096 places and keep the queue small.
+fn slot(x: u16) -> usize
+    ensures { λ r. ⌜ r ≡ x ⌝ }
+{
+    x as usize
+}
+
 // Visits the queue, whose first entry is there, until no entry is left.
-fn certify_queued(keys: &[u64], links: &[u64], certs: &mut [u64], queue: &mut [u64], bottom: u64)
-    requires { ⌜ (length (now keys) ≡ length (now certs) * 8) × (length (now links) ≡ length (now certs) * 328) × (length (now queue) ≡ 4096) × (bottom ≤ 4000000000) ⌝ }
+fn certify_queued(keys: &[u64], links: &[u64], certs: &mut [u64], queue: &mut [u16], bottom: u64)
+    requires { ⌜ (length (now keys) ≡ length (now certs) * 8) × (length (now links) ≡ length (now certs) * 328) × (length (now queue) ≡ 4096) × (bottom ≤ 4000000000) × (length (now certs) ≤ 4096) ⌝ }
     requires { ⌜ Ready bottom (now keys) (now links) (work (now certs) (now queue) 1) ⌝ }
     ensures { λ _. ⌜ now (certs .exit) ≡ settled bottom (now (keys .entry)) (now (links .entry)) (work (now (certs .entry)) (now (queue .entry)) 1) ⌝ }
 {
     let mut tail: usize = 1;
     let mut head: usize = 0;
     while head < tail {
-        let p = laws::slot(queue[head]);
+        let p = slot(queue[head]);
         let m = dag_heights::live(keys, bottom, p);
         tail = certify_deps(links, certs, queue, tail, p, m);
         head += 1;
@@ -82,7 +89,7 @@ pub fn traverse_certify(keys: &[u64], links: &[u64], certs: &mut [u64], q: usize
     requires { ⌜ Placed bottom (now keys) (now links) (now certs) q ⌝ }
     ensures { λ _. ⌜ now (certs .exit) ≡ traversed bottom (now (keys .entry)) (now (links .entry)) (now (certs .entry)) q ⌝ }
 {
-    let mut queue = [0u64; 4096];
-    queue[0] = q as u64;
+    let mut queue = [0u16; 4096];
+    queue[0] = q as u16;
     certify_queued(keys, links, certs, &mut queue, bottom);
 }

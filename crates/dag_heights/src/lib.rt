@@ -7,7 +7,7 @@ ghost use Rattle.dag_heights.specs.Push.{raised, pushed, pushedOne, push
 ghost use Rattle.models.specs.Tables.{Inside, targetAt};
 
 // Raises cell p to v; a p that is no cell is passed over.
-fn raise(cells: &mut [u64], p: u64, v: u64)
+fn raise(cells: &mut [u16], p: u64, v: u16)
     ensures { λ _. ⌜ now (cells .exit) ≡ raised (now (cells .entry)) p v ⌝ }
 {
     let i = p as usize;
@@ -18,20 +18,20 @@ fn raise(cells: &mut [u64], p: u64, v: u64)
     }
 }
 
-fn less(v: u64, d: u64) -> u64
+fn less(v: u16, d: u16) -> u16
     ensures { λ r. ⌜ r ≡ v - d ⌝ }
 {
     if d <= v { v - d } else { 0 }
 }
 
 // Hands the height v of place q down its first m links.
-fn push(cells: &mut [u64], links: &[u64], q: usize, v: u64, m: usize)
+fn push(cells: &mut [u16], links: &[u64], q: usize, v: u16, m: usize)
     requires { ⌜ (m ≤ 64) × (q * 328 + 328 ≤ length (now links)) ⌝ }
     ensures { λ _. ⌜ now (cells .exit) ≡ pushed (targetAt (now (links .entry)) q) (now (cells .entry)) v m ⌝ }
 {
     let mut k: usize = 0;
     while k < m {
-        let d = (1 + k / 32) as u64;
+        let d = (1 + k / 32) as u16;
         raise(cells, links[q * 328 + 8 + k], less(v, d));
         k += 1;
     }
@@ -57,25 +57,29 @@ pub fn live(keys: &[u64], bottom: u64, q: usize) -> usize
 }
 
 // H + 1 for a top, else 0.
-fn own(cert: u64, h: u64) -> u64
+fn own(cert: u64, h: u64) -> u16
     requires { ⌜ h ≤ 255 ⌝ }
     ensures { λ r. ⌜ r ≡ ownOf h cert ⌝ }
 {
-    if cert / 32768 % 2 == 1 { h + 1 } else { 0 }
+    if cert / 32768 % 2 == 1 {
+        (h + 1) as u16
+    } else {
+        0
+    }
 }
 
 // Place q with the certificate word c: its own height, then its m live links.
-fn push_one(cells: &mut [u64], links: &[u64], q: usize, c: u64, h: u64, m: usize)
+fn push_one(cells: &mut [u16], links: &[u64], q: usize, c: u64, h: u64, m: usize)
     requires { ⌜ (m ≤ 64) × (q * 328 + 328 ≤ length (now links)) × (h ≤ 255) ⌝ }
     ensures { λ _. ⌜ now (cells .exit) ≡ pushedOne (targetAt (now (links .entry)) q) (now (cells .entry)) (q + 1) (ownOf h c) (c % 4096) m ⌝ }
 {
     raise(cells, (q + 1) as u64, own(c, h));
-    push(cells, links, q, c % 4096, m);
+    push(cells, links, q, (c % 4096) as u16, m);
 }
 
 // The first n places of the order.
 fn push_all(
-    cells: &mut [u64],
+    cells: &mut [u16],
     keys: &[u64],
     links: &[u64],
     certs: &[u64],
@@ -98,7 +102,7 @@ fn push_all(
 }
 
 // Whether each used place's cell holds the height of its word.
-fn agree(cells: &[u64], certs: &[u64], order: &[u64], n: usize) -> bool
+fn agree(cells: &[u16], certs: &[u64], order: &[u64], n: usize) -> bool
     requires { ⌜ (length (now order) < length (now cells)) × (length (now certs) ≡ length (now order)) × (n ≤ length (now order)) ⌝ }
     requires { ⌜ Inside (now order) n (length (now order)) ⌝ }
     ensures { λ r. ⌜ r ≡ agrees (now (cells .entry)) (now (certs .entry)) (now (order .entry)) n ⌝ }
@@ -106,7 +110,8 @@ fn agree(cells: &[u64], certs: &[u64], order: &[u64], n: usize) -> bool
     let mut i: usize = 0;
     while i < n {
         let q = dag_places::place(order, n, i);
-        if cells[q + 1] != certs[q] % 4096 {
+        let h = (certs[q] % 4096) as u16;
+        if cells[q + 1] != h {
             return false;
         }
         i += 1;
@@ -128,7 +133,7 @@ pub fn heights_hold(
     requires { ⌜ Inside (now order) n (length (now order)) ⌝ }
     ensures { λ r. ⌜ r ≡ heightsHold bottom h (now (keys .entry)) (now (links .entry)) (now (certs .entry)) (now (order .entry)) n ⌝ }
 {
-    let mut cells = [0u64; 4097];
+    let mut cells = [0u16; 4097];
     push_all(&mut cells, keys, links, certs, order, n, bottom, h);
     agree(&cells, certs, order, n)
 }

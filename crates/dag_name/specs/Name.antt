@@ -151,7 +151,7 @@ else-next a zero c x e d h = h
 else-next a (suc b) c x e d h = absurd (omega arith)
 
 -- neither is other than 0
-else-zero : (b c : ℕ) → orElse b c ≡ 0 → (b ≡ 0) × (c ≡ 0)
+pub else-zero : (b c : ℕ) → orElse b c ≡ 0 → (b ≡ 0) × (c ≡ 0)
 unfolding orElse
 else-zero zero c h = (refl, h)
 else-zero (suc b) c h = absurd (omega arith)

@@ -11,7 +11,7 @@ use dag_state::state::State;
 use models::parts::PointId;
 
 // The id as the words of a place that is named.
-fn id_words(id: PointId) -> [u64; 8]
+pub fn id_words(id: PointId) -> [u64; 8]
     ensures { λ r. ⌜ r ≡ idWords id ⌝ }
 {
     let round = id.round;

@@ -95,7 +95,7 @@ module _ (s : State) (ks ls cs os : List ℕ) (fk : Fit ks) (fl : Fit ls) (sh : 
   peers-is r l m = ap (λ x. x .peers) (window-in (s .rounds) (s .bottom .0) (s .top .0) r l m)
 
   -- ids
-  low-of : ((q : ℕ) → Used os (s .count) q → idAtHolds s ks q ≡ true) → (q : ℕ) → Used os (s .count) q → s .bottom .0 ≤ roundAt ks q
+  pub low-of : ((q : ℕ) → Used os (s .count) q → idAtHolds s ks q ≡ true) → (q : ℕ) → Used os (s .count) q → s .bottom .0 ≤ roundAt ks q
   unfolding idHolds
   low-of ids q u = leb-true _ _ (and-l _ _ (ids q u))
 

@@ -39,6 +39,9 @@ slice-write-certs c = search needs
 sub-queue : tie.Need-sub-queue
 sub-queue c = search needs
 
+cast-queue : tie.Need-cast-queue
+cast-queue c = search needs
+
 mul-queue : tie.Need-mul-queue
 mul-queue c = search (needs, c .before .before .before .pre .1 .1 (omega arith) (c .if2 .taken))
 
@@ -76,6 +79,7 @@ certify-deeper-spec =
     mul-certs-2
     slice-write-certs
     sub-queue
+    cast-queue
     mul-queue
     slice-write-queue
     add-result

@@ -49,7 +49,8 @@ certify-deeper-requires c κs =
     let b = c .before .before .before .before in
     let a = b .before .before .before .before .before .args in
     let pre = b .before .before .before .before .before .pre in
-    ((ap (λ w. length (w .queue)) (b .loop .inv .1) ∙ (handed-length _ _ _ _ .1 ∙ pre .0 .3), omega arith, omega arith), open-at (a .links .now) (work (a .certs .now) (a .queue .now) (a .tail)) _ (a .p) _ _ (pre .1) (b .loop .inv .1) (c .before .before .before .loop-test .taken))
+    let size = ap (λ w. length (w .certs)) (b .loop .inv .1) ∙ handed-length _ _ _ _ .0 in
+    ((ap (λ w. length (w .queue)) (b .loop .inv .1) ∙ (handed-length _ _ _ _ .1 ∙ pre .0 .3), omega arith, omega arith, omega (arith, size, pre .0 .4)), open-at (a .links .now) (work (a .certs .now) (a .queue .now) (a .tail)) _ (a .p) _ _ (pre .1) (b .loop .inv .1) (c .before .before .before .loop-test .taken))
 
 add-k : tie.Need-add-k Inv-loop μ-loop
 add-k c = search needs

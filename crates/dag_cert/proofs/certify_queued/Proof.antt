@@ -34,7 +34,8 @@ certify-deps-requires : tie.Need-certify-deps-requires Inv-loop μ-loop
 certify-deps-requires c κs =
     let b = c .before .before .before in
     let r = ready-at _ _ _ _ _ _ _ (b .before .before .before .before .before .before .before .before .pre .1) (b .before .before .before .loop .inv .1) (b .before .before .loop-test .taken) (b .slot .ensures) in
-    (search needs, ready-open _ _ _ _ _ _ _ _ (b .before .before .before .before .before .before .before .before .pre .1) (b .before .before .before .loop .inv .1) (b .before .before .loop-test .taken) (b .slot .ensures) (c .before .before .live .ensures .0))
+    let size = ap (λ w. length (w .certs)) (b .before .before .before .loop .inv .1) ∙ visited-length _ _ _ _ _ .0 in
+    (search (needs, size), ready-open _ _ _ _ _ _ _ _ (b .before .before .before .before .before .before .before .before .pre .1) (b .before .before .before .loop .inv .1) (b .before .before .loop-test .taken) (b .slot .ensures) (c .before .before .live .ensures .0))
 
 add-head : tie.Need-add-head Inv-loop μ-loop
 add-head c = search needs

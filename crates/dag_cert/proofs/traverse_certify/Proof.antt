@@ -1,9 +1,12 @@
 -- The queue begins with place q, and has room.
 use Rattle.dag_cert.specs.Work.{start, traversed}
-use Rattle.dag_cert.specs.Sane.{start-ready}
+use Rattle.dag_cert.specs.Sane.{placed-low, start-ready}
 use borrow.Author.Needs.{needs}
 use Rattle.dag_cert.proofs.traverse_certify.Statement.{statement}
 use Rattle.dag_cert.proofs.traverse_certify.Tie as tie
+
+cast-queue : tie.Need-cast-queue
+cast-queue c = let l = placed-low _ _ _ _ _ (c .before .before .before .pre .1) in search needs
 
 array-write-queue : tie.Need-array-write-queue
 array-write-queue c = search needs
@@ -16,7 +19,7 @@ unfolding start
 certify-queued-requires c κs =
     let p = c .before .before .before .before .before .pre in
     let a = c .before .before .before .before .before .args in
-    (search needs, start-ready (a .bottom) (a .keys .now) (a .links .now) (a .certs .now) (a .q) (p .1))
+    (search (needs, placed-low _ _ _ _ _ (p .1)), start-ready (a .bottom) (a .keys .now) (a .links .now) (a .certs .now) (a .q) (p .1))
 
 same-length : tie.Need-same-length
 same-length c = search needs
@@ -29,6 +32,7 @@ pub traverse-certify-spec : {M : Type 1} → statement M
 traverse-certify-spec =
     tie.close
     (tie.spec
+    cast-queue
     array-write-queue
     slice-aggregate-certify-queued
     certify-queued-requires

@@ -8,6 +8,9 @@ use Rattle.dag_heights.proofs.own.Tie as tie
 add-result : tie.Need-add-result
 add-result c = search needs
 
+cast-result : tie.Need-cast-result
+cast-result c = search needs
+
 returns : tie.Need-returns
 returns c = sym (own-top _ _ (c .if1 .taken))
 
@@ -15,4 +18,4 @@ returns-2 : tie.Need-returns-2
 returns-2 c = sym (own-none _ _ (c .if1 .left))
 
 pub own-spec : {M : Type 1} → statement M
-own-spec = tie.close (tie.spec add-result returns returns-2)
+own-spec = tie.close (tie.spec add-result cast-result returns returns-2)

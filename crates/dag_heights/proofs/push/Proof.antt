@@ -22,6 +22,9 @@ loop-holds c = (search needs, refl)
 add-d : tie.Need-add-d Inv-loop μ-loop
 add-d c = search needs
 
+cast-d : tie.Need-cast-d Inv-loop μ-loop
+cast-d c = search needs
+
 mul-raise : tie.Need-mul-raise Inv-loop μ-loop
 mul-raise c = search needs
 
@@ -66,6 +69,7 @@ push-spec =
     μ-loop
     loop-holds
     add-d
+    cast-d
     mul-raise
     add-raise
     add-raise-2

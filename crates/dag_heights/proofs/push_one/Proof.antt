@@ -15,6 +15,9 @@ own-requires c κs = search needs
 raise-requires : tie.Need-raise-requires
 raise-requires c κs = search needs
 
+cast-push : tie.Need-cast-push
+cast-push c = search needs
+
 push-requires : tie.Need-push-requires
 push-requires c κs = search needs
 
@@ -26,4 +29,4 @@ returns c = one-more _ _ _ _ _ _ _ _ _ (c .before .before .before .before .befor
 
 pub push-one-spec : {M : Type 1} → statement M
 push-one-spec =
-    tie.close (tie.spec add-raise own-requires raise-requires push-requires same-length returns)
+    tie.close (tie.spec add-raise own-requires raise-requires cast-push push-requires same-length returns)

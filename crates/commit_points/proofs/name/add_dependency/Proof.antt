@@ -6,8 +6,8 @@ use Rattle.dag_name.specs.Words.{id-fit}
 use Rattle.commit_answer.specs.declared.answer.Answer.the-variants.{Done}
 use Rattle.commit_answer.specs.Answer.{isRefused, board, doneWith, board-same, tested-no, tested-by, says-refused, says-done}
 use Rattle.commit_points.specs.Name.{nameTested, namedBoard, call-name, name-ready, name-long}
-use Rattle.commit_points.proofs.add_dependency.Statement.{statement}
-use Rattle.commit_points.proofs.add_dependency.Tie as tie
+use Rattle.commit_points.proofs.name.add_dependency.Statement.{statement}
+use Rattle.commit_points.proofs.name.add_dependency.Tie as tie
 
 counts-as-started-requires : tie.Need-counts-as-started-requires
 counts-as-started-requires c κs = search needs

@@ -1,0 +1,141 @@
+// Cases of document 01 that go through the code. Each line written is what one call answered, or a number that it left.
+use commit_answer::answer::Answer;
+use commit_answer::answer::Refusal;
+use commit_rounds::drop_upto;
+use commit_rounds::extend_from_ahead;
+use commit_start::init;
+use dag_state::back::Beginning;
+use dag_state::back::UsedAuthor;
+use dag_state::state::Entry;
+use dag_state::state::Memory;
+use dag_state::state::RoundRecord;
+use dag_state::state::State;
+use models::parts::Digest;
+use models::parts::Round;
+
+fn write(text: &[u8]) {
+    let _all = io::write_all(1, text);
+}
+
+// One number on a line.
+fn write_number(n: u64) {
+    let _all = io::print_decimal(1, n);
+    write(b"\n");
+}
+
+fn write_refusal(why: Refusal) {
+    match why {
+        Refusal::Number(n) => {
+            write(b"refused ");
+            write_number(n as u64);
+        }
+        Refusal::Conflict(round) => {
+            write(b"refused 13 at ");
+            write_number(round.0 as u64);
+        }
+    }
+}
+
+fn write_answer(answer: Answer) {
+    match answer {
+        Answer::Done => {
+            write(b"done\n");
+        }
+        Answer::Said(yes) => {
+            if yes {
+                write(b"yes\n");
+            } else {
+                write(b"no\n");
+            }
+        }
+        Answer::Handed(n) => {
+            write(b"anchors ");
+            write_number(n as u64);
+        }
+        Answer::Refused(why, _finished) => {
+            write_refusal(why);
+        }
+    }
+}
+
+// A state that no call left.
+fn noise() -> State {
+    let empty = RoundRecord { peers: 9, used: 9 };
+    let entry = Entry {
+        author: 9,
+        digest: Digest([9; 4]),
+        has_previous: true,
+        previous: Digest([9; 4]),
+        owing: 9,
+    };
+    State {
+        phase: 9,
+        count: 9,
+        genesis: Round(9),
+        history_rounds: 9,
+        deduplicate_rounds: 9,
+        bottom: Round(9),
+        top: Round(9),
+        last_proof: 9,
+        last_anchor: 9,
+        full_history_bottom: Round(9),
+        first_executable: Round(9),
+        gap: 9,
+        rounds: [empty; 512],
+        memory: Memory {
+            last: Round(9),
+            count: 9,
+            entries: [entry; 128],
+        },
+    }
+}
+
+// The rounds from `from` to `to` added, each with peer 0.
+fn with_rounds(
+    s: State,
+    keys: &[u64],
+    links: &[u64],
+    certs: &[u64],
+    order: &[u64],
+    from: u32,
+    to: u32,
+) -> State {
+    let mut now = s;
+    for r in from..to {
+        let added = extend_from_ahead(now, keys, links, certs, order, Round(r), 1);
+        let next = added.state;
+        now = next;
+    }
+    now
+}
+
+// K9: bottom 20, top 30, drop to 40: bottom 30, no. The tables are full of noise before the start.
+fn k9() {
+    let mut keys = [9u64; 32];
+    let mut links = [9u64; 1312];
+    let mut certs = [9u64; 4];
+    let mut order = [9u64; 4];
+    let with = Beginning {
+        genesis: Round(10),
+        history_rounds: 2,
+        deduplicate_rounds: 0,
+        bottom: Round(20),
+        peers: 1,
+        after_gap: false,
+        used: UsedAuthor::Nobody,
+    };
+    let started = init(noise(), &mut keys, &mut links, &mut certs, &mut order, with);
+    let first = started.answer;
+    write_answer(first);
+    let s = with_rounds(started.state, &keys, &links, &certs, &order, 21, 31);
+    let dropped = drop_upto(s, &mut keys, &mut links, &mut certs, &mut order, Round(40));
+    let second = dropped.answer;
+    write_answer(second);
+    let left = dropped.state;
+    let bottom = left.bottom;
+    write_number(bottom.0 as u64);
+}
+
+fn main() {
+    k9();
+}

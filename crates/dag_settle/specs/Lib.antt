@@ -1,0 +1,6 @@
+pub mod Point
+pub mod Found
+pub mod Word
+pub mod Settled
+pub mod Certs
+pub mod Certified
