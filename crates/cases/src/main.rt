@@ -1,6 +1,9 @@
 // Cases of document 01 that go through the code. Each line written is what one call answered, or a number that it left.
 use commit_answer::answer::Answer;
 use commit_answer::answer::Refusal;
+use commit_points::certify::certify;
+use commit_points::name::add_dependency;
+use commit_points::resolve::resolve;
 use commit_rounds::drop_upto;
 use commit_rounds::extend_from_ahead;
 use commit_start::init;
@@ -10,7 +13,9 @@ use dag_state::state::Entry;
 use dag_state::state::Memory;
 use dag_state::state::RoundRecord;
 use dag_state::state::State;
+use models::info::PointInfo;
 use models::parts::Digest;
+use models::parts::PointId;
 use models::parts::Round;
 
 fn write(text: &[u8]) {
@@ -136,6 +141,123 @@ fn k9() {
     write_number(bottom.0 as u64);
 }
 
+// The id of the one point of a round, by peer 0.
+fn id_of(round: u32) -> PointId {
+    PointId {
+        round: Round(round),
+        author: 0,
+        digest: Digest([0, 0, 0, round as u64]),
+    }
+}
+
+// The point of a round named and resolved as valid, with the links in refs as its includes. Writes both answers.
+fn with_point(
+    s: State,
+    keys: &mut [u64],
+    links: &mut [u64],
+    certs: &mut [u64],
+    order: &mut [u64],
+    round: u32,
+    refs: &[u64],
+) -> State {
+    let named = add_dependency(s, keys, links, certs, order, id_of(round));
+    let first = named.answer;
+    write_answer(first);
+    let info = PointInfo {
+        status: 1,
+        proof: false,
+        trigger: false,
+        cause: false,
+        top_proof: id_of(0),
+        evidence: 0,
+        includes: refs.len() / 5,
+        witness: 0,
+    };
+    let told = resolve(
+        named.state,
+        keys,
+        links,
+        certs,
+        order,
+        id_of(round),
+        info,
+        refs,
+    );
+    let second = told.answer;
+    write_answer(second);
+    told.state
+}
+
+// The points of the rounds after `from`, below `to`, each including the one before it.
+fn with_chain(
+    s: State,
+    keys: &mut [u64],
+    links: &mut [u64],
+    certs: &mut [u64],
+    order: &mut [u64],
+    from: u32,
+    to: u32,
+) -> State {
+    let mut now = s;
+    let mut r = from;
+    while r < to {
+        let below = [0, 0, 0, 0, r as u64];
+        r += 1;
+        let next = with_point(now, keys, links, certs, order, r, &below);
+        now = next;
+    }
+    now
+}
+
+// The height of each place, in their order.
+fn write_heights(certs: &[u64]) {
+    for i in 0..certs.len() {
+        write_number(certs[i] % 4096);
+    }
+}
+
+// K4: H 3, top at 20: height 4; 3 at 19, 2 at 18, 1 at 17, 0 at 16. K5: tops 20 and 18 both reach 17: 3. Heights are written from the
+// point of round 16 up.
+fn k4_and_k5() {
+    let mut keys = [9u64; 40];
+    let mut links = [9u64; 1640];
+    let mut certs = [9u64; 5];
+    let mut order = [9u64; 5];
+    let with = Beginning {
+        genesis: Round(10),
+        history_rounds: 3,
+        deduplicate_rounds: 0,
+        bottom: Round(16),
+        peers: 1,
+        after_gap: false,
+        used: UsedAuthor::Nobody,
+    };
+    let started = init(noise(), &mut keys, &mut links, &mut certs, &mut order, with);
+    let first = started.answer;
+    write_answer(first);
+    let none = [0u64; 5];
+    let s = with_rounds(started.state, &keys, &links, &certs, &order, 17, 21);
+    let low = with_point(
+        s,
+        &mut keys,
+        &mut links,
+        &mut certs,
+        &mut order,
+        16,
+        &none[..0],
+    );
+    let all = with_chain(low, &mut keys, &mut links, &mut certs, &mut order, 16, 20);
+    let top = certify(all, &keys, &links, &mut certs, &order, id_of(20));
+    let second = top.answer;
+    write_answer(second);
+    write_heights(&certs);
+    let lower = certify(top.state, &keys, &links, &mut certs, &order, id_of(18));
+    let third = lower.answer;
+    write_answer(third);
+    write_heights(&certs);
+}
+
 fn main() {
     k9();
+    k4_and_k5();
 }

@@ -1,2 +1,3 @@
 pub mod Name
 pub mod Certify
+pub mod Resolve

@@ -1,3 +1,4 @@
-// The calls that name a point (name) and tell of it (certify).
+// The calls that name a point (name) and tell of it (resolve, certify).
 pub mod certify;
 pub mod name;
+pub mod resolve;

@@ -1,5 +1,5 @@
 -- The tables that a certificate leaves are read as the store that it leaves (01: cert.rs).
-use Prim.Native.Nat.{ℕ, suc, _+_, _-_, _≤_, _<_}
+use Prim.Native.Nat.{ℕ, suc, _+_, _≤_, _<_}
 use mathlib.Core.Path.{_≡_, refl, sym, _∙_, ap, subst}
 use mathlib.Core.List.{List}
 use mathlib.Core.Bool.{true}
@@ -12,17 +12,16 @@ use borrow.Author.Tests.{eq-eqb, ne-eqb}
 use Rattle.laws.specs.Test.{sameOr}
 use Rattle.spec.specs.Store.{Flags, word}
 use Rattle.spec.specs.Paths.{here}
-use Rattle.spec.specs.Graph.{path-down, snoc}
 use Rattle.spec.specs.Rules.{counts}
 use Rattle.spec.specs.Chain.{good}
 use Rattle.spec.specs.Calls.{setTop, certifyAt, doCertify}
 use Rattle.models.specs.Parts.{idOf}
 use Rattle.models.specs.Cert.{flagsOf, heightOf, topped}
 use Rattle.models.specs.Digest.{Fit}
-use Rattle.models.specs.Tables.{roundAt, Used, used-is}
+use Rattle.models.specs.Tables.{Used, used-is}
 use Rattle.models.specs.declared.parts.PointId.{PointId}
 use Rattle.dag_heights.specs.View.{heightAt}
-use Rattle.dag_heights.specs.Exact.{Top, Leads, Heights}
+use Rattle.dag_heights.specs.Exact.{Top, Heights}
 use Rattle.dag_state.specs.View.{pointAt}
 use Rattle.dag_state.specs.declared.state.State.{State}
 use Rattle.dag_test.specs.Tested.{shape, shape-says, places-says, conf-says, rounds-says}
@@ -31,12 +30,13 @@ use Rattle.dag_test.specs.Whole.{low-of}
 use Rattle.dag_test.specs.Counts.{Started, counted}
 use Rattle.dag_name.specs.Name.{idWords}
 use Rattle.dag_name.specs.Codes.{unless}
-use Rattle.dag_cert.specs.Sane.{Rooted, down}
+use Rattle.dag_cert.specs.Sane.{Rooted}
 use Rattle.dag_cert.specs.Exact.{Tops, Met, OnBut}
 use Rattle.dag_settle.specs.Point.{pointCode, placeFor}
 use Rattle.dag_settle.specs.Found.{point-is}
 use Rattle.dag_settle.specs.Word.{flags-word, height-word, word-small}
 use Rattle.dag_settle.specs.Settled.{cert-small, shape-certs, regular-certs, rooted, placed, settled-from}
+use Rattle.dag_settle.specs.On.{handed-on}
 use Rattle.dag_settle.specs.Certs.{toppedCerts, certifiedCerts, Certifiable}
 
 module _ (s : State) (ks ls cs os : List ℕ) (fk : Fit ks) (fl : Fit ls) (h : counts (view s ks ls cs os) ≡ true) where
@@ -165,19 +165,11 @@ module _ (s : State) (ks ls cs os : List ℕ) (fk : Fit ks) (fl : Fit ls) (h : c
     root : Rooted (s .bottom .0) ks ls cs os n q
     root = rooted s ks ls cs os q (t .shaped) (t .regulated) small u
 
-    -- every place had handed its height on
-    on : (p x : ℕ) → Leads (s .bottom .0) ks ls os n p x → heightAt cs p - (roundAt ks p - roundAt ks x) ≤ heightAt cs x
-    on p x e =
-        let fall = down (s .bottom .0) ks ls cs os n q root in
-        let l = fall p x e in
-        let y = root .falls p (e .which) x (e .from) (e .live) (e .to) .0 in
-        ⊎-elim (λ z. omega arith) (λ (y2, to, w, z). omega (arith, l, z, path-down fall w, tall x y .bound y2 to (snoc w e))) (tall p (e .from) .met)
-
     -- every place but q has
     but : OnBut q (s .bottom .0) ks ls ds os n
     but p x d e =
         let y = root .falls p (e .which) x (e .from) (e .live) (e .to) .0 in
-        omega (arith, height-other p d, on p x e, rises x y)
+        omega (arith, height-other p d, handed-on (s .bottom .0) H ks ls cs os n q root tall p x e, rises x y)
 
     -- the points, with q as a top
     points : (p : ℕ) → seenAt ks ls ds os n p ≡ setTop (eqb p q) (view s ks ls cs os .pt p)

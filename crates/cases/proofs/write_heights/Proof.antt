@@ -1,0 +1,51 @@
+use borrow.Author.Needs.{needs}
+use Prim.Native.Nat.{_-_}
+use mathlib.Core.Path.{_≡_}
+use lib.ListN.{length}
+use Rattle.cases.proofs.write_heights.Statement.{statement}
+use Rattle.cases.proofs.write_heights.Tie as tie
+
+abbrev Inv-loop : tie.InvT-loop
+Inv-loop certs i₀ i-end i = (i-end ≡ length certs)
+
+abbrev μ-loop : tie.MeasureT-loop
+μ-loop certs i₀ i-end i = i-end - i
+
+loop-holds : tie.Need-loop-holds Inv-loop μ-loop
+loop-holds c = search needs
+
+mul-write-number : tie.Need-mul-write-number Inv-loop μ-loop
+mul-write-number c = search needs
+
+shared-slice-read-write-number : tie.Need-shared-slice-read-write-number Inv-loop μ-loop
+shared-slice-read-write-number c = search needs
+
+write-number-requires : tie.Need-write-number-requires Inv-loop μ-loop
+write-number-requires c κs = search needs
+
+add-i : tie.Need-add-i Inv-loop μ-loop
+add-i c = search needs
+
+loop-less : tie.Need-loop-less Inv-loop μ-loop
+loop-less c = search needs
+
+loop-again : tie.Need-loop-again Inv-loop μ-loop
+loop-again c = search needs
+
+returns : tie.Need-returns Inv-loop μ-loop
+returns c = tt
+
+pub write-heights-spec : {M : Type 1} → statement M
+write-heights-spec =
+    tie.close
+    (tie.spec
+    Inv-loop
+    μ-loop
+    loop-holds
+    mul-write-number
+    shared-slice-read-write-number
+    write-number-requires
+    add-i
+    loop-less
+    loop-again
+    returns)

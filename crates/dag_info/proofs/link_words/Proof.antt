@@ -1,0 +1,87 @@
+use mathlib.Core.Path.{refl}
+use Rattle.dag_info.specs.Wild.{linkWords}
+use borrow.Author.Needs.{needs}
+use Rattle.dag_info.proofs.link_words.Statement.{statement}
+use Rattle.dag_info.proofs.link_words.Tie as tie
+
+mul-peer : tie.Need-mul-peer
+mul-peer c = search needs
+
+add-peer : tie.Need-add-peer
+add-peer c = search needs
+
+mul-peer-2 : tie.Need-mul-peer-2
+mul-peer-2 c = search needs
+
+shared-slice-read-peer : tie.Need-shared-slice-read-peer
+shared-slice-read-peer c = search needs
+
+mul-b : tie.Need-mul-b
+mul-b c = search needs
+
+add-b : tie.Need-add-b
+add-b c = search needs
+
+add-x : tie.Need-add-x
+add-x c = search needs
+
+mul-x : tie.Need-mul-x
+mul-x c = search needs
+
+shared-slice-read-x : tie.Need-shared-slice-read-x
+shared-slice-read-x c = search needs
+
+add-y : tie.Need-add-y
+add-y c = search needs
+
+mul-y : tie.Need-mul-y
+mul-y c = search needs
+
+shared-slice-read-y : tie.Need-shared-slice-read-y
+shared-slice-read-y c = search needs
+
+add-z : tie.Need-add-z
+add-z c = search needs
+
+mul-z : tie.Need-mul-z
+mul-z c = search needs
+
+shared-slice-read-z : tie.Need-shared-slice-read-z
+shared-slice-read-z c = search needs
+
+add-w : tie.Need-add-w
+add-w c = search needs
+
+mul-w : tie.Need-mul-w
+mul-w c = search needs
+
+shared-slice-read-w : tie.Need-shared-slice-read-w
+shared-slice-read-w c = search needs
+
+returns : tie.Need-returns
+unfolding linkWords
+returns c = refl
+
+pub link-words-spec : {M : Type 1} → statement M
+link-words-spec =
+    tie.close
+    (tie.spec
+    mul-peer
+    add-peer
+    mul-peer-2
+    shared-slice-read-peer
+    mul-b
+    add-b
+    add-x
+    mul-x
+    shared-slice-read-x
+    add-y
+    mul-y
+    shared-slice-read-y
+    add-z
+    mul-z
+    shared-slice-read-z
+    add-w
+    mul-w
+    shared-slice-read-w
+    returns)

@@ -1,0 +1,91 @@
+use borrow.Author.Needs.{needs}
+use mathlib.Core.Path.{refl, _∙_}
+use native.Mathlib.Omega.{arith}
+use Rattle.dag_resolve.specs.Code.{info-resolved, info-unformed, info-links, info-shaped, first-wild, next-wild, none-wild}
+use Rattle.dag_resolve.proofs.info_code.Statement.{statement}
+use Rattle.dag_resolve.proofs.info_code.Tie as tie
+
+mul-status : tie.Need-mul-status
+mul-status c = search needs
+
+add-status : tie.Need-add-status
+add-status c = search needs
+
+mul-status-2 : tie.Need-mul-status-2
+mul-status-2 c = search needs
+
+shared-slice-read-status : tie.Need-shared-slice-read-status
+shared-slice-read-status c = search needs
+
+returns : tie.Need-returns
+returns c =
+    let a = c .before .before .before .before .before .args in
+    info-resolved (a .s) (a .keys .now) (a .order .now) (a .q) (a .info) (a .refs .now) (c .if1 .taken)
+
+mul-round : tie.Need-mul-round
+mul-round c = search needs
+
+add-round : tie.Need-add-round
+add-round c = search needs
+
+mul-round-2 : tie.Need-mul-round-2
+mul-round-2 c = search needs
+
+shared-slice-read-round : tie.Need-shared-slice-read-round
+shared-slice-read-round c = search needs
+
+well-formed-requires : tie.Need-well-formed-requires
+well-formed-requires c κs = search needs
+
+returns-2 : tie.Need-returns-2
+returns-2 c =
+    let a = c .before .before .before .before .before .before .before .before .args in
+    info-unformed (a .s) (a .keys .now) (a .order .now) (a .q) (a .info) (a .refs .now) (c .before .before .before .if1 .left) _ (c .before .well-formed .ensures) (c .if2 .taken)
+
+any-wild-requires : tie.Need-any-wild-requires
+any-wild-requires c κs =
+    let a = c .before .before .before .before .before .before .before .before .args in
+    let (i, w, e) = info-shaped (a .s) (a .keys .now) (a .order .now) (a .q) (a .info) (a .refs .now) (c .before .before .before .if1 .left) _ (c .before .well-formed .ensures) (c .if2 .left) in
+    (c .before .before .before .before .before .before .before .before .pre .0, (omega arith, omega arith))
+
+returns-3 : tie.Need-returns-3
+returns-3 c =
+    let a = c .before .before .before .before .before .before .before .before .before .before .args in
+    first-wild _ _ (c .if3 .taken) ∙ info-links (a .s) (a .keys .now) (a .order .now) (a .q) (a .info) (a .refs .now) (c .before .before .before .before .before .if1 .left) _ (c .before .before .before .well-formed .ensures) (c .before .before .if2 .left) _ _ (c .before .any-wild .ensures) refl
+
+any-wild-requires-2 : tie.Need-any-wild-requires-2
+any-wild-requires-2 c κs =
+    let a = c .before .before .before .before .before .before .before .before .before .before .args in
+    let (i, w, e) = info-shaped (a .s) (a .keys .now) (a .order .now) (a .q) (a .info) (a .refs .now) (c .before .before .before .before .before .if1 .left) _ (c .before .before .before .well-formed .ensures) (c .before .before .if2 .left) in
+    (c .before .before .before .before .before .before .before .before .before .before .pre .0, (omega arith, omega arith))
+
+returns-4 : tie.Need-returns-4
+returns-4 c =
+    let a = c .before .before .before .before .before .before .before .before .before .before .before .before .args in
+    next-wild _ _ (c .before .before .if3 .left) (c .if4 .taken) ∙ info-links (a .s) (a .keys .now) (a .order .now) (a .q) (a .info) (a .refs .now) (c .before .before .before .before .before .before .before .if1 .left) _ (c .before .before .before .before .before .well-formed .ensures) (c .before .before .before .before .if2 .left) _ _ (c .before .before .before .any-wild .ensures) (c .before .any-wild2 .ensures)
+
+returns-5 : tie.Need-returns-5
+returns-5 c =
+    let a = c .before .before .before .before .before .before .before .before .before .before .before .before .args in
+    none-wild _ _ (c .before .before .if3 .left) (c .if4 .left) ∙ info-links (a .s) (a .keys .now) (a .order .now) (a .q) (a .info) (a .refs .now) (c .before .before .before .before .before .before .before .if1 .left) _ (c .before .before .before .before .before .well-formed .ensures) (c .before .before .before .before .if2 .left) _ _ (c .before .before .before .any-wild .ensures) (c .before .any-wild2 .ensures)
+
+pub info-code-spec : {M : Type 1} → statement M
+info-code-spec =
+    tie.close
+    (tie.spec
+    mul-status
+    add-status
+    mul-status-2
+    shared-slice-read-status
+    returns
+    mul-round
+    add-round
+    mul-round-2
+    shared-slice-read-round
+    well-formed-requires
+    returns-2
+    any-wild-requires
+    returns-3
+    any-wild-requires-2
+    returns-4
+    returns-5)

@@ -1,0 +1,99 @@
+// Origin: models/cert.rs (set_deps), models/point/info.rs, dag/dag_round.rs. A resolution: its tests, then its words and flags, and the
+// point's height handed on.
+ghost use mathlib.Core.Path.{_≡_};
+ghost use Prim.Native.Nat.{_+_, _*_, _<_, _≤_};
+ghost use lib.ListN.{length, getD};
+ghost use Rattle.dag_name.specs.Name.{Ready};
+ghost use Rattle.dag_told.specs.Told.{toldKeys, toldLinks};
+ghost use Rattle.dag_told.specs.Flags.{toldCerts};
+ghost use Rattle.dag_resolve.specs.Code.{infoCode, resolveCode};
+ghost use Rattle.dag_resolve.specs.After.{resolvedCerts, Resolvable};
+use dag_info::any_wild;
+use dag_info::well_formed;
+use dag_settle::point_code;
+use dag_settle::point_place;
+use dag_state::state::State;
+use models::cert::Cert;
+use models::info::PointInfo;
+use models::parts::PointId;
+
+// What a resolution of the point at place q is refused with: 10, 11, 12 in this order, 0 if it isn't.
+fn info_code(s: State, keys: &[u64], order: &[u64], q: usize, info: PointInfo, refs: &[u64]) -> u32
+    requires { ⌜ Ready s (now keys) (now order) ⌝ }
+    requires { ⌜ q < length (now order) ⌝ }
+    ensures { λ r. ⌜ r ≡ infoCode s (now (keys .entry)) (now (order .entry)) q info (now (refs .entry)) ⌝ }
+{
+    let status = keys[q * 8 + 6];
+    if status != 0 {
+        return 10;
+    }
+    let round = keys[q * 8 + 0];
+    if !well_formed(round, info, refs) {
+        return 11;
+    }
+    let i = info.includes;
+    let w = info.witness;
+    if any_wild(s, keys, order, refs, 0, i, 1, round) {
+        return 12;
+    }
+    if any_wild(s, keys, order, refs, i, w, 2, round) {
+        return 12;
+    }
+    0
+}
+
+// What a resolution is refused with: 5, 6, 5, 9, 10, 11, 12 in this order, 0 if it isn't.
+pub fn resolve_code(
+    s: State,
+    keys: &[u64],
+    order: &[u64],
+    id: PointId,
+    info: PointInfo,
+    refs: &[u64],
+) -> u32
+    requires { ⌜ Ready s (now keys) (now order) ⌝ }
+    ensures { λ r. ⌜ r ≡ resolveCode s (now (keys .entry)) (now (order .entry)) id info (now (refs .entry)) ⌝ }
+{
+    let code = point_code(s, keys, order, id);
+    if code != 0 {
+        return code;
+    }
+    let q = point_place(s, keys, order, id);
+    info_code(s, keys, order, q, info, refs)
+}
+
+// The certificate word of place q once the links of its point are set; statuses 4 and 5 have none.
+fn set_deps(certs: &mut [u64], q: usize, status: u32)
+    requires { ⌜ (q < length (now certs)) × (getD (now certs) q 0 < 65536) ⌝ }
+    ensures { λ _. ⌜ now (certs .exit) ≡ toldCerts (now (certs .entry)) q status ⌝ }
+{
+    if 3 < status {
+        return;
+    }
+    let cert = Cert(certs[q]);
+    let set = cert.set_deps();
+    certs[q] = set.0;
+}
+
+// Resolves the point at place q: its words and flags, and its height handed on.
+pub fn resolve_at(
+    s: State,
+    keys: &mut [u64],
+    links: &mut [u64],
+    certs: &mut [u64],
+    order: &[u64],
+    q: usize,
+    info: PointInfo,
+    refs: &[u64],
+)
+    requires { ⌜ Resolvable s (now keys) (now links) (now certs) (now order) q info (now refs) ⌝ }
+    ensures keys { λ _. ⌜ now (keys .exit) ≡ toldKeys (now (keys .entry)) q info ⌝ }
+    ensures links { λ _. ⌜ now (links .exit) ≡ toldLinks s (now (keys .entry)) (now (links .entry)) (now (order .entry)) q info (now (refs .entry)) ⌝ }
+    ensures certs { λ _. ⌜ now (certs .exit) ≡ resolvedCerts s (now (keys .entry)) (now (links .entry)) (now (certs .entry)) (now (order .entry)) q info (now (refs .entry)) ⌝ }
+{
+    let bottom = s.bottom;
+    let b = bottom.0 as u64;
+    dag_told::store_info(s, keys, links, order, q, info, refs);
+    set_deps(certs, q, info.status);
+    dag_cert::traverse_certify(keys, links, certs, q, b);
+}

@@ -1,0 +1,7 @@
+pub mod Copy
+pub mod Told
+pub mod Held
+pub mod Flags
+pub mod Found
+pub mod Ranged
+pub mod After
