@@ -60,7 +60,15 @@ fn head_words(info: PointInfo) -> [u64; 7]
 }
 
 // The target word of link j, which leads d rounds down from this round: 1 + the place of its point, or 1 where the round is not retained.
-fn target(s: State, keys: &[u64], order: &[u64], refs: &[u64], j: usize, d: u64, round: u64) -> u64
+fn target_word(
+    s: State,
+    keys: &[u64],
+    order: &[u64],
+    refs: &[u64],
+    j: usize,
+    d: u64,
+    round: u64,
+) -> u64
     requires { ⌜ Ready s (now keys) (now order) ⌝ }
     requires { ⌜ (j * 5 + 5 ≤ length (now refs)) × (d ≤ 2) ⌝ }
     ensures { λ r. ⌜ r ≡ targetOf s (now (keys .entry)) (now (order .entry)) (now (refs .entry)) d round j ⌝ }
@@ -111,7 +119,7 @@ fn put_links(
     while i < m {
         let j = from + i;
         let peer = laws::slot(refs[j * 5 + 0]);
-        let to = target(s, keys, order, refs, j, d, round);
+        let to = target_word(s, keys, order, refs, j, d, round);
         put_link(links, q, base + peer, to, refs, j);
         i += 1;
     }

@@ -44,8 +44,8 @@ shared-slice-read-slot c = search needs
 slot-requires-2 : tie.Need-slot-requires-2 Inv-loop μ-loop
 slot-requires-2 c κs = search needs
 
-target-requires : tie.Need-target-requires Inv-loop μ-loop
-target-requires c κs = search needs
+target-word-requires : tie.Need-target-word-requires Inv-loop μ-loop
+target-word-requires c κs = search needs
 
 add-put-link : tie.Need-add-put-link Inv-loop μ-loop
 add-put-link c =
@@ -71,7 +71,7 @@ loop-again c =
     let l = c .before .before .before .before .before .before .before .before .loop in
     let z = c .before .before .put-link .ensures in
     let k = ap₂ _+_ (c .before .before .before .before .before .before .before .before .before .slot .ensures) (c .before .before .before .before .before .slot2 .ensures) in
-    (search needs, ap length z ∙ (link-length (l .links) _ _ _ _ _ ∙ l .inv .1), links-more _ _ _ _ _ _ _ _ _ _ _ (l .inv .2) k (c .before .before .before .before .target .ensures) z)
+    (search needs, ap length z ∙ (link-length (l .links) _ _ _ _ _ ∙ l .inv .1), links-more _ _ _ _ _ _ _ _ _ _ _ (l .inv .2) k (c .before .before .before .before .target-word .ensures) z)
 
 same-length : tie.Need-same-length Inv-loop μ-loop
 same-length c = search needs
@@ -95,7 +95,7 @@ put-links-spec =
     mul-slot-3
     shared-slice-read-slot
     slot-requires-2
-    target-requires
+    target-word-requires
     add-put-link
     put-link-requires
     add-i

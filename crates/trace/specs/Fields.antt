@@ -1,0 +1,113 @@
+-- The fields of a record as what its call takes.
+use Prim.Native.Nat.{ℕ, zero, suc, _+_, _*_, _/_, _%_}
+use mathlib.Core.Path.{_≡_, refl, sym}
+use mathlib.Core.List.{List, [], _∷_}
+use mathlib.Core.Bool.{Bool, not, cond}
+use mathlib.Core.Option.{Option, none, some}
+use lib.Dec.{eqb}
+use borrow.Author.Tests.{ne-eqb}
+use lib.ListN.{getD}
+use Rattle.spec.specs.Ids.{Ref}
+use Rattle.spec.specs.Store.{Told}
+use Rattle.spec.specs.Calls.{Call, Beginning, start, resetAll, round, name, resolve, certify, ask, commit, outlook, remove, drop}
+use Rattle.trace.specs.Numbers.{numberAt, idAt}
+use Rattle.trace.specs.Head.{kindOf}
+use Rattle.trace.specs.declared.head.Kind.{Kind}
+use Rattle.trace.specs.declared.head.Kind.the-variants as kind
+use Rattle.trace.specs.declared.fields.Since.{Since}
+use Rattle.trace.specs.declared.fields.Since.the-variants.{Nothing, From}
+
+-- "a flag is no only at 0"
+abbrev pub flagIn : List ℕ → ℕ → Bool
+flagIn f p = not (eqb (getD f p 0) 0)
+
+-- "used author (1; 255 for none)"
+unfoldable pub usedIn : ℕ → Option ℕ
+usedIn b = cond (eqb b 255) none (some b)
+
+-- "Start: genesis, H, deduplicate rounds, bottom, its peers (4 each), after gap (flag), used author"
+unfoldable pub startIn : List ℕ → Beginning
+startIn f = record {
+  conf = record { genesis = numberAt f 0 4; historyRounds = numberAt f 4 4; deduplicateRounds = numberAt f 8 4 };
+  bottom = numberAt f 12 4;
+  peers = numberAt f 16 4;
+  afterGap = flagIn f 20;
+  used = usedIn (getD f 21 0);
+}
+
+-- "Remove: round, flag, `stats_since`", the last unread after flag 0
+unfoldable pub sinceIn : List ℕ → Option ℕ
+sinceIn f = cond (flagIn f 4) (some (numberAt f 5 4)) none
+
+-- `stats_since` as the code has it
+unfoldable pub sinceOf : Since → Option ℕ
+sinceOf Nothing = none
+sinceOf (From r) = some r
+
+-- a link: "peer 1, digest 32"
+abbrev pub linkIn : List ℕ → ℕ → Ref
+linkIn f p = record { peer = getD f p 0; digest = numberAt f (p + 1) 32 }
+
+-- m links from p on
+unfoldable pub linksFrom : List ℕ → ℕ → ℕ → List Ref
+linksFrom f p zero = []
+linksFrom f p (suc m) = linkIn f p ∷ linksFrom f (p + 33) m
+
+-- "Resolve: id, status, marks (bits 0 to 2), top proof's id, evidence (4), number of includes, of witness (1 each), their links (33 each)"
+unfoldable pub toldIn : List ℕ → Told
+toldIn f = record {
+  status = getD f 37 0;
+  proof = eqb (getD f 38 0 % 2) 1;
+  trigger = eqb (getD f 38 0 / 2 % 2) 1;
+  cause = eqb (getD f 38 0 / 4 % 2) 1;
+  topProof = idAt f 39;
+  evidence = numberAt f 76 4;
+  includes = linksFrom f 82 (getD f 80 0);
+  witness = linksFrom f (82 + getD f 80 0 * 33) (getD f 81 0);
+}
+
+-- the call of a kind and its fields, with the buffer that it is lent
+unfoldable pub callBy : Kind → List ℕ → List ℕ → Call
+callBy kind.Start f b = start (startIn f)
+callBy kind.Round f b = round (numberAt f 0 4) (numberAt f 4 4)
+callBy kind.Name f b = name (idAt f 0)
+callBy kind.Resolve f b = resolve (idAt f 0) (toldIn f)
+callBy kind.Certify f b = certify (idAt f 0)
+callBy kind.Commit f b = commit (idAt f 0) b
+callBy kind.Remove f b = remove (numberAt f 0 4) (sinceIn f) b
+callBy kind.Drop f b = drop (numberAt f 0 4)
+callBy kind.Gap f b = ask
+callBy kind.Reset f b = resetAll
+callBy kind.Outlook f b = outlook (idAt f 0) b
+callBy kind.Broken f b = ask
+
+-- of the kind that the byte k stands for
+unfoldable pub callOf : ℕ → List ℕ → List ℕ → Call
+callOf k f b = callBy (kindOf k) f b
+
+-- ---- laws
+
+-- by cases
+pub used-none : (b : ℕ) → b ≡ 255 → none ≡ usedIn b
+unfolding usedIn
+used-none b e = rw e refl
+
+pub used-some : (b : ℕ) → (b ≡ 255 → ⊥) → some b ≡ usedIn b
+unfolding usedIn
+used-some b n = rw (ne-eqb b 255 n) refl
+
+module _ (f : List ℕ) where
+  -- from their parts
+  pub start-is : (g h d b q x y : ℕ) (u : Option ℕ) → g ≡ numberAt f 0 4 → h ≡ numberAt f 4 4 → d ≡ numberAt f 8 4 → b ≡ numberAt f 12 4
+      → q ≡ numberAt f 16 4 → x ≡ getD f 20 0 → y ≡ getD f 21 0 → u ≡ usedIn y
+      → _≡_ {A = Beginning} (record { conf = record { genesis = g; historyRounds = h; deduplicateRounds = d }; bottom = b; peers = q; afterGap = not (eqb x 0); used = u }) (startIn f)
+  unfolding startIn
+  start-is g h d b q x y u i j k l m n o v = rw (v, i, j, k, l, m, n, o) refl
+
+  pub since-none : (x : ℕ) → x ≡ getD f 4 0 → x ≡ 0 → none ≡ sinceIn f
+  unfolding sinceIn
+  since-none x e z = rw (sym e, z) refl
+
+  pub since-some : (x s : ℕ) → x ≡ getD f 4 0 → (x ≡ 0 → ⊥) → s ≡ numberAt f 5 4 → some s ≡ sinceIn f
+  unfolding sinceIn
+  since-some x s e n h = rw (sym e, ne-eqb x 0 n, h) refl

@@ -1,0 +1,5 @@
+pub mod Numbers
+pub mod Head
+pub mod Fields
+pub mod Links
+pub mod Played
