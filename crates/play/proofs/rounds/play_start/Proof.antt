@@ -1,0 +1,38 @@
+use Rattle.spec.specs.Calls as calls
+use Rattle.play.specs.Made.{made}
+use borrow.Author.Needs.{needs}
+use Rattle.play.proofs.rounds.play_start.Statement.{statement}
+use Rattle.play.proofs.rounds.play_start.Tie as tie
+
+start-of-requires : tie.Need-start-of-requires
+start-of-requires c κs = search needs
+
+init-requires : tie.Need-init-requires
+init-requires c κs = search needs
+
+same-length : tie.Need-same-length
+same-length c = search needs
+
+same-length-2 : tie.Need-same-length-2
+same-length-2 c = search needs
+
+same-length-3 : tie.Need-same-length-3
+same-length-3 c = search needs
+
+same-length-4 : tie.Need-same-length-4
+same-length-4 c = search needs
+
+returns : tie.Need-returns
+returns c = made calls.start _ _ _ _ (c .before .before .before .before .before .before .before .before .init .ensures .0) (c .before .before .before .before .before .before .before .before .before .before .before .before .before .start-of .ensures)
+
+pub play-start-spec : {M : Type 1} → statement M
+play-start-spec =
+    tie.close
+    (tie.spec
+    start-of-requires
+    init-requires
+    same-length
+    same-length-2
+    same-length-3
+    same-length-4
+    returns)

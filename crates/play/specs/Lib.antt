@@ -1,0 +1,3 @@
+pub mod Sized
+pub mod Made
+pub mod Plays

@@ -1,0 +1,60 @@
+// Origin: none. What one recorded call answered.
+ghost use mathlib.Core.Path.{_≡_};
+ghost use Rattle.spec.specs.Calls.{numberOf};
+ghost use Rattle.commit_answer.specs.Answer.{answerOf, refusalOf};
+ghost use Rattle.play.specs.Plays.{lineSaid};
+ghost use Rattle.play.specs.declared.line.Line.the-variants as lines;
+use commit_answer::answer::Answer;
+use commit_answer::answer::Outcome;
+use commit_answer::answer::Refusal;
+use dag_state::state::State;
+
+// What one recorded call answered. Refused holds document 01's number; Broken: no record could be read.
+pub enum Line {
+    Ok,
+    Refused(u32),
+    GapYes,
+    GapNo,
+    DropYes,
+    DropNo,
+    Unsupported,
+    Broken,
+}
+
+// What one call answered, and the state after it.
+pub struct Step {
+    pub line: Line,
+    pub state: State,
+}
+
+// The number of a refusal; 13 is the history conflict.
+fn refused_line(why: Refusal) -> Line
+    ensures { λ r. ⌜ r ≡ lines.Refused (numberOf (refusalOf why)) ⌝ }
+{
+    match why {
+        Refusal::Number(n) => Line::Refused(n),
+        Refusal::Conflict(_round) => Line::Refused(13),
+    }
+}
+
+// An answer as a line; yes and no are the lines of a call that says one of them.
+fn line_of(answer: Answer, yes: Line, no: Line) -> Line
+    ensures { λ r. ⌜ r ≡ lineSaid yes no (answerOf answer) ⌝ }
+{
+    match answer {
+        Answer::Done => Line::Ok,
+        Answer::Said(said) => { if said { yes } else { no } }
+        Answer::Handed(_n) => Line::Ok,
+        Answer::Refused(why, _finished) => refused_line(why),
+    }
+}
+
+// What a call left, with its answer as a line.
+pub fn step_of(o: Outcome, yes: Line, no: Line) -> Step
+    ensures { λ r. ⌜ r ≡ record { line = lineSaid yes no (answerOf (o .answer)); state = o .state } ⌝ }
+{
+    let answer = o.answer;
+    let state = o.state;
+    let line = line_of(answer, yes, no);
+    Step { line, state }
+}

@@ -1,0 +1,71 @@
+// Origin: none. A point named, resolved or certified, from the fields of its record.
+ghost use mathlib.Core.Path.{_≡_};
+ghost use Prim.Native.Nat.{_+_, _*_, _≤_};
+ghost use lib.ListN.{length};
+ghost use Rattle.spec.specs.Calls as calls;
+ghost use Rattle.dag_test.specs.View.{view};
+ghost use Rattle.commit_answer.specs.Answer.{board, leaves};
+ghost use Rattle.trace.specs.Numbers.{idAt};
+ghost use Rattle.trace.specs.Head.{linksIn};
+ghost use Rattle.trace.specs.Fields.{toldIn};
+use commit_answer::answer::Outcome;
+use commit_points::certify::certify;
+use commit_points::name::add_dependency;
+use commit_points::resolve::resolve;
+use dag_state::state::State;
+use trace::bytes::id_of;
+use trace::fields::info_of;
+use trace::fields::refs_of;
+
+// Names the point that the fields say.
+pub fn play_name(
+    s: State,
+    keys: &mut [u64],
+    links: &[u64],
+    certs: &mut [u64],
+    order: &mut [u64],
+    f: &[u8],
+) -> Outcome
+    requires { ⌜ 37 ≤ length (now f) ⌝ }
+    ensures { λ r. ⌜ leaves (r .answer) (board (r .state) (now (keys .exit)) (now (links .entry)) (now (certs .exit)) (now (order .exit))) ≡ calls.call (view s (now (keys .entry)) (now (links .entry)) (now (certs .entry)) (now (order .entry))) (calls.name (idAt (now (f .entry)) 0)) ⌝ }
+{
+    let id = id_of(f, 0);
+    add_dependency(s, keys, links, certs, order, id)
+}
+
+// Resolves the point that the fields say. Its links, at most 121, are five words each.
+pub fn play_resolve(
+    s: State,
+    keys: &mut [u64],
+    links: &mut [u64],
+    certs: &mut [u64],
+    order: &[u64],
+    f: &[u8],
+) -> Outcome
+    requires { ⌜ 82 + 33 * linksIn (now f) ≤ length (now f) ⌝ }
+    requires { ⌜ linksIn (now f) ≤ 121 ⌝ }
+    ensures { λ r. ⌜ leaves (r .answer) (board (r .state) (now (keys .exit)) (now (links .exit)) (now (certs .exit)) (now (order .entry))) ≡ calls.call (view s (now (keys .entry)) (now (links .entry)) (now (certs .entry)) (now (order .entry))) (calls.resolve (idAt (now (f .entry)) 0) (toldIn (now (f .entry)))) ⌝ }
+{
+    let id = id_of(f, 0);
+    let info = info_of(f);
+    let n = info.includes + info.witness;
+    let mut refs = [0u64; 605];
+    refs_of(f, &mut refs);
+    resolve(s, keys, links, certs, order, id, info, &refs[..n * 5])
+}
+
+// Certifies the point that the fields say.
+pub fn play_certify(
+    s: State,
+    keys: &[u64],
+    links: &[u64],
+    certs: &mut [u64],
+    order: &[u64],
+    f: &[u8],
+) -> Outcome
+    requires { ⌜ 37 ≤ length (now f) ⌝ }
+    ensures { λ r. ⌜ leaves (r .answer) (board (r .state) (now (keys .entry)) (now (links .entry)) (now (certs .exit)) (now (order .entry))) ≡ calls.call (view s (now (keys .entry)) (now (links .entry)) (now (certs .entry)) (now (order .entry))) (calls.certify (idAt (now (f .entry)) 0)) ⌝ }
+{
+    let id = id_of(f, 0);
+    certify(s, keys, links, certs, order, id)
+}
