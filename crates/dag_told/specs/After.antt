@@ -11,10 +11,10 @@ use lib.Seq.{getD-set-same, getD-set-other}
 use borrow.Author.Tests.{eq-eqb, ne-eqb, lt-ltb, le-leb}
 use Rattle.laws.specs.Test.{byTest, both, and-l, and-r, or-r, leOr, sameOr}
 use Rattle.laws.specs.Scan.{any, any-none}
-use Rattle.spec.specs.Store.{Told, Point, free, withPoints}
+use Rattle.spec.specs.Store.{Told, Point, free}
 use Rattle.spec.specs.Rules.{wellFormed, counts}
 use Rattle.spec.specs.Calls.{resolvedAs}
-use Rattle.models.specs.Cert.{bitOf, flagsOf, heightOf}
+use Rattle.models.specs.Cert.{bitOf, flagsOf}
 use Rattle.models.specs.Digest.{Fit, digestAt}
 use Rattle.models.specs.Info.{infoOf}
 use Rattle.models.specs.Tables.{roundAt, authorAt, statusAt, marksAt, evidenceAt, placeAt, Used, isUsed, targetAt, dist}
@@ -26,12 +26,12 @@ use Rattle.dag_heights.specs.View.{Live}
 use Rattle.dag_links.specs.Links.{digAt}
 use Rattle.dag_links.specs.Named.{Names, Links}
 use Rattle.dag_links.specs.Words.{proofRoundAt}
-use Rattle.dag_state.specs.View.{toldAt, givenAt, pointAt, roundsOf, confOf, progressOf, memoryOf}
+use Rattle.dag_state.specs.View.{toldAt, givenAt, pointAt}
 use Rattle.dag_state.specs.declared.state.State.{State}
 use Rattle.dag_test.specs.Tested.{shape, shape-says}
 use Rattle.dag_test.specs.View.{wordsFit, regular, seenAt, seen-used, view}
 use Rattle.dag_test.specs.Same.{Same, same-target, same-point}
-use Rattle.dag_test.specs.Regular.{regular-intro, phase-same, places-same}
+use Rattle.dag_test.specs.Regular.{regular-intro}
 use Rattle.dag_test.specs.Counts.{Started, counted}
 use Rattle.dag_name.specs.Name.{Ready}
 use Rattle.dag_name.specs.Tests.{ready}
@@ -41,7 +41,7 @@ use Rattle.dag_told.specs.Copy.{copied-in, copied-off, digest-same}
 use Rattle.dag_told.specs.Told.{marksOf, marks-small, headWords, targetOf, linksPut, headPut, toldLinks, toldKeys, links-length, head-length}
 use Rattle.dag_told.specs.Held.{Off, Held, word-apart, links-off, held-put, held-same, held-refs}
 use Rattle.dag_told.specs.Ranged.{Ranged}
-use Rattle.dag_told.specs.Flags.{certOf, toldCerts, cert-height, cert-most, cert-flags}
+use Rattle.dag_told.specs.Flags.{certOf, toldCerts, cert-most, cert-flags}
 use Rattle.dag_told.specs.Found.{target-leads, target-positive}
 
 -- the marks back from their word
@@ -423,10 +423,6 @@ module _ (s : State) (ks ls cs os : List ℕ) (fk : Fit ks) (fl : Fit ls) (h : c
       unfolding seenAt
       seen-other p d = ap (λ (z : Point). cond (isUsed os (s .count) p) z free) (same-point ks ls cs us zs ws p (keys-other p d) (links-other p d) (λ j l. let e : p * 1 + j ≡ p = omega arith in rw e (cert-other p d)))
 
-      -- the height of a place
-      height-at : (p : ℕ) → heightOf (getD ws p 0) ≡ heightOf (getD cs p 0)
-      height-at p = sameOr p q (λ e. rw (e, cert-own) (cert-height (info .status) (getD cs q 0))) (λ d. ap heightOf (cert-other p d))
-
       -- the point at a place
       pt-at : (p : ℕ) → view s us zs ws os .pt p ≡ resolvedAs (eqb p q) (infoOf info rs) (view s ks ls cs os .pt p)
       unfolding view
@@ -438,32 +434,3 @@ module _ (s : State) (ks ls cs os : List ℕ) (fk : Fit ks) (fl : Fit ls) (h : c
       -- the point is resolved, the others stay
       pub told-pt : view s (toldKeys ks q info) (toldLinks s ks ls os q info rs) (toldCerts cs q (info .status)) os .pt ≡ (λ p. resolvedAs (eqb p q) (infoOf info rs) (view s ks ls cs os .pt p))
       told-pt = λ j p. pt-at p j
-
-      -- the heights stay
-      pub told-heights : view s (toldKeys ks q info) (toldLinks s ks ls os q info rs) (toldCerts cs q (info .status)) os .heights ≡ view s ks ls cs os .heights
-      unfolding view
-      told-heights = λ j p. cond (isUsed os (s .count) p) (height-at p j) 0
-
-      -- the phase stays
-      pub told-phase : view s (toldKeys ks q info) (toldLinks s ks ls os q info rs) (toldCerts cs q (info .status)) os .phase ≡ view s ks ls cs os .phase
-      told-phase = phase-same s s ks ls cs os us zs ws os (t .shaped) (t .regulated) shape-told regular-told refl
-
-      -- the number of places stays
-      pub told-places : view s (toldKeys ks q info) (toldLinks s ks ls os q info rs) (toldCerts cs q (info .status)) os .places ≡ view s ks ls cs os .places
-      told-places = places-same s s ks ls cs os us zs ws os (t .shaped) (t .regulated) shape-told refl
-
-      -- the whole store
-      pub told-view : view s (toldKeys ks q info) (toldLinks s ks ls os q info rs) (toldCerts cs q (info .status)) os ≡ withPoints (view s ks ls cs os) (λ p. resolvedAs (eqb p q) (infoOf info rs) (view s ks ls cs os .pt p)) (view s ks ls cs os .heights)
-      unfolding view withPoints
-      told-view = λ j. record {
-        phase = told-phase j;
-        places = told-places j;
-        pt = told-pt j;
-        heights = told-heights j;
-        bottom = s .bottom .0;
-        top = s .top .0;
-        rounds = roundsOf s;
-        conf = confOf s;
-        progress = progressOf s;
-        memory = memoryOf (s .memory);
-      }

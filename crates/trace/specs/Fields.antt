@@ -11,7 +11,6 @@ use Rattle.spec.specs.Ids.{Ref}
 use Rattle.spec.specs.Store.{Told}
 use Rattle.spec.specs.Calls.{Call, Beginning, start, resetAll, round, name, resolve, certify, ask, commit, outlook, remove, drop}
 use Rattle.trace.specs.Numbers.{numberAt, idAt}
-use Rattle.trace.specs.Head.{kindOf}
 use Rattle.trace.specs.declared.head.Kind.{Kind}
 use Rattle.trace.specs.declared.head.Kind.the-variants as kind
 use Rattle.trace.specs.declared.fields.Since.{Since}
@@ -80,10 +79,6 @@ callBy kind.Gap f b = ask
 callBy kind.Reset f b = resetAll
 callBy kind.Outlook f b = outlook (idAt f 0) b
 callBy kind.Broken f b = ask
-
--- of the kind that the byte k stands for
-unfoldable pub callOf : ℕ → List ℕ → List ℕ → Call
-callOf k f b = callBy (kindOf k) f b
 
 -- ---- laws
 

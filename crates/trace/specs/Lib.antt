@@ -2,4 +2,3 @@ pub mod Numbers
 pub mod Head
 pub mod Fields
 pub mod Links
-pub mod Played
