@@ -69,7 +69,7 @@ fn noise() -> State {
     let entry = Entry {
         author: 9,
         digest: Digest([9; 4]),
-        has_previous: true,
+        has_previous: 1,
         previous: Digest([9; 4]),
         owing: 9,
     };

@@ -1,5 +1,4 @@
 -- The state's parts that no call has written.
-use mathlib.Core.Bool.{false}
 use lib.ListN.{replicate}
 use Rattle.models.specs.declared.parts.Digest.{Digest}
 use Rattle.dag_state.specs.declared.state.Entry.{Entry}
@@ -10,7 +9,7 @@ abbrev pub noDigest : Digest
 noDigest = record { 0 = replicate 4 0 }
 
 abbrev pub noEntry : Entry
-noEntry = record { author = 0; digest = noDigest; «has_previous» = false; previous = noDigest; owing = 0 }
+noEntry = record { author = 0; digest = noDigest; «has_previous» = 0; previous = noDigest; owing = 0 }
 
 abbrev pub noMemory : Memory
 noMemory = record { last = record { 0 = 0 }; count = 0; entries = replicate 128 noEntry }

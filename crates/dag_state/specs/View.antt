@@ -63,7 +63,7 @@ unfoldable pub entryOf : Entry → store.Entry
 entryOf e = record {
   author = e .author;
   digest = digestAt (e .digest .0) 0;
-  previous = cond (e .«has_previous») (some (digestAt (e .previous .0) 0)) none;
+  previous = cond (ltb 0 (e .«has_previous»)) (some (digestAt (e .previous .0) 0)) none;
   owing = member (e .owing);
 }
 

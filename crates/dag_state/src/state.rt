@@ -8,21 +8,24 @@ use models::parts::Digest;
 use models::parts::Round;
 
 // A retained round: its peers, and the author of its used mark plus 1, or 0 for none.
+#[repr(C)]
 pub struct RoundRecord {
     pub peers: u32,
     pub used: u32,
 }
 
-// A trusted point of the inspector's last round: author, digest, digest of its previous point if it has one, and the peers that signed
-// the previous point and did not include it.
+// A trusted point of the inspector's last round: author, digest, digest of its previous point if it has one (has_previous isn't 0), and
+// the peers that signed the previous point and did not include it.
+#[repr(C)]
 pub struct Entry {
     pub author: u32,
     pub digest: Digest,
-    pub has_previous: bool,
+    pub has_previous: u32,
     pub previous: Digest,
     pub owing: u32,
 }
 
+#[repr(C)]
 pub struct Memory {
     pub last: Round,
     pub count: usize,
@@ -31,6 +34,7 @@ pub struct Memory {
 
 // phase: 1 started, 2 reset, other numbers neither. count: the number of used places. Rounds from bottom to top are retained, round r in
 // record r modulo 512. last_proof, last_anchor: the round plus 1, or 0 for none. gap: 0 disarmed, 1 before the gap question, else after it.
+#[repr(C)]
 pub struct State {
     pub phase: u32,
     pub count: usize,
@@ -54,7 +58,7 @@ pub fn empty_memory() -> Memory
     let entry = Entry {
         author: 0,
         digest: Digest([0; 4]),
-        has_previous: false,
+        has_previous: 0,
         previous: Digest([0; 4]),
         owing: 0,
     };

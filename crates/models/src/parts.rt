@@ -8,14 +8,17 @@ ghost use mathlib.Core.Path.{_≡_};
 ghost use Rattle.models.specs.Parts.{idOf};
 
 // A round's number.
+#[repr(C)]
 pub struct Round(pub u32);
 
 // A certificate's height, so that it never passes for a round.
 pub struct Height(pub u32);
 
 // Four words, the most significant first.
+#[repr(C)]
 pub struct Digest(pub [u64; 4]);
 
+#[repr(C)]
 pub struct PointId {
     pub round: Round,
     pub author: u32,

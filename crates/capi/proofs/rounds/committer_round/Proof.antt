@@ -1,0 +1,17 @@
+use mathlib.Core.Path.{refl}
+use Rattle.capi.specs.Reply.{replies}
+use borrow.Author.Needs.{needs}
+use Rattle.capi.proofs.rounds.committer_round.Statement.{statement}
+use Rattle.capi.proofs.rounds.committer_round.Tie as tie
+
+extend-from-ahead-requires : tie.Need-extend-from-ahead-requires
+extend-from-ahead-requires c κs = search needs
+
+reply-of-requires : tie.Need-reply-of-requires
+reply-of-requires c κs = search needs
+
+returns : tie.Need-returns
+returns c = let e = c .before .extend-from-ahead .ensures in let t = replies _ _ _ _ _ _ _ _ _ _ (c .reply-of .ensures) (e .0) (e .1 .0) refl (e .1 .1) in (t .0, t .1 .0)
+
+pub committer-round-spec : {M : Type 1} → statement M
+committer-round-spec = tie.close (tie.spec extend-from-ahead-requires reply-of-requires returns)

@@ -1,0 +1,143 @@
+// Origin: none. Start, reset, round, gap question and drop for C.
+ghost use mathlib.Core.Path.{_≡_};
+ghost use Rattle.spec.specs.Calls as calls;
+ghost use Rattle.spec.specs.Rules.{counts};
+ghost use Rattle.dag_state.specs.Back.{clearedState};
+ghost use Rattle.dag_state.specs.Reads.{beginningOf};
+ghost use Rattle.dag_test.specs.View.{view};
+ghost use Rattle.commit_answer.specs.Answer.{board, answered, doneWith, after};
+ghost use Rattle.commit_start.specs.Start.{startCode, startOutcome, begunBoard, resetCode, clearedBoard};
+ghost use Rattle.commit_rounds.specs.Gap.{gapOutcome};
+ghost use Rattle.commit_rounds.specs.Round.{roundOutcome};
+ghost use Rattle.commit_rounds.specs.Drop.{droppedBoard, wholly, dropTested};
+ghost use Rattle.capi.specs.Reply.{Replies, replyOf, beginningIn, usedIn};
+use crate::reply::Reply;
+use crate::reply::reply_of;
+use commit_rounds::drop_upto;
+use commit_rounds::extend_from_ahead;
+use commit_rounds::is_once_after_gap;
+use commit_start::init;
+use commit_start::reset;
+use dag_state::back::Beginning;
+use dag_state::back::UsedAuthor;
+use dag_state::state::State;
+use models::parts::Round;
+
+// What a start takes. after_gap: 0 for no. used: the author of the bottom's used mark, 4294967295 for none.
+#[repr(C)]
+pub struct Start {
+    pub genesis: u32,
+    pub history_rounds: u32,
+    pub deduplicate_rounds: u32,
+    pub bottom: u32,
+    pub peers: u32,
+    pub after_gap: u32,
+    pub used: u32,
+}
+
+fn used_in(used: u32) -> UsedAuthor
+    ensures { λ r. ⌜ r ≡ usedIn used ⌝ }
+{
+    if used == 4294967295 {
+        return UsedAuthor::Nobody;
+    }
+    UsedAuthor::Peer(used)
+}
+
+fn beginning_in(with: Start) -> Beginning
+    ensures { λ r. ⌜ r ≡ beginningIn with ⌝ }
+{
+    let used = used_in(with.used);
+    Beginning {
+        genesis: Round(with.genesis),
+        history_rounds: with.history_rounds,
+        deduplicate_rounds: with.deduplicate_rounds,
+        bottom: Round(with.bottom),
+        peers: with.peers,
+        after_gap: with.after_gap != 0,
+        used,
+    }
+}
+
+#[no_mangle]
+pub extern "C" fn committer_start(
+    s: State,
+    keys: &mut [u64],
+    links: &mut [u64],
+    certs: &mut [u64],
+    order: &mut [u64],
+    with: Start,
+) -> Reply
+    ensures answer { λ r. ⌜ Replies r (board s (now (keys .entry)) (now (links .entry)) (now (certs .entry)) (now (order .entry))) (board (r .state) (now (keys .exit)) (now (links .exit)) (now (certs .exit)) (now (order .exit))) (calls.start (beginningOf (beginningIn with))) ⌝ }
+    ensures outcome { λ r. ⌜ r ≡ replyOf (startOutcome s (now (keys .entry)) (now (links .entry)) (now (certs .entry)) (now (order .entry)) (beginningIn with)) ⌝ }
+    ensures words { λ r. ⌜ board (r .state) (now (keys .exit)) (now (links .exit)) (now (certs .exit)) (now (order .exit)) ≡ after (startCode (view s (now (keys .entry)) (now (links .entry)) (now (certs .entry)) (now (order .entry))) (beginningIn with)) (board s (now (keys .entry)) (now (links .entry)) (now (certs .entry)) (now (order .entry))) (begunBoard s (now (keys .entry)) (now (links .entry)) (now (certs .entry)) (now (order .entry)) (beginningIn with)) ⌝ }
+{
+    let beginning = beginning_in(with);
+    let o = init(s, keys, links, certs, order, beginning);
+    reply_of(o)
+}
+
+#[no_mangle]
+pub extern "C" fn committer_reset(
+    s: State,
+    keys: &mut [u64],
+    links: &mut [u64],
+    certs: &mut [u64],
+    order: &mut [u64],
+) -> Reply
+    ensures answer { λ r. ⌜ Replies r (board s (now (keys .entry)) (now (links .entry)) (now (certs .entry)) (now (order .entry))) (board (r .state) (now (keys .exit)) (now (links .exit)) (now (certs .exit)) (now (order .exit))) calls.resetAll ⌝ }
+    ensures outcome { λ r. ⌜ r ≡ replyOf (answered (resetCode s (now (keys .entry)) (now (links .entry)) (now (certs .entry)) (now (order .entry))) s (doneWith (clearedState s))) ⌝ }
+    ensures words { λ r. ⌜ board (r .state) (now (keys .exit)) (now (links .exit)) (now (certs .exit)) (now (order .exit)) ≡ after (resetCode s (now (keys .entry)) (now (links .entry)) (now (certs .entry)) (now (order .entry))) (board s (now (keys .entry)) (now (links .entry)) (now (certs .entry)) (now (order .entry))) (clearedBoard s (now (keys .entry)) (now (links .entry)) (now (certs .entry)) (now (order .entry))) ⌝ }
+{
+    let o = reset(s, keys, links, certs, order);
+    reply_of(o)
+}
+
+#[no_mangle]
+pub extern "C" fn committer_round(
+    s: State,
+    keys: &[u64],
+    links: &[u64],
+    certs: &[u64],
+    order: &[u64],
+    round: u32,
+    peers: u32,
+) -> Reply
+    ensures answer { λ r. ⌜ Replies r (board s (now (keys .entry)) (now (links .entry)) (now (certs .entry)) (now (order .entry))) (board (r .state) (now (keys .entry)) (now (links .entry)) (now (certs .entry)) (now (order .entry))) (calls.round round peers) ⌝ }
+    ensures outcome { λ r. ⌜ r ≡ replyOf (roundOutcome s (now (keys .entry)) (now (links .entry)) (now (certs .entry)) (now (order .entry)) round peers) ⌝ }
+{
+    let o = extend_from_ahead(s, keys, links, certs, order, Round(round), peers);
+    reply_of(o)
+}
+
+#[no_mangle]
+pub extern "C" fn committer_gap(
+    s: State,
+    keys: &[u64],
+    links: &[u64],
+    certs: &[u64],
+    order: &[u64],
+) -> Reply
+    ensures answer { λ r. ⌜ Replies r (board s (now (keys .entry)) (now (links .entry)) (now (certs .entry)) (now (order .entry))) (board (r .state) (now (keys .entry)) (now (links .entry)) (now (certs .entry)) (now (order .entry))) calls.ask ⌝ }
+    ensures outcome { λ r. ⌜ r ≡ replyOf (gapOutcome (counts (view s (now (keys .entry)) (now (links .entry)) (now (certs .entry)) (now (order .entry)))) s) ⌝ }
+{
+    let o = is_once_after_gap(s, keys, links, certs, order);
+    reply_of(o)
+}
+
+#[no_mangle]
+pub extern "C" fn committer_drop(
+    s: State,
+    keys: &mut [u64],
+    links: &mut [u64],
+    certs: &mut [u64],
+    order: &mut [u64],
+    round: u32,
+) -> Reply
+    ensures answer { λ r. ⌜ Replies r (board s (now (keys .entry)) (now (links .entry)) (now (certs .entry)) (now (order .entry))) (board (r .state) (now (keys .exit)) (now (links .exit)) (now (certs .exit)) (now (order .exit))) (calls.drop round) ⌝ }
+    ensures outcome { λ r. ⌜ r ≡ replyOf (answered (dropTested s (now (keys .entry)) (now (links .entry)) (now (certs .entry)) (now (order .entry)) round) s (record { answer = wholly s (now (keys .entry)) (now (links .entry)) (now (certs .entry)) (now (order .entry)) round; state = droppedBoard s (now (keys .entry)) (now (links .entry)) (now (certs .entry)) (now (order .entry)) round .state })) ⌝ }
+    ensures words { λ r. ⌜ board (r .state) (now (keys .exit)) (now (links .exit)) (now (certs .exit)) (now (order .exit)) ≡ after (dropTested s (now (keys .entry)) (now (links .entry)) (now (certs .entry)) (now (order .entry)) round) (board s (now (keys .entry)) (now (links .entry)) (now (certs .entry)) (now (order .entry))) (droppedBoard s (now (keys .entry)) (now (links .entry)) (now (certs .entry)) (now (order .entry)) round) ⌝ }
+{
+    let o = drop_upto(s, keys, links, certs, order, Round(round));
+    reply_of(o)
+}
