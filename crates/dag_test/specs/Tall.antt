@@ -53,14 +53,14 @@ module _ (b n : ℕ) (ks ls cs os : List ℕ) (sorted : Sorted ks os n) (right :
   used-round q u = ap (λ p. p .id .round) (used-point q u)
 
   -- links
-  link-elim : (p q : ℕ) → E v p q → Leads b ks ls os n p q
+  pub link-elim : (p q : ℕ) → E v p q → Leads b ks ls os n p q
   unfolding linksTo
   link-elim p q h =
       let u : Used os n p = named-used p (resolved-named (v .pt p) (and-l _ _ h)) in
       let w : Used os n q = named-used q (and-l _ _ (and-r (resolved (v .pt p)) _ h)) in
       edge-elim b n ks ls cs os sorted right low fk fl p q u w (ap₂ linksTo (sym (used-point p u)) (sym (used-point q w)) ∙ h)
 
-  link-intro : (p q : ℕ) → Leads b ks ls os n p q → E v p q
+  pub link-intro : (p q : ℕ) → Leads b ks ls os n p q → E v p q
   link-intro p q e = let (w, h) = edge-intro b n ks ls cs os sorted right low fk fl p q e in ap₂ linksTo (used-point p (e .from)) (used-point q w) ∙ h
 
   -- tops

@@ -1,0 +1,68 @@
+use borrow.Author.Needs.{needs}
+use Prim.Native.Nat.{_≤_, _-_}
+use mathlib.Core.Path.{_≡_, refl}
+use mathlib.Core.Logic.{⊎-elim}
+use native.Mathlib.Omega.{arith}
+use lib.ListN.{length}
+use Rattle.laws.specs.Scan.{those}
+use Rattle.back_history.specs.Picked.{wantsAt, count-hit, count-miss, count-end}
+use Rattle.back_history.proofs.count_points.Statement.{statement}
+use Rattle.back_history.proofs.count_points.Tie as tie
+
+abbrev Inv-loop : tie.InvT-loop
+Inv-loop marks certs order low high n₀ k₀ n k = (k ≤ high - low) × (n ≤ k) × (n ≡ length (those k (wantsAt certs order marks low)))
+
+abbrev μ-loop : tie.MeasureT-loop
+μ-loop marks certs order low high n₀ k₀ n k = high - low - k
+
+loop-holds : tie.Need-loop-holds Inv-loop μ-loop
+unfolding those
+loop-holds c = (search needs, search needs, refl)
+
+sub-loop : tie.Need-sub-loop Inv-loop μ-loop
+sub-loop c = search needs
+
+add-place : tie.Need-add-place Inv-loop μ-loop
+add-place c = search needs
+
+place-requires : tie.Need-place-requires Inv-loop μ-loop
+place-requires c κs = (search needs, c .before .before .before .before .pre .4)
+
+is-wanted-requires : tie.Need-is-wanted-requires Inv-loop μ-loop
+is-wanted-requires c κs = search needs
+
+add-n : tie.Need-add-n Inv-loop μ-loop
+add-n c = search needs
+
+add-k : tie.Need-add-k Inv-loop μ-loop
+add-k c = search needs
+
+loop-less : tie.Need-loop-less Inv-loop μ-loop
+loop-less c = search needs
+
+loop-again : tie.Need-loop-again Inv-loop μ-loop
+loop-again c =
+    ⊎-elim
+    (λ w. (search needs, search needs, count-hit _ _ _ _ _ _ _ _ _ (c .before .before .before .before .loop .inv .2) (c .before .before .place .ensures .0) (c .before .is-wanted .ensures) (w .0 .taken) (w .1)))
+    (λ w. (search needs, search needs, count-miss _ _ _ _ _ _ _ _ _ (c .before .before .before .before .loop .inv .2) (c .before .before .place .ensures .0) (c .before .is-wanted .ensures) (w .0 .left) (w .1)))
+    (c .if1 .came)
+
+returns : tie.Need-returns Inv-loop μ-loop
+returns c = count-end _ _ _ _ (c .before .loop .inv .2) (omega arith)
+
+pub count-points-spec : {M : Type 1} → statement M
+count-points-spec =
+    tie.close
+    (tie.spec
+    Inv-loop
+    μ-loop
+    loop-holds
+    sub-loop
+    add-place
+    place-requires
+    is-wanted-requires
+    add-n
+    add-k
+    loop-less
+    loop-again
+    returns)

@@ -1,0 +1,161 @@
+// Origin: dag/commit/back.rs (gather_uncommitted). The history of one anchor: the points that it needs, by one sweep over the positions of
+// the order downwards, and those of them that are not committed, by rising position.
+ghost use mathlib.Core.Path.{_≡_};
+ghost use Prim.Native.Nat.{_+_, _*_, _-_, _<_, _≤_, max};
+ghost use lib.ListN.{length};
+ghost use Rattle.laws.specs.Scan.{any, those};
+ghost use Rattle.back_history.specs.Sweep.{limitOf, missing, put, marked, wants, swept, marks, Range};
+ghost use Rattle.back_history.specs.Picked.{wantsAt, flatAt};
+use models::cert::Cert;
+use models::parts::Round;
+
+// The later of two rounds.
+pub fn later(a: Round, b: Round) -> Round
+    ensures { λ r. ⌜ r .0 ≡ max (a .0) (b .0) ⌝ }
+{
+    if a.0 < b.0 { b } else { a }
+}
+
+// The lowest round of the history of an anchor: H rounds below it, above genesis.
+pub fn history_limit(genesis: Round, rounds: u32, anchor: Round) -> Round
+    requires { ⌜ genesis .0 ≤ 4000000000 ⌝ }
+    ensures { λ r. ⌜ r .0 ≡ limitOf (genesis .0) rounds (anchor .0) ⌝ }
+{
+    let least = genesis.plus(1);
+    let low = anchor.minus(rounds);
+    later(least, low)
+}
+
+// Whether rounds of a history with this limit are missing that should be there.
+pub fn rounds_missing(full: Round, limit: Round, bottom: Round) -> bool
+    ensures { λ r. ⌜ r ≡ missing (full .0) (limit .0) (bottom .0) ⌝ }
+{
+    if limit.0 < full.0 {
+        return false;
+    }
+    limit.0 < bottom.0
+}
+
+// Marks the place of a target word: 0 for no link, else the place plus 1.
+fn mark_target(marks: &mut [bool; 4096], word: u64)
+    ensures { λ _. ⌜ now (marks .exit) ≡ put (now (marks .entry)) word ⌝ }
+{
+    if word == 0 {
+        return;
+    }
+    if word <= 4096 {
+        marks[(word - 1) as usize] = true;
+    }
+}
+
+// Marks the places that the first m links of place q lead to.
+fn mark_links(marks: &mut [bool; 4096], links: &[u64], q: usize, m: usize)
+    requires { ⌜ (m ≤ 64) × (q * 328 + 328 ≤ length (now links)) ⌝ }
+    ensures { λ _. ⌜ now (marks .exit) ≡ marked (now (links .entry)) (now (marks .entry)) q m ⌝ }
+{
+    let mut k: usize = 0;
+    while k < m {
+        mark_target(marks, links[q * 328 + 8 + k]);
+        k += 1;
+    }
+}
+
+// Whether place q is marked and not committed.
+pub fn is_wanted(marks: &[bool; 4096], certs: &[u64], q: usize) -> bool
+    requires { ⌜ (q < 4096) × (q < length (now certs)) ⌝ }
+    ensures { λ r. ⌜ r ≡ wants (now (certs .entry)) (now (marks .entry)) q ⌝ }
+{
+    if marks[q] {
+        let cert = Cert(certs[q]);
+        return !cert.is_committed();
+    }
+    false
+}
+
+// From position `high` down to `low`: a marked place that is not committed marks the places that its live links lead to.
+fn sweep(
+    marks: &mut [bool; 4096],
+    keys: &[u64],
+    links: &[u64],
+    certs: &[u64],
+    order: &[u64],
+    bottom: u64,
+    low: usize,
+    high: usize,
+)
+    requires { ⌜ Range (now certs) (now order) low high ⌝ }
+    requires { ⌜ (length (now keys) ≡ length (now order) * 8) × (length (now links) ≡ length (now order) * 328) × (bottom ≤ 4000000000) ⌝ }
+    ensures { λ _. ⌜ now (marks .exit) ≡ swept bottom (now (keys .entry)) (now (links .entry)) (now (certs .entry)) (now (order .entry)) (now (marks .entry)) high (high - low) ⌝ }
+{
+    let mut p = high;
+    while low < p {
+        p -= 1;
+        let q = dag_places::place(order, high, p);
+        if is_wanted(marks, certs, q) {
+            mark_links(marks, links, q, dag_heights::live(keys, bottom, q));
+        }
+    }
+}
+
+// The places that the anchor needs, of the positions from `low` to `high`; committed ones hand on no links.
+pub fn needed(
+    keys: &[u64],
+    links: &[u64],
+    certs: &[u64],
+    order: &[u64],
+    bottom: u64,
+    low: usize,
+    high: usize,
+    anchor: usize,
+) -> [bool; 4096]
+    requires { ⌜ Range (now certs) (now order) low high ⌝ }
+    requires { ⌜ (length (now keys) ≡ length (now order) * 8) × (length (now links) ≡ length (now order) * 328) × (bottom ≤ 4000000000) × (anchor < length (now order)) ⌝ }
+    ensures { λ r. ⌜ r ≡ marks bottom (now (keys .entry)) (now (links .entry)) (now (certs .entry)) (now (order .entry)) low high anchor ⌝ }
+{
+    let mut marks = [false; 4096];
+    marks[anchor] = true;
+    sweep(&mut marks, keys, links, certs, order, bottom, low, high);
+    marks
+}
+
+// Whether a point of the history has the height 0.
+pub fn any_flat(marks: &[bool; 4096], certs: &[u64], order: &[u64], low: usize, high: usize) -> bool
+    requires { ⌜ Range (now certs) (now order) low high ⌝ }
+    ensures { λ r. ⌜ r ≡ any (high - low) (flatAt (now (certs .entry)) (now (order .entry)) (now (marks .entry)) low) ⌝ }
+{
+    let mut k: usize = 0;
+    while k < high - low {
+        let q = dag_places::place(order, high, low + k);
+        if is_wanted(marks, certs, q) {
+            let cert = Cert(certs[q]);
+            if !cert.is_certified() {
+                return true;
+            }
+        }
+        k += 1;
+    }
+    false
+}
+
+// How many points the history has.
+pub fn count_points(
+    marks: &[bool; 4096],
+    certs: &[u64],
+    order: &[u64],
+    low: usize,
+    high: usize,
+) -> usize
+    requires { ⌜ Range (now certs) (now order) low high ⌝ }
+    ensures { λ r. ⌜ r ≡ length (those (high - low) (wantsAt (now (certs .entry)) (now (order .entry)) (now (marks .entry)) low)) ⌝ }
+{
+    let mut n: usize = 0;
+    let mut k: usize = 0;
+    while k < high - low {
+        let q = dag_places::place(order, high, low + k);
+        if is_wanted(marks, certs, q) {
+            n += 1;
+        }
+        k += 1;
+    }
+    n
+}

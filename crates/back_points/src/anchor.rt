@@ -1,0 +1,151 @@
+// Origin: dag/commit/back.rs (gather_uncommitted). The tests of one anchor that commit and outlook both make, with what its history is.
+ghost use mathlib.Core.Path.{_≡_};
+ghost use Prim.Native.Nat.{_*_, _≤_};
+ghost use lib.ListN.{length};
+ghost use Rattle.spec.specs.History.{tested};
+ghost use Rattle.models.specs.Tables.{Used};
+ghost use Rattle.dag_test.specs.View.{view};
+ghost use Rattle.dag_test.specs.Counts.{Started};
+ghost use Rattle.dag_name.specs.Name.{Ready};
+ghost use Rattle.back_history.specs.Sweep.{Range};
+ghost use Rattle.back_points.specs.Fault.{Rounds, outOf};
+ghost use Rattle.back_points.specs.Anchor.{spanOf, codeOf, testedOf};
+use crate::fault::Fault;
+use crate::fault::history_fault;
+use crate::fault::round_at;
+use back_history::any_flat;
+use back_history::count_points;
+use back_history::history_limit;
+use back_history::later;
+use back_history::needed;
+use back_history::rounds_missing;
+use dag_state::state::State;
+use models::parts::Round;
+
+// The positions of a history, from `low` to `high`, and its limit.
+pub struct Span {
+    pub limit: Round,
+    pub low: usize,
+    pub high: usize,
+}
+
+// What an anchor is refused with: 22, 13 to 15, 17, 18, 0 if it isn't; the round of a history conflict, else 0. Its history: the marked
+// places that are not committed, of the positions from `low` to `high`, and their number.
+pub struct Tested {
+    pub code: u32,
+    pub round: Round,
+    pub low: usize,
+    pub high: usize,
+    pub count: usize,
+    pub marks: [bool; 4096],
+}
+
+// The positions of the history of an anchor of this round.
+fn span_of(s: State, keys: &[u64], order: &[u64], round: Round) -> Span
+    requires { ⌜ Ready s (now keys) (now order) ⌝ }
+    requires { ⌜ (s .genesis .0 ≤ 4000000000) × (round .0 ≤ 4000000000) ⌝ }
+    ensures { λ r. ⌜ r ≡ spanOf s (now (keys .entry)) (now (order .entry)) (round .0) ⌝ }
+{
+    let genesis = s.genesis;
+    let bottom = s.bottom;
+    let limit = history_limit(genesis, s.history_rounds, round);
+    let lowest = later(limit, bottom);
+    let n = s.count;
+    let low = dag_drain::cut(keys, order, n, lowest.0);
+    let high = dag_drain::cut(keys, order, n, round.0 + 1);
+    Span {
+        limit: limit,
+        low: low,
+        high: high,
+    }
+}
+
+// What the anchor of this round is refused with.
+fn anchor_code(
+    s: State,
+    marks: &[bool; 4096],
+    keys: &[u64],
+    certs: &[u64],
+    order: &[u64],
+    span: Span,
+    round: Round,
+) -> Fault
+    requires { ⌜ Range (now certs) (now order) (span .low) (span .high) ⌝ }
+    requires { ⌜ (length (now keys) ≡ length (now order) * 8) × Rounds (now keys) (now order) (span .high) ⌝ }
+    ensures { λ r. ⌜ r ≡ codeOf s (now (keys .entry)) (now (certs .entry)) (now (order .entry)) (now (marks .entry)) span (round .0) ⌝ }
+{
+    let genesis = s.genesis;
+    if round.0 <= genesis.0 {
+        return Fault {
+            code: 22,
+            round: Round(0),
+        };
+    }
+    let low = span.low;
+    let high = span.high;
+    let fault = history_fault(marks, keys, certs, order, low, high);
+    if fault.code != 0 {
+        return fault;
+    }
+    let full = s.full_history_bottom;
+    let limit = span.limit;
+    let bottom = s.bottom;
+    if rounds_missing(full, limit, bottom) {
+        return Fault {
+            code: 17,
+            round: Round(0),
+        };
+    }
+    if any_flat(marks, certs, order, low, high) {
+        return Fault {
+            code: 18,
+            round: Round(0),
+        };
+    }
+    Fault {
+        code: 0,
+        round: Round(0),
+    }
+}
+
+// The tests of the anchor at a used place.
+pub fn test_anchor(
+    s: State,
+    keys: &[u64],
+    links: &[u64],
+    certs: &[u64],
+    order: &[u64],
+    anchor: usize,
+) -> Tested
+    requires { ⌜ Started s (now keys) (now links) (now certs) (now order) ⌝ }
+    requires { ⌜ Used (now order) (s .count) anchor ⌝ }
+    ensures whole { λ r. ⌜ r ≡ testedOf s (now (keys .entry)) (now (links .entry)) (now (certs .entry)) (now (order .entry)) anchor ⌝ }
+    ensures outcome { λ r. ⌜ outOf (r .code) (r .round .0) anchor ≡ tested (view s (now (keys .entry)) (now (links .entry)) (now (certs .entry)) (now (order .entry))) anchor ⌝ }
+{
+    let round = round_at(keys, anchor);
+    let span = span_of(s, keys, order, round);
+    let low = span.low;
+    let high = span.high;
+    let bottom = s.bottom;
+    let marks = needed(
+        keys,
+        links,
+        certs,
+        order,
+        bottom.0 as u64,
+        low,
+        high,
+        anchor,
+    );
+    let count = count_points(&marks, certs, order, low, high);
+    let fault = anchor_code(s, &marks, keys, certs, order, span, round);
+    let conflict = fault.round;
+    Tested {
+        code: fault.code,
+        round: conflict,
+        low: low,
+        high: high,
+        count: count,
+        marks: marks,
+    }
+}

@@ -1,0 +1,151 @@
+// Origin: dag/commit/back.rs (committable_point, and the order of points in gather_uncommitted), models/cert.rs (has_proof).
+// The first point of a history that isn't usable: rounds downwards, inside a round by rising digest.
+ghost use mathlib.Core.Path.{_≡_};
+ghost use Prim.Native.Nat.{_+_, _*_, _<_, _≤_};
+ghost use lib.ListN.{length};
+ghost use Rattle.models.specs.Tables.{roundAt, Inside};
+ghost use Rattle.back_history.specs.Sweep.{Range};
+ghost use Rattle.back_points.specs.Scan.{soonerOf};
+ghost use Rattle.back_points.specs.Fault.{proofOf, faultAt, faulty, roundOf, firstFault, foundFault, Rounds};
+use models::cert::Cert;
+use models::parts::Round;
+
+// A number that refuses an anchor, 0 for none, and the round of a history conflict, else 0.
+pub struct Fault {
+    pub code: u32,
+    pub round: Round,
+}
+
+// The round of place q.
+pub fn round_at(keys: &[u64], q: usize) -> Round
+    requires { ⌜ (q * 8 + 8 ≤ length (now keys)) × (roundAt (now keys) q ≤ 4000000000) ⌝ }
+    ensures { λ r. ⌜ r .0 ≡ roundAt (now (keys .entry)) q ⌝ }
+{
+    Round(keys[q * 8 + 0] as u32)
+}
+
+// Whether the point with this certificate word is proved: certified, and that directly.
+fn has_proof(word: u64) -> bool
+    ensures { λ r. ⌜ r ≡ proofOf word ⌝ }
+{
+    let cert = Cert(word);
+    if cert.is_certified() {
+        return word / 32768 % 2 == 1;
+    }
+    false
+}
+
+// What the point at place q of a history is refused with: 14 unresolved, 13 conflict, 15 neither usable nor certified, 0 if it is usable.
+pub fn fault_at(keys: &[u64], certs: &[u64], q: usize) -> u32
+    requires { ⌜ (q * 8 + 8 ≤ length (now keys)) × (q < length (now certs)) ⌝ }
+    ensures { λ r. ⌜ r ≡ faultAt (now (keys .entry)) (now (certs .entry)) q ⌝ }
+{
+    let status = keys[q * 8 + 6];
+    if status == 0 {
+        return 14;
+    }
+    if status == 1 {
+        return 0;
+    }
+    let word = certs[q];
+    if status == 2 {
+        if has_proof(word) {
+            return 13;
+        }
+        return 0;
+    }
+    let cert = Cert(word);
+    if cert.is_certified() {
+        return 13;
+    }
+    15
+}
+
+// Whether place q is marked and its point isn't usable.
+fn is_faulty(marks: &[bool; 4096], keys: &[u64], certs: &[u64], q: usize) -> bool
+    requires { ⌜ (q < 4096) × (q * 8 + 8 ≤ length (now keys)) × (q < length (now certs)) ⌝ }
+    ensures { λ r. ⌜ r ≡ faulty (now (keys .entry)) (now (certs .entry)) (now (marks .entry)) q ⌝ }
+{
+    if marks[q] {
+        return fault_at(keys, certs, q) != 0;
+    }
+    false
+}
+
+// The sooner tested of the position found so far (`none` for none yet) and p, which stands below it.
+fn sooner(keys: &[u64], order: &[u64], none: usize, found: usize, p: usize) -> usize
+    requires { ⌜ (none ≤ length (now order)) × (found ≤ none) × (p < none) × (length (now keys) ≡ length (now order) * 8) × Inside (now order) none (length (now order)) ⌝ }
+    ensures { λ r. ⌜ r ≡ soonerOf (roundOf (now (keys .entry)) (now (order .entry))) none found p ⌝ }
+{
+    if found == none {
+        return p;
+    }
+    let i = dag_places::place(order, none, found);
+    let j = dag_places::place(order, none, p);
+    let u = keys[i * 8 + 0];
+    let v = keys[j * 8 + 0];
+    if u == v {
+        return p;
+    }
+    found
+}
+
+// The position from `low` to `high` of the first point that isn't usable, or `high`.
+pub fn first_fault(
+    marks: &[bool; 4096],
+    keys: &[u64],
+    certs: &[u64],
+    order: &[u64],
+    low: usize,
+    high: usize,
+) -> usize
+    requires { ⌜ Range (now certs) (now order) low high ⌝ }
+    requires { ⌜ length (now keys) ≡ length (now order) * 8 ⌝ }
+    ensures { λ r. ⌜ r ≡ firstFault (now (keys .entry)) (now (certs .entry)) (now (order .entry)) (now (marks .entry)) low high ⌝ }
+{
+    let mut found = high;
+    let mut p = high;
+    while low < p {
+        p -= 1;
+        let q = dag_places::place(order, high, p);
+        if is_faulty(marks, keys, certs, q) {
+            found = sooner(keys, order, high, found, p);
+        }
+    }
+    found
+}
+
+// What the history is refused with for its points.
+pub fn history_fault(
+    marks: &[bool; 4096],
+    keys: &[u64],
+    certs: &[u64],
+    order: &[u64],
+    low: usize,
+    high: usize,
+) -> Fault
+    requires { ⌜ Range (now certs) (now order) low high ⌝ }
+    requires { ⌜ (length (now keys) ≡ length (now order) * 8) × Rounds (now keys) (now order) high ⌝ }
+    ensures { λ r. ⌜ r ≡ foundFault (now (keys .entry)) (now (certs .entry)) (now (order .entry)) (now (marks .entry)) low high ⌝ }
+{
+    let p = first_fault(marks, keys, certs, order, low, high);
+    if high <= p {
+        return Fault {
+            code: 0,
+            round: Round(0),
+        };
+    }
+    let q = dag_places::place(order, high, p);
+    let code = fault_at(keys, certs, q);
+    if code != 13 {
+        return Fault {
+            code: code,
+            round: Round(0),
+        };
+    }
+    let round = round_at(keys, q);
+    Fault {
+        code: code,
+        round: round,
+    }
+}

@@ -1,0 +1,3 @@
+// The tests of an anchor: the points of its history (fault), then the anchor (anchor).
+pub mod anchor;
+pub mod fault;
