@@ -1,0 +1,732 @@
+/*
+ * Calls every function of committer.h: on full-size tables, with every refusal that there is, and on noise.
+ * Writes `ok N checks`, or the first check that fails.
+ */
+#include <stdbool.h>
+#include <stdio.h>
+#include <stdlib.h>
+
+#include "committer.h"
+
+#define PLACES COMMITTER_PLACES_MAX
+#define BOTTOM 1000u
+#define TOP (BOTTOM + 511u)
+#define ALL UINT32_MAX
+
+static unsigned long checks;
+
+static void failed(const char *file, int line, const char *what)
+{
+    fprintf(stderr, "%s:%d: after %lu checks: %s\n", file, line, checks, what);
+    exit(1);
+}
+
+#define CHECK(holds) ((holds) ? (void)checks++ : failed(__FILE__, __LINE__, #holds))
+
+/* ---- a board: tables of `places` places, and the state */
+
+typedef struct {
+    size_t places;
+    uint64_t *keys, *links, *certs, *order;
+    committer_state state;
+} board;
+
+static uint64_t *words(size_t n)
+{
+    uint64_t *table = calloc(n == 0 ? 1 : n, sizeof *table);
+    if (table == NULL) {
+        failed(__FILE__, __LINE__, "no memory");
+    }
+    return table;
+}
+
+static board new_board(size_t places)
+{
+    board b;
+    b.places = places;
+    b.keys = words(COMMITTER_KEYS_LEN(places));
+    b.links = words(COMMITTER_LINKS_LEN(places));
+    b.certs = words(COMMITTER_CERTS_LEN(places));
+    b.order = words(COMMITTER_ORDER_LEN(places));
+    b.state = committer_no_state();
+    return b;
+}
+
+static void free_board(board *b)
+{
+    free(b->keys);
+    free(b->links);
+    free(b->certs);
+    free(b->order);
+}
+
+static void copy_board(board *to, const board *from)
+{
+    memcpy(to->keys, from->keys, COMMITTER_KEYS_LEN(from->places) * sizeof(uint64_t));
+    memcpy(to->links, from->links, COMMITTER_LINKS_LEN(from->places) * sizeof(uint64_t));
+    memcpy(to->certs, from->certs, COMMITTER_CERTS_LEN(from->places) * sizeof(uint64_t));
+    memcpy(to->order, from->order, COMMITTER_ORDER_LEN(from->places) * sizeof(uint64_t));
+    to->state = from->state;
+}
+
+static bool same_words(const uint64_t *a, const uint64_t *b, size_t n)
+{
+    return memcmp(a, b, n * sizeof *a) == 0;
+}
+
+/* By fields, because padding is no part of a state. */
+static bool same_entry(const committer_entry *a, const committer_entry *b)
+{
+    return a->author == b->author && a->has_previous == b->has_previous && a->owing == b->owing
+        && same_words(a->digest.words, b->digest.words, 4) && same_words(a->previous.words, b->previous.words, 4);
+}
+
+static bool same_memory(const committer_memory *a, const committer_memory *b)
+{
+    if (a->last != b->last || a->count != b->count) {
+        return false;
+    }
+    for (size_t i = 0; i < COMMITTER_MEMORY_MAX; i++) {
+        if (!same_entry(&a->entries[i], &b->entries[i])) {
+            return false;
+        }
+    }
+    return true;
+}
+
+static bool same_state(const committer_state *a, const committer_state *b)
+{
+    return a->phase == b->phase && a->count == b->count && a->genesis == b->genesis
+        && a->history_rounds == b->history_rounds && a->deduplicate_rounds == b->deduplicate_rounds
+        && a->bottom == b->bottom && a->top == b->top && a->last_proof == b->last_proof
+        && a->last_anchor == b->last_anchor && a->full_history_bottom == b->full_history_bottom
+        && a->first_executable == b->first_executable && a->gap == b->gap
+        && memcmp(a->rounds, b->rounds, sizeof a->rounds) == 0 && same_memory(&a->memory, &b->memory);
+}
+
+static bool same_board(const board *a, const board *b)
+{
+    return a->places == b->places && same_state(&a->state, &b->state)
+        && same_words(a->keys, b->keys, COMMITTER_KEYS_LEN(a->places))
+        && same_words(a->links, b->links, COMMITTER_LINKS_LEN(a->places))
+        && same_words(a->certs, b->certs, COMMITTER_CERTS_LEN(a->places))
+        && same_words(a->order, b->order, COMMITTER_ORDER_LEN(a->places));
+}
+
+/* ---- the calls, each keeping the state that it returns */
+
+typedef struct {
+    uint32_t refused, said;
+} answer;
+
+#define TABLES(b) \
+    (b)->keys, COMMITTER_KEYS_LEN((b)->places), (b)->links, COMMITTER_LINKS_LEN((b)->places), \
+        (b)->certs, COMMITTER_CERTS_LEN((b)->places), (b)->order, COMMITTER_ORDER_LEN((b)->places)
+
+static answer keep(board *b, const committer_reply *reply)
+{
+    answer a = {reply->refused, reply->said};
+    CHECK(reply->refused <= 12 && reply->said <= 1);
+    CHECK(reply->anchors == 0 && reply->conflict == 0);
+    CHECK(reply->refused == 0 || reply->said == 0);
+    b->state = reply->state;
+    return a;
+}
+
+static answer start(board *b, committer_beginning with)
+{
+    committer_reply reply = committer_start(b->state, TABLES(b), with);
+    return keep(b, &reply);
+}
+
+static answer reset(board *b)
+{
+    committer_reply reply = committer_reset(b->state, TABLES(b));
+    return keep(b, &reply);
+}
+
+static answer add_round(board *b, uint32_t round, uint32_t peers)
+{
+    committer_reply reply = committer_round(b->state, TABLES(b), round, peers);
+    return keep(b, &reply);
+}
+
+static answer ask(board *b)
+{
+    committer_reply reply = committer_gap(b->state, TABLES(b));
+    return keep(b, &reply);
+}
+
+static answer name(board *b, committer_point_id id)
+{
+    committer_reply reply = committer_name(b->state, TABLES(b), id);
+    return keep(b, &reply);
+}
+
+static answer resolve(board *b, committer_point_id id, committer_told told, const uint64_t *refs, size_t refs_len)
+{
+    committer_reply reply = committer_resolve(b->state, TABLES(b), id, told, refs, refs_len);
+    return keep(b, &reply);
+}
+
+static answer certify(board *b, committer_point_id id)
+{
+    committer_reply reply = committer_certify(b->state, TABLES(b), id);
+    return keep(b, &reply);
+}
+
+static answer drop(board *b, uint32_t round)
+{
+    committer_reply reply = committer_drop(b->state, TABLES(b), round);
+    return keep(b, &reply);
+}
+
+/* The call is refused with the number, and the board stays as it is; `spare` is a board of the same size to compare with. */
+#define REFUSED(b, spare, number, call) \
+    do { \
+        copy_board(spare, b); \
+        answer given = (call); \
+        CHECK(given.refused == (number)); \
+        CHECK(same_board(b, spare)); \
+    } while (0)
+
+#define DONE(call) CHECK((call).refused == 0)
+
+/* ---- points */
+
+/* Which word of the digest holds the author, and which the version, goes by the round, so that all four words are compared somewhere. */
+static committer_point_id version(uint32_t round, uint32_t author, uint32_t n)
+{
+    committer_point_id id = {round, author, {{(uint64_t)round << 32, 0, 0, 0}}};
+    id.digest.words[round % 4] += author;
+    id.digest.words[round / 4 % 4] += (uint64_t)n << 16;
+    return id;
+}
+
+static committer_point_id point(uint32_t round, uint32_t author)
+{
+    return version(round, author, 0);
+}
+
+static committer_told valid(size_t includes, size_t witness)
+{
+    committer_told told = {COMMITTER_VALID, 0, {0, 0, {{0, 0, 0, 0}}}, 0, includes, witness};
+    return told;
+}
+
+/* Writes a link as the five words that a resolution is lent. */
+static void put_link(uint64_t *refs, size_t i, committer_point_id to)
+{
+    refs[i * COMMITTER_REF_WORDS] = to.author;
+    memcpy(refs + i * COMMITTER_REF_WORDS + 1, to.digest.words, sizeof to.digest.words);
+}
+
+static committer_beginning beginning(uint32_t bottom)
+{
+    committer_beginning with = {10, 2, 0, bottom, ALL, 0, COMMITTER_NOBODY};
+    return with;
+}
+
+/* A started board with the rounds up to `top`. */
+static board started(size_t places, committer_beginning with, uint32_t top)
+{
+    board b = new_board(places);
+    DONE(start(&b, with));
+    for (uint32_t round = with.bottom + 1; round <= top; round++) {
+        DONE(add_round(&b, round, ALL));
+    }
+    return b;
+}
+
+/* The certificate word of position i of the order. */
+static uint64_t cert_at(const board *b, size_t i)
+{
+    return b->certs[b->order[i]];
+}
+
+static uint64_t height_at(const board *b, size_t i)
+{
+    return cert_at(b, i) & COMMITTER_CERT_HEIGHT;
+}
+
+/* ---- helpers of the header */
+
+static void check_helpers(void)
+{
+    unsigned char bytes[32], back[32];
+    for (int i = 0; i < 32; i++) {
+        bytes[i] = (unsigned char)(i * 37 + 1);
+    }
+    committer_digest digest = committer_digest_of(bytes);
+    CHECK(digest.words[0] == 0x01264b7095badf04u);
+    CHECK(digest.words[3] >> 56 == bytes[24] && (digest.words[3] & 0xff) == bytes[31]);
+    committer_digest_bytes(digest, back);
+    CHECK(memcmp(bytes, back, sizeof bytes) == 0);
+    committer_state none = committer_no_state();
+    CHECK(none.phase == 0 && none.count == 0 && none.memory.entries[127].owing == 0);
+}
+
+/* ---- refusals */
+
+static void check_start_refusals(void)
+{
+    board b = new_board(4), spare = new_board(4);
+    committer_beginning right = beginning(10), wrong[8];
+    for (int i = 0; i < 8; i++) {
+        wrong[i] = right;
+    }
+    wrong[0].history_rounds = 0;
+    wrong[1].history_rounds = COMMITTER_HISTORY_MAX + 1;
+    wrong[2].deduplicate_rounds = COMMITTER_DEDUPLICATE_MAX + 1;
+    wrong[3].genesis = wrong[3].bottom = COMMITTER_ROUND_MAX + 1;
+    wrong[4].bottom = COMMITTER_ROUND_MAX + 1;
+    wrong[5].bottom = 9;
+    wrong[6].used = 32;
+    wrong[7].used = COMMITTER_NOBODY - 1;
+    for (int i = 0; i < 8; i++) {
+        REFUSED(&b, &spare, COMMITTER_BAD_START, start(&b, wrong[i]));
+    }
+    DONE(start(&b, right));
+    for (int i = 0; i < 8; i++) {
+        REFUSED(&b, &spare, COMMITTER_BAD_START, start(&b, wrong[i]));
+    }
+    REFUSED(&b, &spare, COMMITTER_WRONG_PHASE, start(&b, right));
+    free_board(&b);
+    free_board(&spare);
+}
+
+static void check_places(void)
+{
+    const size_t wrong[] = {0, PLACES + 1};
+    for (int i = 0; i < 2; i++) {
+        board b = new_board(wrong[i]), spare = new_board(wrong[i]);
+        REFUSED(&b, &spare, COMMITTER_BAD_START, start(&b, beginning(10)));
+        REFUSED(&b, &spare, COMMITTER_WRONG_PHASE, ask(&b));
+        free_board(&b);
+        free_board(&spare);
+    }
+    /* no table at all */
+    committer_reply none = committer_start(committer_no_state(), NULL, 0, NULL, 0, NULL, 0, NULL, 0, beginning(10));
+    CHECK(none.refused == COMMITTER_BAD_START);
+    none = committer_gap(committer_no_state(), NULL, 0, NULL, 0, NULL, 0, NULL, 0);
+    CHECK(none.refused == COMMITTER_WRONG_PHASE);
+}
+
+/* Lengths of different numbers of places. */
+static void check_lengths(void)
+{
+    board b = started(4, beginning(10), 11);
+    for (int table = 0; table < 4; table++) {
+        for (int less = 1; less <= 4; less++) {
+            size_t n[4] = {COMMITTER_KEYS_LEN(4), COMMITTER_LINKS_LEN(4), COMMITTER_CERTS_LEN(4), COMMITTER_ORDER_LEN(4)};
+            n[table] -= (size_t)less;
+            committer_reply first = committer_start(b.state, b.keys, n[0], b.links, n[1], b.certs, n[2], b.order, n[3], beginning(10));
+            CHECK(first.refused == COMMITTER_BAD_START && same_state(&first.state, &b.state));
+            committer_reply second = committer_drop(b.state, b.keys, n[0], b.links, n[1], b.certs, n[2], b.order, n[3], 11);
+            CHECK(second.refused == COMMITTER_WRONG_PHASE && same_state(&second.state, &b.state));
+        }
+    }
+    DONE(drop(&b, 11));
+    free_board(&b);
+}
+
+static void check_not_started(board *b, board *spare)
+{
+    uint64_t refs[COMMITTER_REF_WORDS];
+    put_link(refs, 0, point(10, 0));
+    REFUSED(b, spare, COMMITTER_WRONG_PHASE, reset(b));
+    REFUSED(b, spare, COMMITTER_WRONG_PHASE, add_round(b, 11, ALL));
+    REFUSED(b, spare, COMMITTER_WRONG_PHASE, ask(b));
+    REFUSED(b, spare, COMMITTER_WRONG_PHASE, name(b, point(11, 0)));
+    REFUSED(b, spare, COMMITTER_WRONG_PHASE, resolve(b, point(11, 0), valid(1, 0), refs, COMMITTER_REF_WORDS));
+    REFUSED(b, spare, COMMITTER_WRONG_PHASE, certify(b, point(11, 0)));
+    REFUSED(b, spare, COMMITTER_WRONG_PHASE, drop(b, 11));
+}
+
+static void check_round_refusals(void)
+{
+    board b = started(1, beginning(COMMITTER_ROUND_MAX - 2), COMMITTER_ROUND_MAX - 2), spare = new_board(1);
+    REFUSED(&b, &spare, COMMITTER_ROUND_AHEAD, add_round(&b, COMMITTER_ROUND_MAX, ALL));
+    DONE(add_round(&b, COMMITTER_ROUND_MAX - 1, ALL));
+    DONE(add_round(&b, COMMITTER_ROUND_MAX, ALL));
+    REFUSED(&b, &spare, COMMITTER_ROUND_AHEAD, add_round(&b, COMMITTER_ROUND_MAX + 1, ALL));
+    REFUSED(&b, &spare, COMMITTER_ROUND_AHEAD, add_round(&b, UINT32_MAX, ALL));
+    copy_board(&spare, &b);
+    DONE(add_round(&b, COMMITTER_ROUND_MAX, 0));
+    DONE(add_round(&b, 0, 0));
+    CHECK(same_board(&b, &spare));
+    free_board(&b);
+    free_board(&spare);
+}
+
+typedef answer (*by_id)(board *, committer_point_id);
+
+static answer resolve_bare(board *b, committer_point_id id)
+{
+    return resolve(b, id, valid(0, 0), NULL, 0);
+}
+
+static void check_id_refusals(void)
+{
+    const by_id calls[] = {name, resolve_bare, certify};
+    committer_beginning with = beginning(20);
+    with.peers = 1u | 1u << 31;
+    board b = started(4, with, 20), spare = new_board(4);
+    DONE(add_round(&b, 21, 0));
+    for (int i = 0; i < 3; i++) {
+        by_id call = calls[i];
+        REFUSED(&b, &spare, COMMITTER_NOT_A_PEER, call(&b, point(20, 32)));
+        REFUSED(&b, &spare, COMMITTER_NOT_A_PEER, call(&b, point(19, UINT32_MAX)));
+        REFUSED(&b, &spare, COMMITTER_NOT_RETAINED, call(&b, point(19, 0)));
+        REFUSED(&b, &spare, COMMITTER_NOT_RETAINED, call(&b, point(22, 1)));
+        REFUSED(&b, &spare, COMMITTER_NOT_RETAINED, call(&b, point(20 + 512, 0)));
+        REFUSED(&b, &spare, COMMITTER_NOT_A_PEER, call(&b, point(20, 1)));
+        REFUSED(&b, &spare, COMMITTER_NOT_A_PEER, call(&b, point(21, 0)));
+    }
+    REFUSED(&b, &spare, COMMITTER_NOT_NAMED, resolve_bare(&b, point(20, 31)));
+    REFUSED(&b, &spare, COMMITTER_NOT_NAMED, certify(&b, point(20, 31)));
+    DONE(name(&b, point(20, 31)));
+    committer_point_id other = point(20, 31);
+    other.author = 0;
+    REFUSED(&b, &spare, COMMITTER_DIGEST_NAMED, name(&b, point(20, 31)));
+    REFUSED(&b, &spare, COMMITTER_DIGEST_NAMED, name(&b, other));
+    REFUSED(&b, &spare, COMMITTER_NOT_NAMED, certify(&b, other));
+    for (uint32_t n = 1; n < 4; n++) {
+        DONE(name(&b, version(20, 31, n)));
+    }
+    REFUSED(&b, &spare, COMMITTER_FIFTH_DIGEST, name(&b, version(20, 31, 4)));
+    REFUSED(&b, &spare, COMMITTER_FULL, name(&b, point(20, 0)));
+    free_board(&b);
+    free_board(&spare);
+}
+
+static void check_info_refusals(void)
+{
+    enum { KIND = 33 };
+    board b = started(4, beginning(20), 22), spare = new_board(4);
+    committer_point_id id = point(22, 0), low = point(20, 3), mid = point(21, 4);
+    uint64_t refs[2 * KIND * COMMITTER_REF_WORDS];
+    committer_told told;
+    DONE(name(&b, id));
+    DONE(name(&b, low));
+    DONE(name(&b, mid));
+    for (uint32_t i = 0; i < 2 * KIND; i++) {
+        put_link(refs, i, point(21, i));
+    }
+    const uint32_t statuses[] = {0, 6, 256, 257, UINT32_MAX};
+    for (int i = 0; i < 5; i++) {
+        told = valid(0, 0);
+        told.status = statuses[i];
+        REFUSED(&b, &spare, COMMITTER_BAD_INFO, resolve(&b, id, told, NULL, 0));
+    }
+    for (uint32_t status = 4; status <= 5; status++) {
+        told = valid(1, 0);
+        told.status = status;
+        REFUSED(&b, &spare, COMMITTER_BAD_INFO, resolve(&b, id, told, refs, 5));
+        told = valid(0, 1);
+        told.status = status;
+        REFUSED(&b, &spare, COMMITTER_BAD_INFO, resolve(&b, id, told, refs, 5));
+        told = valid(0, 0);
+        told.status = status;
+        told.evidence = 1;
+        REFUSED(&b, &spare, COMMITTER_BAD_INFO, resolve(&b, id, told, NULL, 0));
+    }
+    told = valid(0, 0);
+    told.top_proof.author = 32;
+    REFUSED(&b, &spare, COMMITTER_BAD_INFO, resolve(&b, id, told, NULL, 0));
+    REFUSED(&b, &spare, COMMITTER_BAD_INFO, resolve(&b, id, valid(33, 0), refs, 33 * 5));
+    REFUSED(&b, &spare, COMMITTER_BAD_INFO, resolve(&b, id, valid(0, 33), refs, 33 * 5));
+    /* numbers that aren't those of the words */
+    REFUSED(&b, &spare, COMMITTER_BAD_INFO, resolve(&b, id, valid(1, 0), refs, 0));
+    REFUSED(&b, &spare, COMMITTER_BAD_INFO, resolve(&b, id, valid(1, 0), refs, 6));
+    REFUSED(&b, &spare, COMMITTER_BAD_INFO, resolve(&b, id, valid(0, 0), refs, 5));
+    REFUSED(&b, &spare, COMMITTER_BAD_INFO, resolve(&b, id, valid(SIZE_MAX, 1), refs, 0));
+    REFUSED(&b, &spare, COMMITTER_BAD_INFO, resolve(&b, id, valid(SIZE_MAX / 5 + 1, 0), refs, 4));
+    /* peers that don't rise, peers above 31, in either kind */
+    const uint64_t peers[][2] = {{4, 4}, {5, 4}, {4, 32}, {32, 33}, {0, UINT64_MAX}, {UINT64_MAX, 0}, {4, (uint64_t)1 << 32}};
+    for (int i = 0; i < 7; i++) {
+        put_link(refs, 0, mid);
+        put_link(refs, 1, mid);
+        refs[0] = peers[i][0];
+        refs[5] = peers[i][1];
+        REFUSED(&b, &spare, COMMITTER_BAD_INFO, resolve(&b, id, valid(2, 0), refs, 10));
+        REFUSED(&b, &spare, COMMITTER_BAD_INFO, resolve(&b, id, valid(0, 2), refs, 10));
+    }
+    /* links to nothing */
+    put_link(refs, 0, mid);
+    put_link(refs, 1, mid);
+    REFUSED(&b, &spare, COMMITTER_LINK_NOT_NAMED, resolve(&b, id, valid(1, 1), refs, 10));
+    put_link(refs, 0, point(21, 5));
+    REFUSED(&b, &spare, COMMITTER_LINK_NOT_NAMED, resolve(&b, id, valid(1, 0), refs, 5));
+    put_link(refs, 0, mid);
+    put_link(refs, 1, low);
+    DONE(resolve(&b, id, valid(1, 1), refs, 10));
+    REFUSED(&b, &spare, COMMITTER_RESOLVED, resolve(&b, id, valid(1, 1), refs, 10));
+    REFUSED(&b, &spare, COMMITTER_RESOLVED, resolve(&b, id, valid(0, 9), refs, 10));
+    CHECK(b.links[8 + 4] == 3 && b.links[8 + 32 + 3] == 2);
+    /* the links' places were looked up; those below the bottom aren't */
+    put_link(refs, 0, point(19, 7));
+    put_link(refs, 1, point(18, 7));
+    DONE(resolve(&b, low, valid(1, 1), refs, 10));
+    free_board(&b);
+    free_board(&spare);
+}
+
+static void check_links_below_zero(void)
+{
+    committer_beginning with = beginning(0);
+    with.genesis = 0;
+    board b = started(3, with, 2), spare = new_board(3);
+    uint64_t refs[5];
+    for (uint32_t round = 0; round <= 2; round++) {
+        DONE(name(&b, point(round, 0)));
+    }
+    put_link(refs, 0, point(0, 0));
+    REFUSED(&b, &spare, COMMITTER_BAD_INFO, resolve(&b, point(0, 0), valid(1, 0), refs, 5));
+    REFUSED(&b, &spare, COMMITTER_BAD_INFO, resolve(&b, point(0, 0), valid(0, 1), refs, 5));
+    REFUSED(&b, &spare, COMMITTER_BAD_INFO, resolve(&b, point(1, 0), valid(0, 1), refs, 5));
+    DONE(resolve(&b, point(1, 0), valid(1, 0), refs, 5));
+    DONE(resolve(&b, point(2, 0), valid(0, 1), refs, 5));
+    free_board(&b);
+    free_board(&spare);
+}
+
+/* ---- full-size tables */
+
+/* Eight of the 32 peers have points in a round, the next eight in the next. */
+static committer_point_id eighth(uint32_t round, uint32_t k)
+{
+    return point(round, round % 4 * 8 + k);
+}
+
+/* The points of a round, each with the eight of the round below and of two below, as far as they are there. */
+static void fill_round(board *b, uint32_t round, uint32_t lowest)
+{
+    uint64_t refs[16 * COMMITTER_REF_WORDS];
+    size_t includes = round >= lowest + 1 ? 8 : 0, witness = round >= lowest + 2 ? 8 : 0;
+    for (uint32_t i = 0; i < includes; i++) {
+        put_link(refs, i, eighth(round - 1, i));
+    }
+    for (uint32_t i = 0; i < witness; i++) {
+        put_link(refs, 8 + i, eighth(round - 2, i));
+    }
+    for (uint32_t k = 0; k < 8; k++) {
+        DONE(name(b, eighth(round, k)));
+        DONE(resolve(b, eighth(round, k), valid(includes, witness), refs, (includes + witness) * COMMITTER_REF_WORDS));
+    }
+}
+
+/* The heights under one top, the k-th point of a round, with H 255. */
+static void check_heights(const board *b, uint32_t top, uint32_t k)
+{
+    for (size_t i = 0; i < b->state.count; i++) {
+        uint32_t round = (uint32_t)b->keys[b->order[i] * COMMITTER_KEY_WORDS];
+        uint32_t author = (uint32_t)b->keys[b->order[i] * COMMITTER_KEY_WORDS + 1];
+        bool is_top = round == top && author == eighth(top, k).author;
+        uint32_t height = round < top || is_top ? 256 - (top - round) : 0;
+        if (round < top && top - round > 255) {
+            height = 0;
+        }
+        CHECK(height_at(b, i) == height);
+        CHECK((cert_at(b, i) & COMMITTER_CERT_TOP) == (is_top ? COMMITTER_CERT_TOP : 0));
+    }
+}
+
+static void check_full_size(void)
+{
+    committer_beginning with = {BOTTOM, 255, 65535, BOTTOM, ALL, 1, 31};
+    board b = new_board(PLACES), spare = new_board(PLACES);
+    check_not_started(&b, &spare);
+    free_board(&b);
+    b = started(PLACES, with, TOP);
+    CHECK(b.state.full_history_bottom == BOTTOM && b.state.first_executable == BOTTOM + 65535);
+    CHECK(b.state.rounds[BOTTOM % 512].used == 32);
+    REFUSED(&b, &spare, COMMITTER_FULL, add_round(&b, TOP + 1, ALL));
+    REFUSED(&b, &spare, COMMITTER_ROUND_AHEAD, add_round(&b, TOP + 2, ALL));
+    for (uint32_t round = BOTTOM; round <= TOP; round++) {
+        fill_round(&b, round, BOTTOM);
+    }
+    CHECK(b.state.count == PLACES);
+    REFUSED(&b, &spare, COMMITTER_FULL, name(&b, version(TOP, 0, 9)));
+    REFUSED(&b, &spare, COMMITTER_FULL, add_round(&b, TOP + 1, ALL));
+    REFUSED(&b, &spare, COMMITTER_WRONG_PHASE, start(&b, with));
+    DONE(certify(&b, eighth(TOP, 3)));
+    check_heights(&b, TOP, 3);
+    copy_board(&spare, &b);
+    DONE(certify(&b, eighth(TOP, 3)));
+    CHECK(same_board(&b, &spare));
+
+    CHECK(ask(&b).said == 1);
+    CHECK(ask(&b).said == 0);
+
+    /* all but 16 rounds go; other points come into the places that they leave */
+    answer dropped = drop(&b, TOP - 15);
+    CHECK(dropped.refused == 0 && dropped.said == 1);
+    CHECK(b.state.count == 16 * 8 && b.state.bottom == TOP - 15 && b.state.full_history_bottom == TOP - 15 + 255);
+    check_heights(&b, TOP, 3);
+    for (uint32_t round = TOP + 1; round <= TOP + 496; round++) {
+        DONE(add_round(&b, round, ALL));
+        fill_round(&b, round, BOTTOM);
+    }
+    CHECK(b.state.count == PLACES);
+    check_heights(&b, TOP, 3);
+    CHECK(drop(&b, UINT32_MAX).said == 0);
+    CHECK(b.state.count == 8 && b.state.bottom == TOP + 496);
+
+    DONE(reset(&b));
+    check_not_started(&b, &spare);
+    CHECK(b.state.phase == 2);
+    DONE(start(&b, beginning(10)));
+    CHECK(b.state.count == 0 && b.state.top == 10);
+    free_board(&b);
+    free_board(&spare);
+}
+
+/* A start after a reset keeps the inspector's memory and clears the tables; any other start clears both. */
+static void check_memory(void)
+{
+    board b = started(3, beginning(10), 11), fresh = started(3, beginning(10), 10);
+    for (int kept = 1; kept >= 0; kept--) {
+        b.state.memory.last = 9;
+        b.state.memory.count = 2;
+        b.state.memory.entries[127].owing = 77;
+        DONE(reset(&b));
+        committer_memory memory = b.state.memory;
+        CHECK(memory.count == 2 && memory.entries[127].owing == 77);
+        memset(b.keys, 0xa5, COMMITTER_KEYS_LEN(3) * sizeof(uint64_t));
+        memset(b.links, 0xa5, COMMITTER_LINKS_LEN(3) * sizeof(uint64_t));
+        memset(b.certs, 0xa5, COMMITTER_CERTS_LEN(3) * sizeof(uint64_t));
+        memset(b.order, 0xa5, COMMITTER_ORDER_LEN(3) * sizeof(uint64_t));
+        b.state.phase = kept ? 2 : 0;
+        DONE(start(&b, beginning(10)));
+        CHECK(same_memory(&b.state.memory, kept ? &memory : &fresh.state.memory));
+        b.state.memory = fresh.state.memory;
+        CHECK(same_board(&b, &fresh));
+    }
+    free_board(&b);
+    free_board(&fresh);
+}
+
+/* K4, K5 and K9 of document 01. */
+static void check_cases(void)
+{
+    committer_beginning with = beginning(16);
+    with.history_rounds = 3;
+    board b = started(8, with, 20);
+    uint64_t refs[5];
+    DONE(name(&b, point(20, 0)));
+    DONE(certify(&b, point(20, 0)));
+    for (uint32_t round = 16; round <= 20; round++) {
+        put_link(refs, 0, point(round - 1, 0));
+        if (round < 20) {
+            DONE(name(&b, point(round, 0)));
+        }
+        DONE(resolve(&b, point(round, 0), valid(round > 16, 0), refs, round > 16 ? 5 : 0));
+    }
+    for (uint32_t i = 0; i < 5; i++) {
+        CHECK(height_at(&b, i) == i);
+    }
+    DONE(certify(&b, point(18, 0)));
+    CHECK(height_at(&b, 1) == 3);
+    free_board(&b);
+
+    b = started(1, beginning(20), 30);
+    answer dropped = drop(&b, 40);
+    CHECK(dropped.refused == 0 && dropped.said == 0 && b.state.bottom == 30);
+    free_board(&b);
+}
+
+/* ---- noise */
+
+static uint64_t next_word(uint64_t *seed)
+{
+    *seed ^= *seed << 13;
+    *seed ^= *seed >> 7;
+    *seed ^= *seed << 17;
+    return *seed;
+}
+
+static void fill(uint64_t *table, size_t n, uint64_t *seed)
+{
+    for (size_t i = 0; i < n; i++) {
+        table[i] = next_word(seed);
+    }
+}
+
+/* Any bytes are a state. */
+static void fill_state(committer_state *state, uint64_t *seed)
+{
+    unsigned char *bytes = (unsigned char *)state;
+    for (size_t i = 0; i < sizeof *state; i++) {
+        bytes[i] = (unsigned char)(next_word(seed) >> 24);
+    }
+}
+
+/* Numbers in their ranges, so that the tests of the tables are reached. */
+static void make_plausible(committer_state *state, size_t places, uint64_t *seed)
+{
+    state->phase = 1;
+    state->count = 1 + next_word(seed) % places;
+    state->genesis = 10;
+    state->history_rounds = 1 + (uint32_t)(next_word(seed) % 255);
+    state->deduplicate_rounds = (uint32_t)(next_word(seed) % 65536);
+    state->bottom = 10 + (uint32_t)(next_word(seed) % 20);
+    state->top = state->bottom + (uint32_t)(next_word(seed) % 512);
+    for (size_t i = 0; i < 512; i++) {
+        state->rounds[i].used = (uint32_t)(next_word(seed) % 33);
+    }
+    state->memory.count = next_word(seed) % 129;
+}
+
+static void check_noise(size_t places, int times)
+{
+    uint64_t seed = 0x9e3779b97f4a7c15u + places;
+    board b = new_board(places), spare = new_board(places), zeroed = new_board(places);
+    for (int i = 0; i < times; i++) {
+        fill(b.keys, COMMITTER_KEYS_LEN(places), &seed);
+        fill(b.links, COMMITTER_LINKS_LEN(places), &seed);
+        fill(b.certs, COMMITTER_CERTS_LEN(places), &seed);
+        fill(b.order, COMMITTER_ORDER_LEN(places), &seed);
+        fill_state(&b.state, &seed);
+        if (i % 2 == 1) {
+            make_plausible(&b.state, places, &seed);
+        }
+        for (size_t k = 0; i % 4 == 3 && k < places; k++) {
+            b.order[k] %= places;
+        }
+        check_not_started(&b, &spare);
+        committer_beginning wrong = beginning(10);
+        wrong.history_rounds = 0;
+        REFUSED(&b, &spare, COMMITTER_BAD_START, start(&b, wrong));
+        /* a start leaves what it leaves on zeros */
+        DONE(start(&b, beginning(10)));
+        zeroed.state = committer_no_state();
+        DONE(start(&zeroed, beginning(10)));
+        CHECK(same_board(&b, &zeroed));
+        DONE(reset(&zeroed));
+    }
+    free_board(&b);
+    free_board(&spare);
+    free_board(&zeroed);
+}
+
+int main(void)
+{
+    check_helpers();
+    check_start_refusals();
+    check_places();
+    check_lengths();
+    check_round_refusals();
+    check_id_refusals();
+    check_info_refusals();
+    check_links_below_zero();
+    check_cases();
+    check_memory();
+    for (size_t places = 1; places <= 9; places++) {
+        check_noise(places, 500);
+    }
+    check_noise(PLACES, 8);
+    check_full_size();
+    printf("ok %lu checks\n", checks);
+    return 0;
+}

@@ -1,0 +1,274 @@
+//! The proved committer for hosts written in Rust, over the static library that `rt staticlib capi` writes.
+//!
+//! [`Committer`] owns the tables and the state. Every call on every input has an answer: a call that can't be done is
+//! refused with a number ([`Refusal`]) and changes nothing.
+
+pub mod record;
+mod refusal;
+mod state;
+pub mod sys;
+mod types;
+
+pub use record::Call;
+pub use refusal::{Refusal, Refused};
+pub use state::STATE_BYTES;
+pub use sys::State;
+pub use types::{Link, Point, PointId, PointInfo, RetainedRound, Start, Status, Summary, digest_bytes, digest_words};
+
+use std::fmt;
+
+pub const PLACES_MAX: usize = 4096;
+pub const ROUNDS_MAX: usize = 512;
+pub const PEERS_MAX: u32 = 32;
+/// Digests of one author in one round.
+pub const VERSIONS_MAX: usize = 4;
+/// Includes of a point, and witness.
+pub const LINKS_MAX: usize = 32;
+pub const ROUND_MAX: u32 = 4_000_000_000;
+
+/// Words of a place in each table.
+pub const KEY_WORDS: usize = 8;
+pub const LINK_WORDS: usize = 328;
+
+/// The tables. `include/committer.h` tells what their words are.
+#[derive(Clone, Debug, PartialEq, Eq)]
+pub struct Tables {
+    pub keys: Vec<u64>,
+    pub links: Vec<u64>,
+    pub certs: Vec<u64>,
+    pub order: Vec<u64>,
+}
+
+impl Tables {
+    /// Zeroed tables for that many places.
+    pub fn new(places: usize) -> Tables {
+        Tables {
+            keys: vec![0; places * KEY_WORDS],
+            links: vec![0; places * LINK_WORDS],
+            certs: vec![0; places],
+            order: vec![0; places],
+        }
+    }
+}
+
+/// A committer: tables and state.
+#[derive(Clone, Debug, PartialEq, Eq)]
+pub struct Committer {
+    tables: Tables,
+    // boxed, because it has 15 KB
+    state: Box<State>,
+}
+
+/// What [`Committer::call`] answers.
+#[derive(Clone, Copy, Debug, PartialEq, Eq)]
+pub enum Answer {
+    Done,
+    /// of the gap question and of a drop
+    Said(bool),
+    Refused(Refused),
+    /// the library doesn't have this call yet
+    Unsupported,
+}
+
+impl fmt::Display for Answer {
+    fn fmt(&self, f: &mut fmt::Formatter<'_>) -> fmt::Result {
+        match self {
+            Answer::Done => write!(f, "done"),
+            Answer::Said(true) => write!(f, "yes"),
+            Answer::Said(false) => write!(f, "no"),
+            Answer::Refused(why) => why.fmt(f),
+            Answer::Unsupported => write!(f, "unsupported"),
+        }
+    }
+}
+
+/// One C function called with the state, the tables and what else it takes; the state that it returns is kept.
+macro_rules! run {
+    ($committer:expr, $function:ident $(, $more:expr)*) => {{
+        let tables = &mut $committer.tables;
+        // Safety: pointers and lengths are those of vectors, which don't overlap.
+        let reply = unsafe {
+            sys::$function(
+                *$committer.state,
+                tables.keys.as_mut_ptr(),
+                tables.keys.len(),
+                tables.links.as_mut_ptr(),
+                tables.links.len(),
+                tables.certs.as_mut_ptr(),
+                tables.certs.len(),
+                tables.order.as_mut_ptr(),
+                tables.order.len(),
+                $($more),*
+            )
+        };
+        $committer.keep(&reply)
+    }};
+}
+
+impl Committer {
+    /// Zeroed tables for that many places. Any number will do here; a start refuses 0 and more than 4,096.
+    pub fn new(places: usize) -> Committer {
+        Committer::from_parts(Tables::new(places), Box::default())
+    }
+
+    /// Tables and state of the host's own making. They may hold anything and have any lengths.
+    pub fn from_parts(tables: Tables, state: Box<State>) -> Committer {
+        Committer { tables, state }
+    }
+
+    pub fn parts(&self) -> (&Tables, &State) {
+        (&self.tables, &self.state)
+    }
+
+    /// To write whatever one likes: what no call left counts as not started.
+    pub fn parts_mut(&mut self) -> (&mut Tables, &mut State) {
+        (&mut self.tables, &mut self.state)
+    }
+
+    pub fn into_parts(self) -> (Tables, Box<State>) {
+        (self.tables, self.state)
+    }
+
+    /// Starts on what doesn't count as started: the tables are cleared, the bottom is retained. Refused with 1, 2.
+    pub fn start(&mut self, with: &Start) -> Result<(), Refused> {
+        run!(self, committer_start, with.into()).map(drop)
+    }
+
+    /// Clears all but the inspector's memory. Refused with 2.
+    pub fn reset(&mut self) -> Result<(), Refused> {
+        run!(self, committer_reset).map(drop)
+    }
+
+    /// Adds the round above the top; one at or below the top does nothing. Refused with 2, 3, 4.
+    pub fn round(&mut self, round: u32, peers: u32) -> Result<(), Refused> {
+        run!(self, committer_round, round, peers).map(drop)
+    }
+
+    /// Yes if the gap question is waited for, and then it is put. Refused with 2.
+    pub fn gap_question(&mut self) -> Result<bool, Refused> {
+        run!(self, committer_gap)
+    }
+
+    /// Names a point. Refused with 2, 5, 6, 5, 7, 8, 4.
+    pub fn name(&mut self, id: &PointId) -> Result<(), Refused> {
+        run!(self, committer_name, id.into()).map(drop)
+    }
+
+    /// Resolves a named point, once. Refused with 2, 5, 6, 5, 9, 10, 11, 12.
+    pub fn resolve(&mut self, id: &PointId, info: &PointInfo) -> Result<(), Refused> {
+        let refs = info.refs();
+        run!(self, committer_resolve, id.into(), info.into(), refs.as_ptr(), refs.len()).map(drop)
+    }
+
+    /// Certifies a named point, also before it is resolved. Refused with 2, 5, 6, 5, 9.
+    pub fn certify(&mut self, id: &PointId) -> Result<(), Refused> {
+        run!(self, committer_certify, id.into()).map(drop)
+    }
+
+    /// Drops the rounds below, but for the top. Yes if the round isn't above the top. Refused with 2.
+    pub fn drop_upto(&mut self, round: u32) -> Result<bool, Refused> {
+        run!(self, committer_drop, round)
+    }
+
+    /// Runs a recorded call.
+    pub fn call(&mut self, call: &Call) -> Answer {
+        match call {
+            Call::Start(with) => done(self.start(with)),
+            Call::Round { round, peers } => done(self.round(*round, *peers)),
+            Call::Name(id) => done(self.name(id)),
+            Call::Resolve(id, info) => done(self.resolve(id, info)),
+            Call::Certify(id) => done(self.certify(id)),
+            Call::Drop(round) => said(self.drop_upto(*round)),
+            Call::Gap => said(self.gap_question()),
+            Call::Reset => done(self.reset()),
+            Call::Commit(_) | Call::Remove { .. } | Call::Outlook(_) => Answer::Unsupported,
+        }
+    }
+
+    /// Whether state and tables count as started.
+    pub fn is_started(&self) -> bool {
+        let tables = &self.tables;
+        // The gap question is refused exactly where nothing is started. What it answers is let go, so it isn't put.
+        // Safety: pointers and lengths are those of vectors, which don't overlap; the function only reads.
+        let reply = unsafe {
+            sys::committer_gap(
+                *self.state,
+                tables.keys.as_ptr(),
+                tables.keys.len(),
+                tables.links.as_ptr(),
+                tables.links.len(),
+                tables.certs.as_ptr(),
+                tables.certs.len(),
+                tables.order.as_ptr(),
+                tables.order.len(),
+            )
+        };
+        reply.refused == 0
+    }
+
+    /// The points by rising round, then by rising digest; none if not started.
+    pub fn points(&self) -> Vec<Point> {
+        if !self.is_started() {
+            return Vec::new();
+        }
+        self.tables.order[..self.state.count].iter().map(|place| self.point_at(*place as usize)).collect()
+    }
+
+    /// None if not started.
+    pub fn summary(&self) -> Option<Summary> {
+        let s = &self.state;
+        self.is_started().then(|| Summary {
+            genesis: s.genesis,
+            history_rounds: s.history_rounds,
+            deduplicate_rounds: s.deduplicate_rounds,
+            bottom: s.bottom,
+            top: s.top,
+            last_proof: s.last_proof.checked_sub(1),
+            last_anchor: s.last_anchor.checked_sub(1),
+            full_history_bottom: s.full_history_bottom,
+            first_executable: s.first_executable,
+            emit_first_after_gap: (s.gap != 0).then_some(s.gap != 1),
+            rounds: (s.bottom..=s.top).map(|round| self.retained(round)).collect(),
+        })
+    }
+
+    fn retained(&self, round: u32) -> RetainedRound {
+        let record = &self.state.rounds[round as usize % ROUNDS_MAX];
+        RetainedRound { round, peers: record.peers, used: record.used.checked_sub(1) }
+    }
+
+    /// The point at a used place of started tables: its words are in their ranges.
+    fn point_at(&self, place: usize) -> Point {
+        let key = &self.tables.keys[place * KEY_WORDS..][..KEY_WORDS];
+        Point {
+            id: PointId {
+                round: key[0] as u32,
+                author: key[1] as u32,
+                digest: digest_bytes(&[key[2], key[3], key[4], key[5]]),
+            },
+            status: Status::of(key[6] as u32),
+            proof: key[7] & 1 != 0,
+            trigger: key[7] & 2 != 0,
+            cause: key[7] & 4 != 0,
+            cert: self.tables.certs[place] as u16,
+        }
+    }
+
+    /// Keeps the state that a call returned; what it said, or why it was refused.
+    fn keep(&mut self, reply: &sys::Reply) -> Result<bool, Refused> {
+        *self.state = reply.state;
+        if reply.refused == 0 {
+            return Ok(reply.said == 1);
+        }
+        let refusal = Refusal::of(reply.refused, reply.conflict).expect("the library refuses with 1 to 23");
+        Err(Refused { refusal, finished: reply.anchors })
+    }
+}
+
+fn done(answer: Result<(), Refused>) -> Answer {
+    answer.map_or_else(Answer::Refused, |()| Answer::Done)
+}
+
+fn said(answer: Result<bool, Refused>) -> Answer {
+    answer.map_or_else(Answer::Refused, Answer::Said)
+}

@@ -1,0 +1,156 @@
+//! Why a call is refused.
+
+use std::fmt;
+
+/// One case for each number of document 01's table. 13 to 23 are of calls that the library doesn't have yet.
+#[derive(Clone, Copy, Debug, PartialEq, Eq, Hash)]
+pub enum Refusal {
+    BadStart,
+    WrongPhase,
+    RoundAhead,
+    Full,
+    NotAPeer,
+    NotRetained,
+    DigestNamed,
+    FifthDigest,
+    NotNamed,
+    Resolved,
+    BadInfo,
+    LinkNotNamed,
+    Conflict { round: u32 },
+    PointMissing,
+    Unusable,
+    BrokenChain,
+    RoundsMissing,
+    NotCertified,
+    ChainEndsEarly,
+    GapQuestion,
+    NoRoom,
+    AtGenesis,
+    RemoveAhead,
+}
+
+impl Refusal {
+    /// The refusal of a number, if it is one's. `round` is that of a conflict.
+    pub fn of(number: u32, round: u32) -> Option<Refusal> {
+        Some(match number {
+            1 => Refusal::BadStart,
+            2 => Refusal::WrongPhase,
+            3 => Refusal::RoundAhead,
+            4 => Refusal::Full,
+            5 => Refusal::NotAPeer,
+            6 => Refusal::NotRetained,
+            7 => Refusal::DigestNamed,
+            8 => Refusal::FifthDigest,
+            9 => Refusal::NotNamed,
+            10 => Refusal::Resolved,
+            11 => Refusal::BadInfo,
+            12 => Refusal::LinkNotNamed,
+            13 => Refusal::Conflict { round },
+            14 => Refusal::PointMissing,
+            15 => Refusal::Unusable,
+            16 => Refusal::BrokenChain,
+            17 => Refusal::RoundsMissing,
+            18 => Refusal::NotCertified,
+            19 => Refusal::ChainEndsEarly,
+            20 => Refusal::GapQuestion,
+            21 => Refusal::NoRoom,
+            22 => Refusal::AtGenesis,
+            23 => Refusal::RemoveAhead,
+            _ => return None,
+        })
+    }
+
+    /// Document 01's number.
+    pub fn number(self) -> u32 {
+        match self {
+            Refusal::BadStart => 1,
+            Refusal::WrongPhase => 2,
+            Refusal::RoundAhead => 3,
+            Refusal::Full => 4,
+            Refusal::NotAPeer => 5,
+            Refusal::NotRetained => 6,
+            Refusal::DigestNamed => 7,
+            Refusal::FifthDigest => 8,
+            Refusal::NotNamed => 9,
+            Refusal::Resolved => 10,
+            Refusal::BadInfo => 11,
+            Refusal::LinkNotNamed => 12,
+            Refusal::Conflict { .. } => 13,
+            Refusal::PointMissing => 14,
+            Refusal::Unusable => 15,
+            Refusal::BrokenChain => 16,
+            Refusal::RoundsMissing => 17,
+            Refusal::NotCertified => 18,
+            Refusal::ChainEndsEarly => 19,
+            Refusal::GapQuestion => 20,
+            Refusal::NoRoom => 21,
+            Refusal::AtGenesis => 22,
+            Refusal::RemoveAhead => 23,
+        }
+    }
+
+    fn text(self) -> &'static str {
+        match self {
+            Refusal::BadStart => "what the start takes, or the tables' lengths, out of range",
+            Refusal::WrongPhase => "not started, or started twice",
+            Refusal::RoundAhead => "round beyond top + 1, or above 4,000,000,000",
+            Refusal::Full => "512 rounds, or table full",
+            Refusal::NotAPeer => "author not a peer of its round",
+            Refusal::NotRetained => "round not retained",
+            Refusal::DigestNamed => "digest named in this round",
+            Refusal::FifthDigest => "fifth digest of its author and round",
+            Refusal::NotNamed => "id not named, or trigger unresolved",
+            Refusal::Resolved => "resolved already",
+            Refusal::BadInfo => "what the resolution gives has a wrong form",
+            Refusal::LinkNotNamed => "link into a retained round, not named",
+            Refusal::Conflict { .. } => "history conflict",
+            Refusal::PointMissing => "point needed, not named or unresolved",
+            Refusal::Unusable => "status neither usable nor certified",
+            Refusal::BrokenChain => "no previous point, or the sought proof isn't where and what it must be",
+            Refusal::RoundsMissing => "limit at or above the full-history bottom, rounds missing",
+            Refusal::NotCertified => "history point of height 0",
+            Refusal::ChainEndsEarly => "oldest link above the walk's lowest round",
+            Refusal::GapQuestion => "gap question not put",
+            Refusal::NoRoom => "answer larger than the buffer left",
+            Refusal::AtGenesis => "anchor at genesis",
+            Refusal::RemoveAhead => "remove above the last anchor handed out since the start, or none",
+        }
+    }
+}
+
+impl fmt::Display for Refusal {
+    fn fmt(&self, f: &mut fmt::Formatter<'_>) -> fmt::Result {
+        write!(f, "{} ({})", self.text(), self.number())?;
+        match self {
+            Refusal::Conflict { round } => write!(f, " at round {round}"),
+            _ => Ok(()),
+        }
+    }
+}
+
+/// A refused call. It changed nothing, but for the anchors that a commit finished before.
+#[derive(Clone, Copy, Debug, PartialEq, Eq, Hash)]
+pub struct Refused {
+    pub refusal: Refusal,
+    /// anchors finished before the refusal; 0 in every call but commit
+    pub finished: u32,
+}
+
+impl Refused {
+    pub fn number(&self) -> u32 {
+        self.refusal.number()
+    }
+}
+
+impl fmt::Display for Refused {
+    fn fmt(&self, f: &mut fmt::Formatter<'_>) -> fmt::Result {
+        write!(f, "refused: {}", self.refusal)?;
+        match self.finished {
+            0 => Ok(()),
+            n => write!(f, ", after {n} anchors"),
+        }
+    }
+}
+
+impl std::error::Error for Refused {}

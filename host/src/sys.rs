@@ -1,0 +1,234 @@
+//! The C functions of the proved library and the structs that cross to them: `include/committer.h` in Rust. That file
+//! says what each function asks, answers and refuses.
+
+use std::mem::{offset_of, size_of};
+
+/// A digest as four words, the most significant first.
+pub type Digest = [u64; 4];
+
+#[repr(C)]
+#[derive(Clone, Copy, Debug, PartialEq, Eq)]
+pub struct PointId {
+    pub round: u32,
+    pub author: u32,
+    pub digest: Digest,
+}
+
+/// A retained round: its peers, and the author of its used mark plus 1, or 0 for none.
+#[repr(C)]
+#[derive(Clone, Copy, Debug, PartialEq, Eq)]
+pub struct RoundRecord {
+    pub peers: u32,
+    pub used: u32,
+}
+
+/// A trusted point of the inspector's last round.
+#[repr(C)]
+#[derive(Clone, Copy, Debug, PartialEq, Eq)]
+pub struct Entry {
+    pub author: u32,
+    pub digest: Digest,
+    pub has_previous: u32,
+    pub previous: Digest,
+    pub owing: u32,
+}
+
+#[repr(C)]
+#[derive(Clone, Copy, Debug, PartialEq, Eq)]
+pub struct Memory {
+    pub last: u32,
+    pub count: usize,
+    pub entries: [Entry; 128],
+}
+
+/// What the host keeps between the calls. All fields are numbers, so any bytes are a state.
+#[repr(C)]
+#[derive(Clone, Copy, Debug, PartialEq, Eq)]
+pub struct State {
+    /// 1 started, 2 reset, other numbers neither
+    pub phase: u32,
+    /// used places
+    pub count: usize,
+    pub genesis: u32,
+    pub history_rounds: u32,
+    pub deduplicate_rounds: u32,
+    /// rounds from bottom to top are retained
+    pub bottom: u32,
+    pub top: u32,
+    /// the round plus 1, or 0 for none
+    pub last_proof: u32,
+    /// the round plus 1, or 0 for none
+    pub last_anchor: u32,
+    pub full_history_bottom: u32,
+    pub first_executable: u32,
+    /// 0 disarmed, 1 before the gap question, else after it
+    pub gap: u32,
+    /// round r in record r % 512
+    pub rounds: [RoundRecord; 512],
+    pub memory: Memory,
+}
+
+#[repr(C)]
+#[derive(Clone, Copy, Debug, PartialEq, Eq)]
+pub struct Reply {
+    /// 0 for none
+    pub refused: u32,
+    /// 1 for yes
+    pub said: u32,
+    /// handed out, or finished before a refusal
+    pub anchors: u32,
+    /// the round of a history conflict, else 0
+    pub conflict: u32,
+    pub state: State,
+}
+
+#[repr(C)]
+#[derive(Clone, Copy, Debug, PartialEq, Eq)]
+pub struct Start {
+    pub genesis: u32,
+    pub history_rounds: u32,
+    pub deduplicate_rounds: u32,
+    pub bottom: u32,
+    pub peers: u32,
+    /// 0 for no
+    pub after_gap: u32,
+    /// `NOBODY` for none
+    pub used: u32,
+}
+
+/// `used` of a start whose bottom has no used mark.
+pub const NOBODY: u32 = u32::MAX;
+
+#[repr(C)]
+#[derive(Clone, Copy, Debug, PartialEq, Eq)]
+pub struct Told {
+    pub status: u32,
+    /// bit 0 proof, 1 trigger, 2 cause
+    pub marks: u32,
+    pub top_proof: PointId,
+    pub evidence: u32,
+    pub includes: usize,
+    pub witness: usize,
+}
+
+// the layout that the library was built with
+const _: () = assert!(size_of::<usize>() == 8);
+const _: () = assert!(size_of::<PointId>() == 40);
+const _: () = assert!(size_of::<Entry>() == 88);
+const _: () = assert!(size_of::<Memory>() == 11280);
+const _: () = assert!(offset_of!(State, rounds) == 56);
+const _: () = assert!(offset_of!(State, memory) == 4152);
+const _: () = assert!(size_of::<State>() == 15432);
+const _: () = assert!(offset_of!(Reply, state) == 16);
+const _: () = assert!(size_of::<Reply>() == 15448);
+const _: () = assert!(size_of::<Start>() == 28);
+const _: () = assert!(size_of::<Told>() == 72);
+
+// Safety, of all of them: each pointer is to as many words as its length says, and no two tables overlap.
+unsafe extern "C" {
+    pub fn committer_start(
+        state: State,
+        keys: *mut u64,
+        keys_len: usize,
+        links: *mut u64,
+        links_len: usize,
+        certs: *mut u64,
+        certs_len: usize,
+        order: *mut u64,
+        order_len: usize,
+        with: Start,
+    ) -> Reply;
+
+    pub fn committer_reset(
+        state: State,
+        keys: *mut u64,
+        keys_len: usize,
+        links: *mut u64,
+        links_len: usize,
+        certs: *mut u64,
+        certs_len: usize,
+        order: *mut u64,
+        order_len: usize,
+    ) -> Reply;
+
+    pub fn committer_round(
+        state: State,
+        keys: *const u64,
+        keys_len: usize,
+        links: *const u64,
+        links_len: usize,
+        certs: *const u64,
+        certs_len: usize,
+        order: *const u64,
+        order_len: usize,
+        round: u32,
+        peers: u32,
+    ) -> Reply;
+
+    pub fn committer_gap(
+        state: State,
+        keys: *const u64,
+        keys_len: usize,
+        links: *const u64,
+        links_len: usize,
+        certs: *const u64,
+        certs_len: usize,
+        order: *const u64,
+        order_len: usize,
+    ) -> Reply;
+
+    pub fn committer_name(
+        state: State,
+        keys: *mut u64,
+        keys_len: usize,
+        links: *const u64,
+        links_len: usize,
+        certs: *mut u64,
+        certs_len: usize,
+        order: *mut u64,
+        order_len: usize,
+        id: PointId,
+    ) -> Reply;
+
+    pub fn committer_resolve(
+        state: State,
+        keys: *mut u64,
+        keys_len: usize,
+        links: *mut u64,
+        links_len: usize,
+        certs: *mut u64,
+        certs_len: usize,
+        order: *const u64,
+        order_len: usize,
+        id: PointId,
+        told: Told,
+        refs: *const u64,
+        refs_len: usize,
+    ) -> Reply;
+
+    pub fn committer_certify(
+        state: State,
+        keys: *const u64,
+        keys_len: usize,
+        links: *const u64,
+        links_len: usize,
+        certs: *mut u64,
+        certs_len: usize,
+        order: *const u64,
+        order_len: usize,
+        id: PointId,
+    ) -> Reply;
+
+    pub fn committer_drop(
+        state: State,
+        keys: *mut u64,
+        keys_len: usize,
+        links: *mut u64,
+        links_len: usize,
+        certs: *mut u64,
+        certs_len: usize,
+        order: *mut u64,
+        order_len: usize,
+        round: u32,
+    ) -> Reply;
+}

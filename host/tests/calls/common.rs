@@ -1,0 +1,112 @@
+//! Points and committers that the tests share.
+
+use committer::{Committer, Link, PointId, PointInfo, Refused, Start, Status};
+
+/// Genesis 10, H 2, bottom 10, all 32 peers.
+pub fn beginning() -> Start {
+    Start { genesis: 10, history_rounds: 2, bottom: 10, peers: u32::MAX, ..Start::default() }
+}
+
+/// A started committer with the rounds up to `top`, all 32 peers in each.
+pub fn started(places: usize, with: &Start, top: u32) -> Committer {
+    let mut committer = Committer::new(places);
+    committer.start(with).expect("a start of zeroed tables");
+    for round in with.bottom + 1..=top {
+        committer.round(round, u32::MAX).expect("the round above the top");
+    }
+    committer
+}
+
+/// The id of an author's version in a round. Which word of the digest holds the author, and which the version, goes by
+/// the round, so that all four words are compared somewhere.
+pub fn version(round: u32, author: u32, version: u32) -> PointId {
+    let mut digest = [0; 32];
+    digest[1..5].copy_from_slice(&round.to_be_bytes());
+    digest[round as usize % 4 * 8] = author as u8;
+    digest[round as usize / 4 % 4 * 8 + 7] = version as u8;
+    PointId { round, author, digest }
+}
+
+pub fn point(round: u32, author: u32) -> PointId {
+    version(round, author, 0)
+}
+
+pub fn link(to: &PointId) -> Link {
+    Link { peer: to.author, digest: to.digest }
+}
+
+/// A valid point's resolution.
+pub fn valid(includes: &[PointId], witness: &[PointId]) -> PointInfo {
+    PointInfo {
+        status: Status::Valid.number(),
+        includes: includes.iter().map(link).collect(),
+        witness: witness.iter().map(link).collect(),
+        ..PointInfo::default()
+    }
+}
+
+/// Names a point and resolves it as valid.
+pub fn add(committer: &mut Committer, id: &PointId, includes: &[PointId], witness: &[PointId]) {
+    committer.name(id).expect("a new point");
+    committer.resolve(id, &valid(includes, witness)).expect("a named point");
+}
+
+/// The height of a point of the tables.
+pub fn height(committer: &Committer, id: &PointId) -> u16 {
+    let points = committer.points();
+    points.iter().find(|point| point.id == *id).expect("a named point").height()
+}
+
+/// The call is refused with the number and leaves state and tables as they were.
+pub fn refuses<T: std::fmt::Debug>(
+    committer: &mut Committer,
+    number: u32,
+    call: impl FnOnce(&mut Committer) -> Result<T, Refused>,
+) {
+    let before = committer.clone();
+    let refused = call(committer).expect_err(&format!("should be refused with {number}"));
+    assert_eq!(refused.number(), number);
+    assert_eq!(refused.finished, 0);
+    assert_unchanged(committer, &before);
+}
+
+/// Apart, because a difference of two full tables is too long to print.
+pub fn assert_unchanged(committer: &Committer, before: &Committer) {
+    let (tables, state) = committer.parts();
+    let (tables_before, state_before) = before.parts();
+    assert!(state == state_before, "the state changed");
+    assert!(tables.keys == tables_before.keys, "the keys changed");
+    assert!(tables.links == tables_before.links, "the links changed");
+    assert!(tables.certs == tables_before.certs, "the certificate words changed");
+    assert!(tables.order == tables_before.order, "the order changed");
+}
+
+/// Numbers from a seed: xorshift with 64 bits.
+pub struct Noise(u64);
+
+impl Noise {
+    pub fn new(seed: u64) -> Noise {
+        Noise(seed.wrapping_mul(0x9e37_79b9_7f4a_7c15) | 1)
+    }
+
+    pub fn word(&mut self) -> u64 {
+        self.0 ^= self.0 << 13;
+        self.0 ^= self.0 >> 7;
+        self.0 ^= self.0 << 17;
+        self.0
+    }
+
+    /// A number below n.
+    pub fn below(&mut self, n: u32) -> u32 {
+        (((self.word() >> 32) * u64::from(n)) >> 32) as u32
+    }
+
+    /// Yes in one of n cases.
+    pub fn one_in(&mut self, n: u32) -> bool {
+        self.below(n) == 0
+    }
+
+    pub fn fill(&mut self, words: &mut [u64]) {
+        words.fill_with(|| self.word());
+    }
+}

@@ -1,0 +1,11 @@
+//! The calls through the static library, as document 01 defines them.
+
+mod cases;
+mod common;
+mod full_size;
+mod model;
+mod noise;
+mod random_runs;
+mod records;
+mod refusals;
+mod tables;

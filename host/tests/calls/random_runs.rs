@@ -1,0 +1,259 @@
+//! Lists of calls made up by chance, through the library and through the model: same answers, same points, same
+//! summary.
+
+use std::collections::BTreeMap;
+
+use committer::{Answer, Call, Committer, Link, PLACES_MAX, PointId, PointInfo, Start};
+
+use crate::common::{Noise, version};
+use crate::model::Model;
+
+struct Run {
+    noise: Noise,
+    committer: Committer,
+    model: Model,
+    /// how many calls of a name were answered with a number, 0 if not refused
+    answers: BTreeMap<(&'static str, u32), u32>,
+    /// authors that have points, at most 32
+    authors: u32,
+}
+
+impl Run {
+    fn new(seed: u64, places: usize, authors: u32) -> Run {
+        Run {
+            noise: Noise::new(seed),
+            committer: Committer::new(places),
+            model: Model::new(places),
+            answers: BTreeMap::new(),
+            authors,
+        }
+    }
+
+    fn make(&mut self, call: &Call) {
+        let expected = self.model.call(call);
+        let before = self.committer.clone();
+        let answer = self.committer.call(call);
+        assert_eq!(answer, expected, "{call:?}");
+        if let Answer::Refused(_) = answer {
+            crate::common::assert_unchanged(&self.committer, &before);
+        }
+        *self.answers.entry((name(call), number(answer))).or_insert(0) += 1;
+    }
+
+    fn compare(&self) {
+        assert_eq!(self.committer.summary(), self.model.summary());
+        assert_eq!(self.committer.points(), self.model.points());
+    }
+
+    /// A call that often is accepted.
+    fn any_call(&mut self) -> Call {
+        let due = if self.model.summary().is_none() { 2 } else { 150 };
+        if self.noise.one_in(due) {
+            return self.any_start();
+        }
+        match self.noise.below(100) {
+            0..10 => self.any_round(),
+            10..45 => Call::Name(self.any_id()),
+            45..75 => self.any_resolve(),
+            75..90 => Call::Certify(self.any_known()),
+            90..95 => Call::Drop(self.any_drop()),
+            95..99 => Call::Gap,
+            _ if self.noise.one_in(6) => Call::Reset,
+            _ => Call::Gap,
+        }
+    }
+
+    fn any_start(&mut self) -> Call {
+        let noise = &mut self.noise;
+        let genesis = noise.below(6);
+        Call::Start(Start {
+            genesis,
+            history_rounds: if noise.one_in(8) { noise.below(300) } else { 1 + noise.below(6) },
+            deduplicate_rounds: if noise.one_in(8) { noise.below(140_000) } else { noise.below(9) },
+            bottom: (genesis + noise.below(9)).saturating_sub(1),
+            peers: !0 >> noise.below(3),
+            after_gap: noise.one_in(2),
+            used: if noise.one_in(2) { Some(noise.below(34)) } else { None },
+        })
+    }
+
+    fn rounds(&self) -> (u32, u32) {
+        self.model.summary().map_or((0, 0), |summary| (summary.bottom, summary.top))
+    }
+
+    fn any_round(&mut self) -> Call {
+        let (_, top) = self.rounds();
+        let round = if self.noise.one_in(5) { top + 2 - self.noise.below(4).min(top) } else { top + 1 };
+        let peers = if self.noise.one_in(4) { self.noise.word() as u32 } else { u32::MAX };
+        Call::Round { round, peers }
+    }
+
+    /// A round that mostly is retained.
+    fn near(&mut self) -> u32 {
+        let (bottom, top) = self.rounds();
+        match self.noise.below(20) {
+            0 => top + 1 + self.noise.below(3),
+            1 => bottom.saturating_sub(1 + self.noise.below(3)),
+            _ => bottom + self.noise.below(top - bottom + 1),
+        }
+    }
+
+    fn any_id(&mut self) -> PointId {
+        let round = self.near();
+        let author = if self.noise.one_in(20) { self.noise.below(40) } else { self.noise.below(self.authors) };
+        let id = version(round, author, self.noise.below(6));
+        // the digest of another author of the round
+        if self.noise.one_in(20) { PointId { author: self.noise.below(self.authors), ..id } } else { id }
+    }
+
+    /// The id of a point that is named, mostly.
+    fn any_known(&mut self) -> PointId {
+        let ids = self.model.ids();
+        if ids.is_empty() || self.noise.one_in(10) {
+            return self.any_id();
+        }
+        ids[self.noise.below(ids.len() as u32) as usize].0
+    }
+
+    fn any_resolve(&mut self) -> Call {
+        let open: Vec<PointId> = self.model.ids().iter().filter(|(_, resolved)| !resolved).map(|(id, _)| *id).collect();
+        let id = match open.len() {
+            0 => self.any_known(),
+            _ if self.noise.one_in(6) => self.any_known(),
+            n => open[self.noise.below(n as u32) as usize],
+        };
+        let statuses = if self.noise.one_in(4) { 6 } else { 3 };
+        let mut info = PointInfo {
+            status: 1 + self.noise.below(statuses),
+            proof: self.noise.one_in(2),
+            trigger: self.noise.one_in(2),
+            cause: self.noise.one_in(2),
+            top_proof: PointId { author: if self.noise.one_in(40) { 32 } else { 31 }, ..id },
+            evidence: if self.noise.one_in(2) { self.noise.word() as u32 } else { 0 },
+            includes: self.any_links(id.round, 1),
+            witness: self.any_links(id.round, 2),
+        };
+        if info.status > 3 && !self.noise.one_in(4) {
+            info = PointInfo { evidence: 0, includes: Vec::new(), witness: Vec::new(), ..info };
+        }
+        Call::Resolve(id, info)
+    }
+
+    /// Links to points that are named, mostly one for each author, with a fault now and then.
+    fn any_links(&mut self, round: u32, down: u32) -> Vec<Link> {
+        let Some(to) = round.checked_sub(down) else {
+            return if self.noise.one_in(10) { vec![Link::default()] } else { Vec::new() };
+        };
+        let mut links: BTreeMap<u32, Link> = BTreeMap::new();
+        for (id, _) in self.model.ids() {
+            if id.round == to && !self.noise.one_in(3) {
+                links.insert(id.author, Link { peer: id.author, digest: id.digest });
+            }
+        }
+        let mut links: Vec<Link> = links.into_values().collect();
+        if self.noise.one_in(30) {
+            let stray = version(to, self.noise.below(34), 5);
+            links.push(Link { peer: stray.author, digest: stray.digest });
+        }
+        if self.noise.one_in(30) {
+            links.reverse();
+        }
+        links
+    }
+
+    fn any_drop(&mut self) -> u32 {
+        let (bottom, top) = self.rounds();
+        match self.noise.below(12) {
+            0 => top + self.noise.below(4),
+            1 => self.noise.below(bottom + 1),
+            _ => bottom + self.noise.below((top - bottom) / 2 + 1),
+        }
+    }
+}
+
+fn name(call: &Call) -> &'static str {
+    match call {
+        Call::Start(_) => "start",
+        Call::Round { .. } => "round",
+        Call::Name(_) => "name",
+        Call::Resolve(..) => "resolve",
+        Call::Certify(_) => "certify",
+        Call::Drop(_) => "drop",
+        Call::Gap => "gap",
+        Call::Reset => "reset",
+        _ => "other",
+    }
+}
+
+fn number(answer: Answer) -> u32 {
+    match answer {
+        Answer::Refused(why) => why.number(),
+        _ => 0,
+    }
+}
+
+/// Runs of a seed each; what was answered how often.
+fn runs(seeds: std::ops::Range<u64>, calls: u32) -> BTreeMap<(&'static str, u32), u32> {
+    let mut all = BTreeMap::new();
+    for seed in seeds {
+        let mut shape = Noise::new(seed + 1_000_000);
+        let places = 1 + shape.below(60) as usize;
+        let mut run = Run::new(seed, places, 1 + shape.below(8));
+        for _ in 0..calls {
+            let call = run.any_call();
+            run.make(&call);
+            run.compare();
+        }
+        for (answer, count) in run.answers {
+            *all.entry(answer).or_insert(0) += count;
+        }
+    }
+    all
+}
+
+#[test]
+fn small_boards() {
+    let answers = runs(0..150, 400);
+    // each call was accepted, and refused with each of its numbers
+    let expected = [
+        ("start", vec![0, 1, 2]),
+        ("round", vec![0, 2, 3]),
+        ("name", vec![0, 2, 4, 5, 6, 7, 8]),
+        ("resolve", vec![0, 2, 5, 6, 9, 10, 11, 12]),
+        ("certify", vec![0, 2, 5, 6, 9]),
+        ("drop", vec![0, 2]),
+        ("gap", vec![0, 2]),
+        ("reset", vec![0]),
+    ];
+    for (name, numbers) in expected {
+        for number in numbers {
+            let count = answers.get(&(name, number)).copied().unwrap_or(0);
+            assert!(count >= 10, "{name} with {number}: {count} times, of {answers:?}");
+        }
+    }
+}
+
+/// Full tables, many links: compared now and then, since following every path takes its time.
+#[test]
+fn a_large_board() {
+    let mut run = Run::new(7, PLACES_MAX, 32);
+    run.make(&Call::Start(Start { genesis: 1, history_rounds: 40, bottom: 1, peers: u32::MAX, ..Start::default() }));
+    for round in 2..=60 {
+        run.make(&Call::Round { round, peers: u32::MAX });
+    }
+    for k in 0..2500 {
+        let call = match run.noise.below(100) {
+            0..55 => Call::Name(run.any_id()),
+            55..97 => run.any_resolve(),
+            97..99 => Call::Certify(run.any_known()),
+            _ => Call::Drop(run.rounds().0 + run.noise.below(2)),
+        };
+        run.make(&call);
+        if k % 50 == 0 {
+            run.compare();
+        }
+    }
+    run.compare();
+    assert!(run.model.points().len() > 500);
+    assert!(run.model.points().iter().filter(|point| point.is_certified()).count() > 100);
+}

@@ -1,0 +1,182 @@
+//! Calls as records, and the recording that the repository's `replay` is run on.
+
+use committer::record::{self, Broken, calls, decode, encode};
+use committer::{Answer, Call, Committer, Link, PointId, PointInfo, Start};
+
+use crate::common::{beginning, point, started, valid};
+
+fn one_of_each() -> Vec<Call> {
+    let id = PointId { round: 0x0102_0304, author: 31, digest: std::array::from_fn(|i| i as u8) };
+    let link = |peer| Link { peer, digest: [peer as u8 + 1; 32] };
+    let info = PointInfo {
+        status: 1,
+        proof: true,
+        trigger: false,
+        cause: true,
+        top_proof: PointId { round: u32::MAX, author: 7, digest: [9; 32] },
+        evidence: 0xdead_beef,
+        includes: (0..32).map(link).collect(),
+        witness: vec![link(3), link(30)],
+    };
+    vec![
+        Call::Start(Start {
+            genesis: 1,
+            history_rounds: 2,
+            deduplicate_rounds: 3,
+            bottom: 4,
+            peers: 5,
+            after_gap: true,
+            used: Some(6),
+        }),
+        Call::Start(Start { used: None, ..beginning() }),
+        Call::Round { round: u32::MAX, peers: 0x8000_0001 },
+        Call::Name(id),
+        Call::Resolve(id, info),
+        Call::Resolve(id, PointInfo { status: 255, ..PointInfo::default() }),
+        Call::Certify(id),
+        Call::Commit(id),
+        Call::Remove { round: 77, since: Some(12) },
+        Call::Remove { round: 77, since: None },
+        Call::Drop(4_000_000_000),
+        Call::Gap,
+        Call::Reset,
+        Call::Outlook(id),
+    ]
+}
+
+#[test]
+fn calls_come_back() {
+    let mut recording = Vec::new();
+    for call in one_of_each() {
+        let bytes = encode(&call);
+        assert_eq!(decode(&bytes), Ok((call, bytes.len())));
+        recording.extend(bytes);
+    }
+    let read: Result<Vec<Call>, Broken> = calls(&recording).collect();
+    assert_eq!(read, Ok(one_of_each()));
+}
+
+#[test]
+fn bytes_of_records() {
+    assert_eq!(encode(&Call::Gap), [0, 0, 0, 2, 1, 9]);
+    assert_eq!(encode(&Call::Drop(0x0102_0304)), [0, 0, 0, 6, 1, 8, 1, 2, 3, 4]);
+    assert_eq!(encode(&Call::Remove { round: 1, since: Some(2) }), [0, 0, 0, 11, 1, 7, 0, 0, 0, 1, 1, 0, 0, 0, 2]);
+    let lengths: Vec<usize> = one_of_each().iter().map(|call| encode(call).len() - 6).collect();
+    assert_eq!(lengths, [22, 22, 8, 37, 82 + 34 * 33, 82, 37, 37, 9, 9, 4, 0, 0, 37]);
+    let start = encode(&one_of_each()[0]);
+    assert_eq!(start[6..], [0, 0, 0, 1, 0, 0, 0, 2, 0, 0, 0, 3, 0, 0, 0, 4, 0, 0, 0, 5, 1, 6]);
+    assert_eq!(encode(&one_of_each()[1])[27], 255);
+    let resolve = encode(&one_of_each()[4]);
+    assert_eq!(resolve[6 + 37..6 + 39], [1, 5]);
+    assert_eq!(resolve[6 + 76..6 + 82], [0xde, 0xad, 0xbe, 0xef, 32, 2]);
+    assert_eq!(resolve[6 + 82..6 + 84], [0, 1]);
+}
+
+#[test]
+fn broken_records() {
+    for call in one_of_each() {
+        let whole = encode(&call);
+        for length in 0..whole.len() {
+            assert_eq!(decode(&whole[..length]), Err(Broken { at: 0 }), "cut to {length}");
+        }
+        // a version or a kind that is unknown, one byte more or less than the kind's
+        let mut version = whole.clone();
+        version[4] = 2;
+        let mut kind = whole.clone();
+        kind[5] = 12;
+        let mut longer = whole.clone();
+        longer.push(0);
+        longer[2..4].copy_from_slice(&(whole.len() as u16 - 3).to_be_bytes());
+        let mut shorter = whole.clone();
+        shorter.pop();
+        shorter[2..4].copy_from_slice(&(whole.len() as u16 - 5).to_be_bytes());
+        for bytes in [version, kind, longer, shorter] {
+            assert_eq!(decode(&bytes), Err(Broken { at: 0 }));
+        }
+    }
+    assert_eq!(decode(&[0, 0, 0, 1, 1]), Err(Broken { at: 0 }));
+    let long = [vec![0, 0, 0x10, 1, 1, 9], vec![0; 5000]].concat();
+    assert_eq!(decode(&long), Err(Broken { at: 0 }));
+    let mut two = [encode(&Call::Gap), encode(&Call::Reset)].concat();
+    two[10] = 9;
+    assert_eq!(calls(&two).collect::<Vec<_>>(), [Ok(Call::Gap), Err(Broken { at: 6 })]);
+}
+
+/// Numbers that have no room in a record are recorded so that the answer is the same.
+#[test]
+fn numbers_without_room() {
+    let id = point(11, 0);
+    let links = |n, peer| vec![Link { peer, digest: [0; 32] }; n];
+    let refused = [
+        Call::Start(Start { used: Some(255), ..beginning() }),
+        Call::Start(Start { used: Some(u32::MAX), ..beginning() }),
+        Call::Name(PointId { author: 256, ..id }),
+        Call::Certify(PointId { author: u32::MAX, ..id }),
+        Call::Resolve(id, PointInfo { status: 257, ..valid(&[], &[]) }),
+        Call::Resolve(id, PointInfo { top_proof: PointId { author: 256, ..id }, ..valid(&[], &[]) }),
+        Call::Resolve(id, PointInfo { includes: links(1, 256), ..valid(&[], &[]) }),
+        Call::Resolve(id, PointInfo { includes: links(1000, 0), witness: links(1000, 0), ..valid(&[], &[]) }),
+    ];
+    for call in refused {
+        let (read, _) = decode(&encode(&call)).expect("a whole record");
+        let mut committer = started(4, &beginning(), 12);
+        committer.name(&id).unwrap();
+        let mut other = committer.clone();
+        let answer = committer.call(&call);
+        assert!(matches!(answer, Answer::Refused(_)), "{call:?}");
+        assert_eq!(other.call(&read), answer);
+    }
+}
+
+#[test]
+fn calls_that_are_not_made_yet() {
+    let mut committer = started(4, &beginning(), 12);
+    let before = committer.clone();
+    for call in [Call::Commit(point(11, 0)), Call::Remove { round: 11, since: None }, Call::Outlook(point(11, 0))] {
+        assert_eq!(committer.call(&call), Answer::Unsupported);
+        assert!(committer == before);
+    }
+}
+
+/// The line that `replay` writes for a call.
+fn line(call: &Call, answer: Answer) -> String {
+    let question = match call {
+        Call::Gap => "gap ",
+        Call::Drop(_) => "drop ",
+        _ => "",
+    };
+    match answer {
+        Answer::Done => "ok".into(),
+        Answer::Said(yes) => format!("{question}{}", if yes { "yes" } else { "no" }),
+        Answer::Refused(why) => format!("refused {}", why.number()),
+        Answer::Unsupported => "unsupported".into(),
+    }
+}
+
+fn last_line(committer: &Committer) -> String {
+    let Some(s) = committer.summary() else { return "state none".into() };
+    let proof = s.last_proof.map_or("none".into(), |round| round.to_string());
+    let emit = s.emit_first_after_gap.map_or("none".into(), |flag| flag.to_string());
+    format!(
+        "state bottom {} top {} lastproof {proof} fullbottom {} first {} emit {emit}",
+        s.bottom, s.top, s.full_history_bottom, s.first_executable
+    )
+}
+
+/// `replay` reads this recording and writes this text, in the repository's own tests.
+#[test]
+fn the_recording_of_replay() {
+    let folder = concat!(env!("CARGO_MANIFEST_DIR"), "/../crates/replay/");
+    let recording = std::fs::read(format!("{folder}stdin")).expect("the recording");
+    let expected = std::fs::read_to_string(format!("{folder}stdout")).expect("what replay writes");
+    let mut committer = Committer::new(20);
+    let mut lines = Vec::new();
+    for call in record::calls(&recording) {
+        lines.push(match call {
+            Ok(call) => line(&call, committer.call(&call)),
+            Err(broken) => broken.to_string(),
+        });
+    }
+    lines.push(last_line(&committer));
+    assert_eq!(lines, expected.lines().collect::<Vec<_>>());
+}

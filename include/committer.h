@@ -1,0 +1,356 @@
+/*
+ * The committer for C hosts: the functions of libcapi.a (`rt staticlib capi`, x86-64).
+ *
+ * The host keeps a state and lends four tables. Each call takes the state by value and returns the state after it in its reply; the next
+ * call is given that one. Before the first start the state is all zero (committer_no_state), and the tables may hold anything.
+ *
+ *     committer_state state = committer_no_state();
+ *     committer_reply reply = committer_start(state, keys, keys_len, .., with);
+ *     state = reply.state;
+ *
+ * Every call tests the state and the tables before it trusts them. State and tables that no call left count as not started, whatever they
+ * hold: calls are refused with 2, and a start clears them.
+ *
+ * A call answers with a number in `refused`, 0 if it isn't refused. A refused call changes nothing: the tables stay as they are, and the
+ * state returned is the one given.
+ *
+ * The host's fault, with undefined behaviour as in all C, is only what a callee can't see:
+ *   - a null pointer with a length above 0, or a pointer that isn't aligned for uint64_t;
+ *   - a length above the number of words behind the pointer;
+ *   - tables, or links lent to a resolution, that overlap each other;
+ *   - tables that another thread writes during the call (or reads, if the call changes them).
+ * Everything else is refused by number, tables of wrong lengths too.
+ *
+ * The calls allocate nothing, keep no pointer, and share nothing: different states with tables of their own can be used at the same time.
+ */
+#ifndef COMMITTER_H
+#define COMMITTER_H
+
+#include <stddef.h>
+#include <stdint.h>
+#include <string.h>
+
+#ifdef __cplusplus
+extern "C" {
+#endif
+
+/* ---- limits */
+
+#define COMMITTER_PLACES_MAX 4096u /* places of the tables, at least 1 */
+#define COMMITTER_ROUNDS_MAX 512u /* retained rounds */
+#define COMMITTER_PEERS_MAX 32u /* peers are numbered 0 to 31 */
+#define COMMITTER_VERSIONS_MAX 4u /* digests of one author in one round */
+#define COMMITTER_LINKS_MAX 32u /* includes of a point, and witness */
+#define COMMITTER_HISTORY_MAX 255u /* history rounds (H), at least 1 */
+#define COMMITTER_DEDUPLICATE_MAX 65535u /* deduplicate rounds */
+#define COMMITTER_ROUND_MAX 4000000000u /* a round's number */
+#define COMMITTER_MEMORY_MAX 128u /* entries of the inspector's memory */
+
+/* ---- tables */
+
+/*
+ * The tables are arrays of 64-bit words. All four have room for the same number of places.
+ *   keys   round, author, digest (4), status (0: not resolved), marks
+ *   links  evidence, round, author and digest (4) of the top proof, one unused, 64 target words, 64 digests (4 each). Link k is under
+ *          peer k % 32 and leads 1 + k / 32 rounds down; its target word is 0 for no link, else 1 + the place of the point it leads to,
+ *          or 1 if it led into a round that wasn't retained.
+ *   certs  the certificate word
+ *   order  the first state.count words are the used places, by rising round, then by rising digest
+ * The host may read them between the calls.
+ */
+#define COMMITTER_KEY_WORDS 8u
+#define COMMITTER_LINK_WORDS 328u
+#define COMMITTER_CERT_WORDS 1u
+#define COMMITTER_ORDER_WORDS 1u
+
+/* The lengths of the tables, in words. */
+#define COMMITTER_KEYS_LEN(places) ((size_t)(places) * COMMITTER_KEY_WORDS)
+#define COMMITTER_LINKS_LEN(places) ((size_t)(places) * COMMITTER_LINK_WORDS)
+#define COMMITTER_CERTS_LEN(places) ((size_t)(places) * COMMITTER_CERT_WORDS)
+#define COMMITTER_ORDER_LEN(places) ((size_t)(places) * COMMITTER_ORDER_WORDS)
+
+/* A certificate word: four flags, the height in the low 12 bits. Certified: height above 0. Proved: the top flag as well. */
+#define COMMITTER_CERT_TOP 0x8000u
+#define COMMITTER_CERT_STARTED 0x4000u
+#define COMMITTER_CERT_COMPLETED 0x2000u
+#define COMMITTER_CERT_COMMITTED 0x1000u
+#define COMMITTER_CERT_HEIGHT 0x0fffu
+
+/* ---- numbers */
+
+/* Statuses of a resolved point. 4 and 5 come without links and evidence. */
+#define COMMITTER_VALID 1u
+#define COMMITTER_TRANS_INVALID 2u
+#define COMMITTER_INVALID 3u
+#define COMMITTER_ILL_FORMED 4u
+#define COMMITTER_NOT_FOUND 5u
+
+/* Marks of a point. Further bits aren't read. */
+#define COMMITTER_PROOF 1u
+#define COMMITTER_TRIGGER 2u
+#define COMMITTER_CAUSE 4u
+
+/* `used` of a start whose bottom has no used mark. */
+#define COMMITTER_NOBODY UINT32_MAX
+
+/* The numbers of refusals. 13 to 23 are of calls that this header doesn't have yet. */
+enum committer_refusal {
+    COMMITTER_DONE = 0,
+    COMMITTER_BAD_START = 1, /* what a start takes, or the tables' lengths, out of range */
+    COMMITTER_WRONG_PHASE = 2, /* not started, or started twice */
+    COMMITTER_ROUND_AHEAD = 3, /* round beyond top + 1, or above COMMITTER_ROUND_MAX */
+    COMMITTER_FULL = 4, /* 512 rounds, or no place free */
+    COMMITTER_NOT_A_PEER = 5, /* author not a peer of its round */
+    COMMITTER_NOT_RETAINED = 6, /* round not retained */
+    COMMITTER_DIGEST_NAMED = 7, /* digest named in this round */
+    COMMITTER_FIFTH_DIGEST = 8, /* a fifth digest of its author and round */
+    COMMITTER_NOT_NAMED = 9, /* id not named; trigger unresolved */
+    COMMITTER_RESOLVED = 10, /* resolved already */
+    COMMITTER_BAD_INFO = 11, /* what a resolution gives has a wrong form */
+    COMMITTER_LINK_NOT_NAMED = 12, /* link into a retained round, not named */
+    COMMITTER_CONFLICT = 13, /* history conflict, at the round in `conflict` */
+    COMMITTER_POINT_MISSING = 14, /* point needed, not named or unresolved */
+    COMMITTER_UNUSABLE = 15, /* status neither usable nor certified */
+    COMMITTER_BROKEN_CHAIN = 16, /* no previous point, or the sought proof isn't where and what it must be */
+    COMMITTER_ROUNDS_MISSING = 17, /* limit at or above the full-history bottom, rounds missing */
+    COMMITTER_NOT_CERTIFIED = 18, /* history point of height 0 */
+    COMMITTER_CHAIN_ENDS_EARLY = 19, /* oldest link above the walk's lowest round */
+    COMMITTER_GAP_QUESTION = 20, /* gap question not put */
+    COMMITTER_NO_ROOM = 21, /* answer larger than the buffer left */
+    COMMITTER_AT_GENESIS = 22, /* anchor at genesis */
+    COMMITTER_REMOVE_AHEAD = 23 /* remove above the last anchor handed out since the start, or none */
+};
+
+/* ---- types */
+
+/* 32 bytes as four words, the most significant first. */
+typedef struct committer_digest {
+    uint64_t words[4];
+} committer_digest;
+
+typedef struct committer_point_id {
+    uint32_t round;
+    uint32_t author;
+    committer_digest digest;
+} committer_point_id;
+
+/* A retained round: its peers (peer n is the bit of weight 2^n), and the author of its used mark plus 1, or 0 for none. */
+typedef struct committer_round_record {
+    uint32_t peers;
+    uint32_t used;
+} committer_round_record;
+
+/*
+ * A trusted point of the inspector's last round: author, digest, digest of its previous point if it has one (has_previous isn't 0), and
+ * the peers that signed the previous point and did not include it.
+ */
+typedef struct committer_entry {
+    uint32_t author;
+    committer_digest digest;
+    uint32_t has_previous;
+    committer_digest previous;
+    uint32_t owing;
+} committer_entry;
+
+/* The inspector's memory of its last round. */
+typedef struct committer_memory {
+    uint32_t last;
+    size_t count;
+    committer_entry entries[128];
+} committer_memory;
+
+/*
+ * What the host keeps between the calls. It may read it; it gives back what the last call returned.
+ * Any bytes are a state. The padding is not part of it: compare states by their fields, not with memcmp.
+ */
+typedef struct committer_state {
+    uint32_t phase; /* 1 started, 2 reset, other numbers neither */
+    size_t count; /* used places */
+    uint32_t genesis;
+    uint32_t history_rounds;
+    uint32_t deduplicate_rounds;
+    uint32_t bottom; /* rounds from bottom to top are retained */
+    uint32_t top;
+    uint32_t last_proof; /* the last committed proof's round plus 1, or 0 for none */
+    uint32_t last_anchor; /* the last anchor's round plus 1, or 0 for none */
+    uint32_t full_history_bottom;
+    uint32_t first_executable;
+    uint32_t gap; /* 0 disarmed, 1 before the gap question, else after it */
+    committer_round_record rounds[512]; /* round r in record r % 512 */
+    committer_memory memory;
+} committer_state;
+
+/* What a call answers. */
+typedef struct committer_reply {
+    uint32_t refused; /* enum committer_refusal, 0 for none */
+    uint32_t said; /* 1 for yes, of the gap question and of a drop; else 0 */
+    uint32_t anchors; /* anchors handed out, or finished before a refusal; 0 in the calls of this header */
+    uint32_t conflict; /* the round of a history conflict (13), else 0 */
+    committer_state state; /* the state after the call */
+} committer_reply;
+
+/* What a start takes. */
+typedef struct committer_beginning {
+    uint32_t genesis;
+    uint32_t history_rounds; /* H */
+    uint32_t deduplicate_rounds;
+    uint32_t bottom;
+    uint32_t peers; /* of the bottom, as a set */
+    uint32_t after_gap; /* 0 for no */
+    uint32_t used; /* author of the bottom's used mark, COMMITTER_NOBODY for none */
+} committer_beginning;
+
+/* What a resolution gives, but for its links. */
+typedef struct committer_told {
+    uint32_t status;
+    uint32_t marks;
+    committer_point_id top_proof; /* of the top anchor proof; only its author is tested */
+    uint32_t evidence; /* a set of peers */
+    size_t includes; /* number of links one round down */
+    size_t witness; /* number of links two rounds down */
+} committer_told;
+
+/* Words of a link that a resolution is lent: peer and digest. */
+#define COMMITTER_REF_WORDS 5u
+
+/* The layout that the library was built with. */
+#if defined(__cplusplus)
+#define COMMITTER_ASSERT(name, holds) static_assert(holds, #name)
+#elif defined(__STDC_VERSION__) && __STDC_VERSION__ >= 201112L
+#define COMMITTER_ASSERT(name, holds) _Static_assert(holds, #name)
+#else
+#define COMMITTER_ASSERT(name, holds) typedef char committer_assert_##name[(holds) ? 1 : -1]
+#endif
+
+COMMITTER_ASSERT(words_of_64_bits, sizeof(size_t) == 8);
+COMMITTER_ASSERT(size_of_a_point_id, sizeof(committer_point_id) == 40);
+COMMITTER_ASSERT(size_of_a_round_record, sizeof(committer_round_record) == 8);
+COMMITTER_ASSERT(size_of_an_entry, sizeof(committer_entry) == 88);
+COMMITTER_ASSERT(size_of_a_memory, sizeof(committer_memory) == 11280);
+COMMITTER_ASSERT(rounds_of_a_state, offsetof(committer_state, rounds) == 56);
+COMMITTER_ASSERT(memory_of_a_state, offsetof(committer_state, memory) == 4152);
+COMMITTER_ASSERT(size_of_a_state, sizeof(committer_state) == 15432);
+COMMITTER_ASSERT(state_of_a_reply, offsetof(committer_reply, state) == 16);
+COMMITTER_ASSERT(size_of_a_reply, sizeof(committer_reply) == 15448);
+COMMITTER_ASSERT(size_of_a_beginning, sizeof(committer_beginning) == 28);
+COMMITTER_ASSERT(size_of_a_told, sizeof(committer_told) == 72);
+
+#undef COMMITTER_ASSERT
+
+/* ---- helpers */
+
+/* The state before the first start. */
+static inline committer_state committer_no_state(void)
+{
+    committer_state state;
+    memset(&state, 0, sizeof state);
+    return state;
+}
+
+/* The four words of a digest's 32 bytes. */
+static inline committer_digest committer_digest_of(const unsigned char *bytes)
+{
+    committer_digest digest;
+    for (int i = 0; i < 4; i++) {
+        digest.words[i] = 0;
+        for (int k = 0; k < 8; k++) {
+            digest.words[i] = digest.words[i] << 8 | bytes[8 * i + k];
+        }
+    }
+    return digest;
+}
+
+/* Writes the 32 bytes of a digest. */
+static inline void committer_digest_bytes(committer_digest digest, unsigned char *bytes)
+{
+    for (int i = 0; i < 32; i++) {
+        bytes[i] = (unsigned char)(digest.words[i / 8] >> (56 - 8 * (i % 8)));
+    }
+}
+
+/* ---- calls. The numbers named are those that the call is refused with, in the order of the tests. */
+
+/*
+ * Starts on state and tables that don't count as started: the tables are zeroed, one round is retained, the bottom. The inspector's memory
+ * stays if the state is what a reset returned, else it is emptied.
+ * Refused: 1 H of 0 or above 255, deduplicate rounds above 65,535, genesis or bottom above 4,000,000,000, bottom below genesis, used
+ * author above 31, tables of no places, of more than 4,096, or of different numbers of places; 2 started already.
+ */
+committer_reply committer_start(committer_state state,
+    uint64_t *keys, size_t keys_len, uint64_t *links, size_t links_len,
+    uint64_t *certs, size_t certs_len, uint64_t *order, size_t order_len,
+    committer_beginning with);
+
+/*
+ * Zeroes the tables and the state, but for the inspector's memory. A start may follow.
+ * Refused: 2 not started.
+ */
+committer_reply committer_reset(committer_state state,
+    uint64_t *keys, size_t keys_len, uint64_t *links, size_t links_len,
+    uint64_t *certs, size_t certs_len, uint64_t *order, size_t order_len);
+
+/*
+ * Adds the round above the top, with its peers as a set. A round at or below the top does nothing.
+ * Refused: 2 not started; 3 round beyond top + 1 or above 4,000,000,000; 4 512 rounds are retained.
+ */
+committer_reply committer_round(committer_state state,
+    const uint64_t *keys, size_t keys_len, const uint64_t *links, size_t links_len,
+    const uint64_t *certs, size_t certs_len, const uint64_t *order, size_t order_len,
+    uint32_t round, uint32_t peers);
+
+/*
+ * The gap question. Says yes if it is waited for, after a start after a gap or a drop; from then on it is put, and the answer is no.
+ * Refused: 2 not started.
+ */
+committer_reply committer_gap(committer_state state,
+    const uint64_t *keys, size_t keys_len, const uint64_t *links, size_t links_len,
+    const uint64_t *certs, size_t certs_len, const uint64_t *order, size_t order_len);
+
+/*
+ * Names a point: it stands in the lowest free place, not resolved.
+ * Refused: 2 not started; 5 author above 31; 6 round not retained; 5 author not a peer of its round; 7 digest named in this round, by
+ * whichever author; 8 the author has four digests in this round; 4 no place free.
+ */
+committer_reply committer_name(committer_state state,
+    uint64_t *keys, size_t keys_len, const uint64_t *links, size_t links_len,
+    uint64_t *certs, size_t certs_len, uint64_t *order, size_t order_len,
+    committer_point_id id);
+
+/*
+ * Resolves a named point, once. refs holds its links, COMMITTER_REF_WORDS words each: peer, digest; the includes first, then the witness,
+ * so refs_len is 5 * (told.includes + told.witness). Heights of certified points are handed on along the links.
+ * Refused: 2 not started; 5 author above 31; 6 round not retained; 5 author not a peer of its round; 9 not named; 10 resolved already;
+ * 11 status not 1 to 5, over 32 links of a kind, refs_len another number, author above 31 in a link or the top proof, peers of a kind not
+ * strictly rising, status 4 or 5 with links or evidence, links below round 0; 12 link into a retained round, not named.
+ */
+committer_reply committer_resolve(committer_state state,
+    uint64_t *keys, size_t keys_len, uint64_t *links, size_t links_len,
+    uint64_t *certs, size_t certs_len, const uint64_t *order, size_t order_len,
+    committer_point_id id, committer_told told, const uint64_t *refs, size_t refs_len);
+
+/*
+ * Certifies a named point: it is a top of height H + 1, and heights are handed on along the links of resolved points, one less for each
+ * round down. A point that isn't resolved hands its height on when it is. A second certificate changes nothing.
+ * Refused: 2 not started; 5 author above 31; 6 round not retained; 5 author not a peer of its round; 9 not named.
+ */
+committer_reply committer_certify(committer_state state,
+    const uint64_t *keys, size_t keys_len, const uint64_t *links, size_t links_len,
+    uint64_t *certs, size_t certs_len, const uint64_t *order, size_t order_len,
+    committer_point_id id);
+
+/*
+ * Drops the rounds below the given one, but never the top; their places are zeroed and free again. Also if nothing is dropped, histories
+ * are full from H rounds above the lesser of the given round and the top on, and the gap question is waited for.
+ * Says yes if the given round isn't above the top.
+ * Refused: 2 not started.
+ */
+committer_reply committer_drop(committer_state state,
+    uint64_t *keys, size_t keys_len, uint64_t *links, size_t links_len,
+    uint64_t *certs, size_t certs_len, uint64_t *order, size_t order_len,
+    uint32_t round);
+
+#ifdef __cplusplus
+}
+#endif
+
+#endif
