@@ -1,0 +1,2 @@
+// Unchanged.
+include!(concat!(env!("TYCHO_CONSENSUS"), "/models/output.rs"));

@@ -1,0 +1,4 @@
+//! Stand-in: nothing is stored.
+
+#[derive(Clone)]
+pub struct MempoolStore;

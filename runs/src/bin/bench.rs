@@ -1,0 +1,280 @@
+//! Times calls of the library and of the Rust at several numbers of points held, beside a plain read of the tables.
+//!
+//!     cargo run --release --offline --bin bench
+
+use std::fs;
+use std::hint::black_box;
+use std::time::Instant;
+
+use committer::{Call, Committer, KEY_WORDS, LINK_WORDS, Link, PLACES_MAX, PointId, PointInfo, Start, Tables};
+use runs::lists::digest;
+use runs::rust::Rust;
+use runs::view::{Answer, Told};
+
+const SIZES: [u32; 4] = [64, 256, 1024, 4096];
+const PEERS: u32 = 32;
+const BOTTOM: u32 = 10;
+const HISTORY_ROUNDS: u32 = 20;
+/// Growth is judged between these.
+const SMALL: usize = 1;
+const LARGE: usize = 3;
+
+/// Microseconds of the four calls, at one number of points.
+struct Calls {
+    round: f64,
+    name: f64,
+    resolve: f64,
+    certify: f64,
+}
+
+struct Times {
+    points: u32,
+    ours: Calls,
+    /// the gap question: the table test and little else
+    test: f64,
+    /// ours less the test
+    rest: Calls,
+    rust: Calls,
+    read_all: f64,
+    read_needed: f64,
+}
+
+fn main() {
+    print_machine();
+    let times: Vec<Times> = SIZES.into_iter().map(measured).collect();
+    print_calls(&times);
+    print_growth(&times);
+    print_reads(&times);
+}
+
+// ---- what is timed
+
+fn id(n: u32) -> PointId {
+    PointId { round: BOTTOM + n / PEERS, author: n % PEERS, digest: digest(n + 1) }
+}
+
+/// All 32 points of the round below; the bottom's have no links.
+fn info(n: u32) -> PointInfo {
+    let below = (n / PEERS).checked_sub(1);
+    let includes = below.map_or(Vec::new(), |row| {
+        (0..PEERS).map(|peer| Link { peer, digest: digest(row * PEERS + peer + 1) }).collect()
+    });
+    PointInfo { status: 1, includes, ..PointInfo::default() }
+}
+
+fn start() -> Call {
+    Call::Start(Start {
+        genesis: BOTTOM,
+        history_rounds: HISTORY_ROUNDS,
+        bottom: BOTTOM,
+        peers: u32::MAX,
+        ..Start::default()
+    })
+}
+
+/// The calls until all points but the last are named and resolved.
+fn filling(points: u32) -> Vec<Call> {
+    let mut calls = vec![start()];
+    for n in 0..points {
+        if n > 0 && n % PEERS == 0 {
+            calls.push(Call::Round { round: id(n).round, peers: u32::MAX });
+        }
+        if n + 1 < points {
+            calls.push(Call::Name(id(n)));
+            calls.push(Call::Resolve(id(n), info(n)));
+        }
+    }
+    calls
+}
+
+/// The calls that are timed, in the order in which each finds what it needs.
+fn timed(points: u32) -> [Call; 4] {
+    let last = points - 1;
+    let next = Call::Round { round: id(last).round + 1, peers: u32::MAX };
+    [Call::Name(id(last)), Call::Resolve(id(last), info(last)), next, Call::Certify(id(last))]
+}
+
+fn repetitions(points: u32) -> usize {
+    (400_000 / points as usize).clamp(150, 2_000)
+}
+
+/// The calls, the test and the reads take turns, each with the tables just copied: what else the machine does falls on all alike.
+fn measured(points: u32) -> Times {
+    let stages = stages(points);
+    let calls = timed(points);
+    let places = points as usize;
+    let mut work = stages[0].clone();
+    let [mut tests, mut alls, mut neededs] = [const { Vec::new() }; 3];
+    let mut ours: [Vec<f64>; 4] = Default::default();
+    let mut rest: [Vec<f64>; 4] = Default::default();
+    for _ in 0..repetitions(points) {
+        let mut after_copy = |stage: usize, call: &dyn Fn(&mut Committer) -> u64| {
+            restore(&mut work, &stages[stage], points);
+            clock(|| call(&mut work))
+        };
+        let test = after_copy(3, &|work| work.gap_question().expect("started").into());
+        tests.push(test);
+        alls.push(after_copy(3, &|work| read_all(work.parts().0, places)));
+        neededs.push(after_copy(3, &|work| read_needed(work.parts().0, places)));
+        for n in 0..4 {
+            let time = after_copy(n, &|work| {
+                take(work, &calls[n]);
+                0
+            });
+            ours[n].push(time);
+            rest[n].push(time - test);
+        }
+    }
+    Times {
+        points,
+        ours: Calls::of(ours),
+        test: median(tests),
+        rest: Calls::of(rest),
+        rust: rust(points),
+        read_all: median(alls),
+        read_needed: median(neededs),
+    }
+}
+
+/// The library before each of the timed calls.
+fn stages(points: u32) -> Vec<Committer> {
+    let mut committer = Committer::new(PLACES_MAX);
+    filling(points).iter().for_each(|call| take(&mut committer, call));
+    let mut stages = Vec::new();
+    for call in timed(points) {
+        stages.push(committer.clone());
+        take(&mut committer, &call);
+    }
+    stages
+}
+
+fn take(committer: &mut Committer, call: &Call) {
+    assert_eq!(committer.call(call), committer::Answer::Done);
+}
+
+/// Names take the lowest free place, so the first places are the used ones.
+fn restore(work: &mut Committer, before: &Committer, points: u32) {
+    let (from, from_state) = before.parts();
+    let (to, to_state) = work.parts_mut();
+    let places = points as usize;
+    to.keys[..places * KEY_WORDS].copy_from_slice(&from.keys[..places * KEY_WORDS]);
+    to.links[..places * LINK_WORDS].copy_from_slice(&from.links[..places * LINK_WORDS]);
+    to.certs[..places].copy_from_slice(&from.certs[..places]);
+    to.order[..places].copy_from_slice(&from.order[..places]);
+    *to_state = *from_state;
+}
+
+/// The Rust can't be copied: each repetition builds it anew, and times the four calls one after the other.
+fn rust(points: u32) -> Calls {
+    let filling = filling(points);
+    let calls = timed(points);
+    let mut times: [Vec<f64>; 4] = Default::default();
+    for _ in 0..(40_000 / points as usize).clamp(25, 200) {
+        let mut rust = Rust::after(&filling);
+        for (call, times) in calls.iter().zip(&mut times) {
+            times.push(clock(|| assert_eq!(rust.call(call), Told::Answer(Answer::Done))));
+        }
+    }
+    Calls::of(times)
+}
+
+/// The sum of every word of the used places.
+fn read_all(tables: &Tables, places: usize) -> u64 {
+    sum(&tables.keys[..places * KEY_WORDS])
+        .wrapping_add(sum(&tables.links[..places * LINK_WORDS]))
+        .wrapping_add(sum(&tables.certs[..places]))
+        .wrapping_add(sum(&tables.order[..places]))
+}
+
+/// The sum of the words that the table test can't do without: of a place's links the evidence, the top proof's round and author, the 64
+/// targets, and the digests of its 32 includes.
+fn read_needed(tables: &Tables, places: usize) -> u64 {
+    let mut total = sum(&tables.keys[..places * KEY_WORDS])
+        .wrapping_add(sum(&tables.certs[..places]))
+        .wrapping_add(sum(&tables.order[..places]));
+    for links in tables.links[..places * LINK_WORDS].chunks_exact(LINK_WORDS) {
+        total = total.wrapping_add(sum(&links[..3])).wrapping_add(sum(&links[8..72 + 4 * PEERS as usize]));
+    }
+    total
+}
+
+fn sum(words: &[u64]) -> u64 {
+    words.iter().fold(0, |total, word| total.wrapping_add(*word))
+}
+
+// ---- clocks
+
+fn clock<T>(call: impl FnOnce() -> T) -> f64 {
+    let begun = Instant::now();
+    black_box(call());
+    begun.elapsed().as_secs_f64() * 1e6
+}
+
+fn median(mut times: Vec<f64>) -> f64 {
+    times.sort_unstable_by(f64::total_cmp);
+    times[times.len() / 2]
+}
+
+// ---- what is printed
+
+/// Where the machine tells.
+fn print_machine() {
+    let cores = std::thread::available_parallelism().map_or("?".into(), |cores| cores.to_string());
+    let model = field("/proc/cpuinfo", "model name").unwrap_or("unknown processor".into());
+    let memory = field("/proc/meminfo", "MemTotal").unwrap_or("unknown".into());
+    println!("{cores} cores ({model}), memory {memory}. Medians, in microseconds.\n");
+}
+
+fn field(file: &str, name: &str) -> Option<String> {
+    let text = fs::read_to_string(file).ok()?;
+    let line = text.lines().find(|line| line.starts_with(name))?;
+    Some(line.split_once(':')?.1.trim().into())
+}
+
+impl Calls {
+    /// In the order of `timed`.
+    fn of(times: [Vec<f64>; 4]) -> Calls {
+        let [name, resolve, round, certify] = times.map(median);
+        Calls { round, name, resolve, certify }
+    }
+
+    fn each(&self) -> [(&'static str, f64); 4] {
+        [("round", self.round), ("name", self.name), ("resolve", self.resolve), ("certify", self.certify)]
+    }
+}
+
+fn print_calls(times: &[Times]) {
+    println!("| points held | call | library | table test | library less the test | Rust |");
+    println!("|---|---|---|---|---|---|");
+    for at in times {
+        for n in 0..4 {
+            let (call, ours) = at.ours.each()[n];
+            let (rest, rust) = (at.rest.each()[n].1, at.rust.each()[n].1);
+            println!("| {} | {call} | {ours:.1} | {:.1} | {rest:.1} | {rust:.2} |", at.points, at.test);
+        }
+    }
+}
+
+fn print_growth(times: &[Times]) {
+    let (small, large) = (&times[SMALL], &times[LARGE]);
+    println!("\n| from {} to {} points, times | library | Rust |", small.points, large.points);
+    println!("|---|---|---|");
+    for n in 0..4 {
+        let (call, ours) = large.ours.each()[n];
+        let ours = ours / small.ours.each()[n].1;
+        let rust = large.rust.each()[n].1 / small.rust.each()[n].1;
+        println!("| {call} | {ours:.1} | {rust:.1} |");
+    }
+    println!("| table test | {:.1} | |", large.test / small.test);
+}
+
+fn print_reads(times: &[Times]) {
+    println!(
+        "\n| points held | table test | read of all words | test to read | read of the words needed | test to read |"
+    );
+    println!("|---|---|---|---|---|---|");
+    for Times { points, test, read_all, read_needed, .. } in times {
+        let (to_all, to_needed) = (test / read_all, test / read_needed);
+        println!("| {points} | {test:.1} | {read_all:.1} | {to_all:.1} | {read_needed:.1} | {to_needed:.1} |");
+    }
+}

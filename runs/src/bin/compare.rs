@@ -1,0 +1,129 @@
+//! Plays lists of calls on the library and on the Rust and compares them after each call.
+//!
+//!     cargo run --release --offline --bin compare -- [SEED]
+
+use std::process::ExitCode;
+use std::sync::atomic::{AtomicBool, Ordering};
+use std::time::Instant;
+
+use runs::compare::{Difference, List, compare};
+use runs::counts::Counts;
+use runs::library::Library;
+use runs::lists::{damaged, grown, limits, shorts};
+use runs::notation;
+use runs::random::Random;
+use runs::shrink::shrink;
+
+const SEED: u64 = 1;
+const GROWN: u64 = 2_000;
+const DAMAGED: u64 = 1_200;
+/// Every so many random lists run under both hash seeds.
+const TWICE: u64 = 4;
+/// Of each number that the calls at hand are refused with, the Rust is given at least so many.
+const TRIED_LEAST: u64 = 200;
+const CALLS_LEAST: u64 = 100_000;
+
+/// A list, its family, and whether it runs under both hash seeds.
+struct Task {
+    family: &'static str,
+    twice: bool,
+    list: List,
+}
+
+type Failure = (Task, Difference);
+
+fn main() -> ExitCode {
+    let Some(seed) = seed() else {
+        eprintln!("usage: compare [SEED], a number; {SEED} if left out");
+        return ExitCode::from(2);
+    };
+    let begun = Instant::now();
+    let stop = AtomicBool::new(false);
+    let (counts, failure) = std::thread::scope(|scope| {
+        let workers = [0, 1].map(|worker| {
+            scope.spawn({
+                let stop = &stop;
+                move || work(seed, worker, stop)
+            })
+        });
+        let mut counts = Counts::default();
+        let mut failure = None;
+        for worker in workers {
+            let (its, failed) = worker.join().expect("a worker panics only by a fault of the harness");
+            counts.add(&its);
+            failure = failure.or(failed);
+        }
+        (counts, failure)
+    });
+    println!("seed {seed}, {:.1} s", begun.elapsed().as_secs_f64());
+    print!("{counts}");
+    match failure {
+        Some(failure) => report(&failure),
+        None => enough(&counts),
+    }
+}
+
+fn seed() -> Option<u64> {
+    match std::env::args().nth(1) {
+        Some(text) => text.parse().ok(),
+        None => Some(SEED),
+    }
+}
+
+/// Every second list, and of the random ones some of the other worker's. Each worker has a hash seed of its own.
+fn work(seed: u64, worker: u64, stop: &AtomicBool) -> (Counts, Option<Failure>) {
+    oracle::set_hash_seed(seed.wrapping_mul(2).wrapping_add(worker));
+    let mut counts = Counts::default();
+    for (n, task) in (0..).zip(tasks(seed)) {
+        if stop.load(Ordering::Relaxed) {
+            break;
+        }
+        if n % 2 != worker && !task.twice {
+            continue;
+        }
+        *counts.lists.entry(task.family).or_default() += 1;
+        if let Err(found) = compare::<Library>(&task.list, &mut counts) {
+            stop.store(true, Ordering::Relaxed);
+            return (counts, Some((task, found)));
+        }
+    }
+    (counts, None)
+}
+
+fn tasks(seed: u64) -> impl Iterator<Item = Task> {
+    let random = move |family, n| Random::of(seed, family, n);
+    let once = |family| move |list| Task { family, twice: false, list };
+    let grown_tasks =
+        (0..GROWN).map(move |n| Task { family: "random growth", twice: n % TWICE == 0, list: grown(random(1, n)) });
+    let damaged_tasks = (0..DAMAGED).map(move |n| {
+        let list = damaged(grown(random(2, n)), random(3, n));
+        Task { family: "damaged", twice: n % TWICE == 0, list }
+    });
+    (limits().into_iter().map(once("limits")))
+        .chain(shorts().map(once("short")))
+        .chain(grown_tasks)
+        .chain(damaged_tasks)
+}
+
+fn report((task, found): &Failure) -> ExitCode {
+    println!("\nA difference that docs/DIFFERENCES.md doesn't name, in a list of the family '{}'.", task.family);
+    println!("{found}");
+    let (list, found) = shrink::<Library>(&task.list, found);
+    println!("\nThe shortest list found:\n{}\n{found}", notation::written(&list));
+    println!("\nIts records:\n{}", notation::records(&list));
+    ExitCode::FAILURE
+}
+
+/// Fails a run that compared too little.
+fn enough(counts: &Counts) -> ExitCode {
+    let mut good = counts.calls() >= CALLS_LEAST;
+    for number in 1..=12 {
+        let tried = counts.tried_of(number);
+        if tried < TRIED_LEAST {
+            println!("refusal {number} was given to the Rust {tried} times only, not {TRIED_LEAST}");
+            good = false;
+        }
+    }
+    println!("{}", if good { "no other difference" } else { "too little was compared" });
+    if good { ExitCode::SUCCESS } else { ExitCode::FAILURE }
+}

@@ -1,0 +1,293 @@
+//! One list of calls on both sides, compared after each call.
+
+use std::fmt;
+
+use committer::Call;
+
+use crate::counts::Counts;
+use crate::known::{self, Known, Strict, Tried};
+use crate::library::Side;
+use crate::rules::{Due, due};
+use crate::rust::Rust;
+use crate::view::{Answer, Refused, State, Told, View};
+
+/// Calls on tables of so many places, from zeroed tables on.
+#[derive(Clone, Debug, PartialEq, Eq)]
+pub struct List {
+    pub places: usize,
+    pub calls: Vec<Call>,
+}
+
+/// A difference that no entry names.
+#[derive(Clone, Debug, PartialEq, Eq)]
+pub struct Difference {
+    /// which call shows it
+    pub at: usize,
+    pub kind: Kind,
+    pub text: String,
+}
+
+/// A shorter list shows the same difference if it has the same kind.
+#[derive(Clone, Copy, Debug, PartialEq, Eq)]
+pub enum Kind {
+    /// both took the call and answer otherwise
+    Answer,
+    State,
+    Points,
+    /// refused with another number than document 01's, or not refused
+    Rule,
+    /// a refused call changed something
+    Changed,
+    /// refused with this number, and the Rust does what nothing names
+    Refused(u32),
+    /// taken, and the Rust panics or has no such call
+    Taken,
+    /// a start, by the Rust's own assertions
+    Strict,
+}
+
+impl fmt::Display for Difference {
+    fn fmt(&self, f: &mut fmt::Formatter<'_>) -> fmt::Result {
+        write!(f, "call {}: {}", self.at + 1, self.text)
+    }
+}
+
+/// Whether the list goes on.
+enum Next {
+    On,
+    /// the Rust has panicked, as an entry says
+    Ends,
+}
+
+/// Plays a list on both sides.
+pub fn compare<S: Side>(list: &List, counts: &mut Counts) -> Result<(), Difference> {
+    let mut pair = Pair::<S>::new(list);
+    for (at, call) in list.calls.iter().enumerate() {
+        match pair.step(call, counts) {
+            Ok(Next::On) => {}
+            Ok(Next::Ends) => break,
+            Err((kind, text)) => return Err(Difference { at, kind, text }),
+        }
+    }
+    Ok(())
+}
+
+type Found = (Kind, String);
+
+struct Pair<'a, S> {
+    places: usize,
+    ours: S,
+    rust: Rust,
+    /// the calls that both took
+    taken: Vec<&'a Call>,
+    /// ours after the last call
+    view: View,
+    fingerprint: u64,
+}
+
+impl<'a, S: Side> Pair<'a, S> {
+    fn new(list: &List) -> Self {
+        let ours = S::new(list.places);
+        let (view, fingerprint) = (ours.view(), ours.fingerprint());
+        Pair { places: list.places, ours, rust: Rust::default(), taken: Vec::new(), view, fingerprint }
+    }
+
+    fn step(&mut self, call: &'a Call, counts: &mut Counts) -> Result<Next, Found> {
+        let answer = self.ours.call(call);
+        self.by_rule(call, &answer)?;
+        let fingerprint = self.ours.fingerprint();
+        let view = self.ours.view();
+        if let Answer::Refused(why) = &answer {
+            counts.call(call, Some(why.number));
+            if why.finished.is_empty() {
+                self.unchanged(call, why, fingerprint, &view)?;
+                self.tried(call, why, counts)?;
+                return Ok(Next::On);
+            }
+        } else {
+            counts.call(call, None);
+            self.strictly(call, counts)?;
+        }
+        self.fingerprint = fingerprint;
+        let before = std::mem::replace(&mut self.view, view);
+        self.both(call, &answer, &before, counts)
+    }
+
+    /// 1 to 12 are given where document 01 asks for them and nowhere else.
+    fn by_rule(&self, call: &Call, answer: &Answer) -> Result<(), Found> {
+        let given = match answer {
+            Answer::Refused(why) if why.number <= 12 => Due::Number(why.number),
+            Answer::Unsupported => return Ok(()),
+            _ => Due::None,
+        };
+        let due = due(call, &self.view, self.places);
+        if given == due {
+            return Ok(());
+        }
+        Err((Kind::Rule, format!("{}: {}; by document 01: {due:?}", name(call), answer_text(answer))))
+    }
+
+    /// A refused call leaves every word as it was.
+    fn unchanged(&self, call: &Call, why: &Refused, fingerprint: u64, view: &View) -> Result<(), Found> {
+        if fingerprint == self.fingerprint && *view == self.view {
+            return Ok(());
+        }
+        Err((Kind::Changed, format!("{} was refused with {} and changed something", name(call), why.number)))
+    }
+
+    /// Gives a refused call to an oracle of its own, in the state that both are in.
+    fn tried(&self, call: &Call, why: &Refused, counts: &mut Counts) -> Result<(), Found> {
+        let mut second = Rust::after(self.taken.iter().copied());
+        let held = self.view.points.len();
+        let told = second.call(call);
+        let added = second.view().points.len().saturating_sub(held);
+        let tried = Tried { refused: why, call, before: &self.view, told: &told, added, places: self.places };
+        let conflict = Told::Answer(Answer::Refused(why.clone()));
+        match tried.known() {
+            Some(known) => counts.tried(why.number, known),
+            // the Rust refuses a history conflict too
+            None if why.number == 13 && told == conflict => counts.tried(13, Known::Row(13)),
+            None => {
+                let text = format!("{} is refused with {}; the Rust: {}", name(call), why.number, told_text(&told));
+                return Err((Kind::Refused(why.number), text));
+            }
+        }
+        match call {
+            Call::Start(with) if why.number == 1 && known::fits_types(with) => self.strictly(call, counts),
+            _ => Ok(()),
+        }
+    }
+
+    /// A start once more, on an oracle that asserts what the Rust asserts of peers and genesis.
+    fn strictly(&self, call: &Call, counts: &mut Counts) -> Result<(), Found> {
+        let Call::Start(with) = call else {
+            return Ok(());
+        };
+        let told = Rust::strict().call(call);
+        match known::strict_start(with, &told) {
+            Strict::Named(known) => counts.met(known),
+            Strict::Same => {}
+            Strict::Unnamed => {
+                return Err((Kind::Strict, format!("start, by the Rust's assertions: {}", told_text(&told))));
+            }
+        }
+        Ok(())
+    }
+
+    /// A call that changed something, on the Rust, and what both then hold.
+    fn both(&mut self, call: &'a Call, answer: &Answer, before: &View, counts: &mut Counts) -> Result<Next, Found> {
+        if *answer == Answer::Unsupported {
+            return Ok(Next::On);
+        }
+        let told = self.rust.call(call);
+        if let Answer::Refused(why) = answer {
+            return self.finished_before(call, why, before, &told, counts);
+        }
+        if told != Told::Answer(answer.clone()) {
+            return match (known::taken(call, &told), &told) {
+                (Some(known), _) => {
+                    counts.met(known);
+                    Ok(Next::Ends)
+                }
+                (None, Told::Answer(_)) => {
+                    let text = format!("{}: {}; the Rust: {}", name(call), answer_text(answer), told_text(&told));
+                    Err((Kind::Answer, text))
+                }
+                (None, _) => Err((Kind::Taken, format!("{} is taken; the Rust: {}", name(call), told_text(&told)))),
+            };
+        }
+        if let Answer::Anchors(anchors) = answer {
+            counts.anchors += anchors.len() as u64;
+        }
+        self.taken.push(call);
+        self.same(call, counts)
+    }
+
+    /// A commit that is refused after some anchors: a conflict leaves the same in both, else the Rust has panicked.
+    fn finished_before(
+        &mut self,
+        call: &'a Call,
+        why: &Refused,
+        before: &View,
+        told: &Told,
+        counts: &mut Counts,
+    ) -> Result<Next, Found> {
+        let conflict = Refused { finished: Vec::new(), ..why.clone() };
+        if why.number == 13 && *told == Told::Answer(Answer::Refused(conflict)) {
+            counts.tried(13, Known::Entry(4));
+            self.taken.push(call);
+            return self.same(call, counts);
+        }
+        match (Tried { refused: why, call, before, told, added: 0, places: self.places }).known() {
+            Some(known) => {
+                counts.tried(why.number, known);
+                Ok(Next::Ends)
+            }
+            None => {
+                let text = format!("{} is refused with {}; the Rust: {}", name(call), why.number, told_text(told));
+                Err((Kind::Refused(why.number), text))
+            }
+        }
+    }
+
+    /// Both hold the same.
+    fn same(&self, call: &Call, counts: &mut Counts) -> Result<Next, Found> {
+        let mut rust = self.rust.view();
+        if keeps_last_proof(self.view.state.as_ref(), &mut rust) && matches!(call, Call::Drop(_)) {
+            counts.met(Known::Entry(3));
+        }
+        if self.view.state != rust.state {
+            let text = format!("after {}: {:?}; the Rust: {:?}", name(call), self.view.state, rust.state);
+            return Err((Kind::State, text));
+        }
+        counts.states += 1;
+        counts.points += self.view.points.len() as u64;
+        if self.view.points == rust.points {
+            return Ok(Next::On);
+        }
+        Err((Kind::Points, format!("after {}: {}", name(call), points_text(&self.view, &rust))))
+    }
+}
+
+/// Entry 3: the Rust forgets a last proof below the bottom. Where it has, it is taken as kept.
+fn keeps_last_proof(ours: Option<&State>, rust: &mut View) -> bool {
+    let (Some(ours), Some(rust)) = (ours, &mut rust.state) else {
+        return false;
+    };
+    let forgotten = rust.last_proof.is_none() && ours.last_proof.is_some_and(|proof| proof < rust.bottom);
+    if forgotten {
+        rust.last_proof = ours.last_proof;
+    }
+    forgotten
+}
+
+fn name(call: &Call) -> &'static str {
+    crate::counts::kind(call)
+}
+
+fn answer_text(answer: &Answer) -> String {
+    format!("{answer:?}")
+}
+
+fn told_text(told: &Told) -> String {
+    match told {
+        Told::Answer(answer) => answer_text(answer),
+        Told::Panicked(message) => format!("panics: {message}"),
+        Told::NoCall(why) => format!("no such call: {why}"),
+    }
+}
+
+/// The first point that differs.
+fn points_text(ours: &View, rust: &View) -> String {
+    let first = ours.points.iter().zip(&rust.points).find(|(ours, rust)| ours != rust);
+    match first {
+        Some((ours, rust)) => format!("{}; the Rust: {}", point_text(ours), point_text(rust)),
+        None => format!("{} points; the Rust: {}", ours.points.len(), rust.points.len()),
+    }
+}
+
+fn point_text(point: &crate::view::Point) -> String {
+    let id = &point.id;
+    let digest: String = id.digest.iter().map(|byte| format!("{byte:02x}")).collect();
+    format!("{}.{}.{digest} status {} word {:04x}", id.round, id.author, point.status, point.word)
+}

@@ -1,0 +1,141 @@
+//! What a run has done, so that an empty comparison shows.
+
+use std::collections::BTreeMap;
+use std::fmt;
+
+use committer::Call;
+
+use crate::known::{ENTRIES, Known, ROWS, row_is_entry};
+
+#[derive(Clone, Debug, Default)]
+pub struct Counts {
+    /// lists of each family
+    pub lists: BTreeMap<&'static str, u64>,
+    /// by kind: calls, and those refused
+    pub kinds: BTreeMap<&'static str, [u64; 2]>,
+    pub refusals: BTreeMap<u32, u64>,
+    /// refused calls that the Rust was given, by number and by what names the Rust's doing
+    pub tried: BTreeMap<(u32, Known), u64>,
+    /// other calls where the Rust did something else, by what names it
+    pub known: BTreeMap<Known, u64>,
+    /// pairs of points, and pairs of states, that were compared
+    pub points: u64,
+    pub states: u64,
+    /// anchor records compared
+    pub anchors: u64,
+}
+
+impl Counts {
+    pub fn calls(&self) -> u64 {
+        self.kinds.values().map(|counts| counts[0]).sum()
+    }
+
+    pub fn call(&mut self, call: &Call, refused: Option<u32>) {
+        let counts = self.kinds.entry(kind(call)).or_default();
+        counts[0] += 1;
+        if let Some(number) = refused {
+            counts[1] += 1;
+            *self.refusals.entry(number).or_default() += 1;
+        }
+    }
+
+    pub fn tried(&mut self, number: u32, known: Known) {
+        *self.tried.entry((number, known)).or_default() += 1;
+    }
+
+    /// How many calls refused with a number the Rust was given.
+    pub fn tried_of(&self, number: u32) -> u64 {
+        self.tried.iter().filter(|((of, _), _)| *of == number).map(|(_, times)| times).sum()
+    }
+
+    pub fn met(&mut self, known: Known) {
+        *self.known.entry(known).or_default() += 1;
+    }
+
+    pub fn add(&mut self, other: &Counts) {
+        for (family, lists) in &other.lists {
+            *self.lists.entry(family).or_default() += lists;
+        }
+        for (kind, [calls, refused]) in &other.kinds {
+            let counts = self.kinds.entry(kind).or_default();
+            counts[0] += calls;
+            counts[1] += refused;
+        }
+        for (number, times) in &other.refusals {
+            *self.refusals.entry(*number).or_default() += times;
+        }
+        for (tried, times) in &other.tried {
+            *self.tried.entry(*tried).or_default() += times;
+        }
+        for (known, times) in &other.known {
+            *self.known.entry(*known).or_default() += times;
+        }
+        self.points += other.points;
+        self.states += other.states;
+        self.anchors += other.anchors;
+    }
+
+    fn times(&self, known: Known) -> u64 {
+        let tried = self.tried.iter().filter(|((_, named), _)| *named == known).map(|(_, times)| times);
+        tried.chain(self.known.get(&known)).sum()
+    }
+}
+
+pub fn kind(call: &Call) -> &'static str {
+    match call {
+        Call::Start(_) => "start",
+        Call::Round { .. } => "round",
+        Call::Name(_) => "name",
+        Call::Resolve(..) => "resolve",
+        Call::Certify(_) => "certify",
+        Call::Commit(_) => "commit",
+        Call::Remove { .. } => "remove",
+        Call::Drop(_) => "drop",
+        Call::Gap => "gap question",
+        Call::Reset => "reset",
+        Call::Outlook(_) => "outlook",
+    }
+}
+
+impl fmt::Display for Counts {
+    fn fmt(&self, f: &mut fmt::Formatter<'_>) -> fmt::Result {
+        for (family, lists) in &self.lists {
+            writeln!(f, "lists, {family}: {lists}")?;
+        }
+        writeln!(f, "calls: {}", self.calls())?;
+        for (kind, [calls, refused]) in &self.kinds {
+            writeln!(f, "  {kind}: {calls}, of them refused {refused}")?;
+        }
+        writeln!(f, "compared: {} states, {} points, {} anchor records", self.states, self.points, self.anchors)?;
+        writeln!(f, "refusals:")?;
+        for (number, times) in &self.refusals {
+            write!(f, "  {number}: {times}, given to the Rust {}", self.tried_of(*number))?;
+            for ((_, known), times) in self.tried.iter().filter(|((of, _), _)| of == number) {
+                write!(f, "; {known} {times}")?;
+            }
+            writeln!(f)?;
+        }
+        writeln!(f, "differences of docs/DIFFERENCES.md:")?;
+        for (n, title) in (1..).zip(ENTRIES) {
+            writeln!(f, "  entry {n}, {title}: {}", Met(self.times(Known::Entry(n))))?;
+        }
+        for n in 1..=ROWS {
+            match row_is_entry(n) {
+                Some(entry) => writeln!(f, "  row {n}: as entry {entry}, {}", Met(self.tried_of(n)))?,
+                None => writeln!(f, "  row {n}: {}", Met(self.times(Known::Row(n))))?,
+            }
+        }
+        Ok(())
+    }
+}
+
+struct Met(u64);
+
+impl fmt::Display for Met {
+    fn fmt(&self, f: &mut fmt::Formatter<'_>) -> fmt::Result {
+        match self.0 {
+            0 => write!(f, "not met"),
+            times => write!(f, "met {times} times"),
+        }
+    }
+}

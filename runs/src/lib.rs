@@ -1,0 +1,14 @@
+//! The proved committer beside the unchanged Rust. README.md says what is compared and how.
+
+pub mod compare;
+pub mod counts;
+pub mod known;
+pub mod library;
+pub mod lists;
+pub mod notation;
+pub mod random;
+pub mod rules;
+pub mod rust;
+pub mod sample;
+pub mod shrink;
+pub mod view;

@@ -1,0 +1,235 @@
+//! The harness finds faults: a side with one wrong height, flag, answer, refusal or word is caught, and the list that shows it is short.
+
+use std::marker::PhantomData;
+
+use committer::Call;
+use runs::compare::{Kind, List, compare};
+use runs::counts::Counts;
+use runs::library::{Library, Side};
+use runs::lists::grown;
+use runs::notation;
+use runs::random::Random;
+use runs::shrink::shrink;
+use runs::view::{Answer, Refused, View};
+
+/// What is wrong with a side.
+trait Fault {
+    fn answer(_call: &Call, _before: &View, answer: Answer) -> Answer {
+        answer
+    }
+
+    fn view(_view: &mut View) {}
+
+    /// added to the fingerprint after a call with this answer
+    fn written(_answer: &Answer) -> u64 {
+        0
+    }
+}
+
+/// The library with a fault.
+struct Wrong<F> {
+    library: Library,
+    written: u64,
+    fault: PhantomData<F>,
+}
+
+impl<F: Fault> Side for Wrong<F> {
+    fn new(places: usize) -> Self {
+        Wrong { library: Library::new(places), written: 0, fault: PhantomData }
+    }
+
+    fn call(&mut self, call: &Call) -> Answer {
+        let before = self.view();
+        let answer = F::answer(call, &before, self.library.call(call));
+        self.written += F::written(&answer);
+        answer
+    }
+
+    fn view(&self) -> View {
+        let mut view = self.library.view();
+        F::view(&mut view);
+        view
+    }
+
+    fn fingerprint(&self) -> u64 {
+        self.library.fingerprint() ^ self.written
+    }
+}
+
+fn lists() -> impl Iterator<Item = List> {
+    (0..400).map(|n| grown(Random::of(7, 1, n)))
+}
+
+/// The shortest list that shows the fault, and its kind.
+fn caught<F: Fault>() -> (List, Kind) {
+    let (list, found) = lists()
+        .find_map(|list| {
+            let found = compare::<Wrong<F>>(&list, &mut Counts::default()).err()?;
+            Some((list, found))
+        })
+        .expect("the fault is caught");
+    let (short, found) = shrink::<Wrong<F>>(&list, &found);
+    assert!(short.calls.len() <= list.calls.len());
+    assert_eq!(found.at + 1, short.calls.len(), "the difference shows at the last call");
+    (short, found.kind)
+}
+
+fn calls<F: Fault>() -> (usize, Kind) {
+    let (list, kind) = caught::<F>();
+    (list.calls.len(), kind)
+}
+
+#[test]
+fn the_library_passes() {
+    let mut counts = Counts::default();
+    for list in lists().take(100) {
+        compare::<Library>(&list, &mut counts).unwrap_or_else(|found| panic!("{found}\n{}", notation::written(&list)));
+    }
+    assert!(counts.points > 10_000 && counts.calls() > 5_000, "{counts}");
+}
+
+/// One too high below a top.
+struct Height;
+
+impl Fault for Height {
+    fn view(view: &mut View) {
+        for point in &mut view.points {
+            if point.word & 0x8fff > 0 && point.word & 0x8000 == 0 {
+                point.word += 1;
+            }
+        }
+    }
+}
+
+#[test]
+fn a_height_is_caught() {
+    // start, round, two names, a resolution with one link, a certificate
+    let (list, kind) = caught::<Height>();
+    assert_eq!((list.calls.len(), kind), (6, Kind::Points), "{}", notation::written(&list));
+    let links: usize = (list.calls.iter())
+        .map(|call| match call {
+            Call::Resolve(_, info) => info.includes.len() + info.witness.len(),
+            _ => 0,
+        })
+        .sum();
+    assert_eq!(links, 1, "{}", notation::written(&list));
+}
+
+/// Not set on invalid points.
+struct Completed;
+
+impl Fault for Completed {
+    fn view(view: &mut View) {
+        for point in view.points.iter_mut().filter(|point| point.status == 3) {
+            point.word &= !0x2000;
+        }
+    }
+}
+
+#[test]
+fn a_flag_is_caught() {
+    assert_eq!(calls::<Completed>(), (3, Kind::Points));
+}
+
+/// A drop above the top says yes.
+struct DropSays;
+
+impl Fault for DropSays {
+    fn answer(call: &Call, _: &View, answer: Answer) -> Answer {
+        match (call, answer) {
+            (Call::Drop(_), Answer::Said(_)) => Answer::Said(true),
+            (_, answer) => answer,
+        }
+    }
+}
+
+#[test]
+fn an_answer_is_caught() {
+    assert_eq!(calls::<DropSays>(), (2, Kind::Answer));
+}
+
+/// The gap flag after a drop is past the question.
+struct Gap;
+
+impl Fault for Gap {
+    fn view(view: &mut View) {
+        if let Some(state) = &mut view.state {
+            state.emit_first_after_gap = state.emit_first_after_gap.map(|_| true);
+        }
+    }
+}
+
+#[test]
+fn a_state_is_caught() {
+    let (calls, kind) = calls::<Gap>();
+    assert!(calls <= 2, "{calls}");
+    assert_eq!(kind, Kind::State);
+}
+
+/// The bottom's used mark is lost.
+struct Used;
+
+impl Fault for Used {
+    fn view(view: &mut View) {
+        if let Some(state) = &mut view.state {
+            state.rounds[0].used = None;
+        }
+    }
+}
+
+#[test]
+fn a_used_mark_is_caught() {
+    assert_eq!(calls::<Used>(), (1, Kind::State));
+}
+
+fn refused(number: u32) -> Answer {
+    Answer::Refused(Refused { number, round: 0, finished: Vec::new() })
+}
+
+/// 8 for the fourth digest already. The Rust takes it, as it takes a fifth: only document 01's rule tells.
+struct Fourth;
+
+impl Fault for Fourth {
+    fn answer(call: &Call, before: &View, answer: Answer) -> Answer {
+        let versions = |round, author| {
+            before.points.iter().filter(|point| point.id.round == round && point.id.author == author).count()
+        };
+        match call {
+            Call::Name(id) if answer == Answer::Done && versions(id.round, id.author) == 3 => refused(8),
+            _ => answer,
+        }
+    }
+}
+
+#[test]
+fn a_wrong_refusal_is_caught() {
+    assert_eq!(calls::<Fourth>(), (5, Kind::Rule));
+}
+
+/// 10 is not given.
+struct Twice;
+
+impl Fault for Twice {
+    fn answer(_: &Call, _: &View, answer: Answer) -> Answer {
+        if answer == refused(10) { Answer::Done } else { answer }
+    }
+}
+
+#[test]
+fn a_missing_refusal_is_caught() {
+    assert_eq!(calls::<Twice>(), (4, Kind::Rule));
+}
+
+/// A word is written where 9 is given.
+struct Writes;
+
+impl Fault for Writes {
+    fn written(answer: &Answer) -> u64 {
+        u64::from(*answer == refused(9))
+    }
+}
+
+#[test]
+fn a_change_by_a_refused_call_is_caught() {
+    assert_eq!(calls::<Writes>(), (2, Kind::Changed));
+}

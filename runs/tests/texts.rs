@@ -1,0 +1,69 @@
+//! What the harness says and writes.
+
+use committer::{Call, PointId, PointInfo, Start, record};
+use runs::compare::List;
+use runs::known::{ENTRIES, ROWS};
+use runs::library::{Library, Side};
+use runs::lists::{digest, link, point, shorts};
+use runs::notation;
+use runs::sample::{held, line, sample};
+
+const DIFFERENCES: &str = include_str!("../../docs/DIFFERENCES.md");
+
+#[test]
+fn entries_are_those_of_the_document() {
+    let headings: Vec<_> = DIFFERENCES.lines().filter_map(|line| line.strip_prefix("### ")).collect();
+    let ours: Vec<_> = (1..).zip(ENTRIES).map(|(n, title)| format!("{n}. {title}")).collect();
+    assert_eq!(headings, ours);
+}
+
+#[test]
+fn rows_are_those_of_the_document() {
+    let rows = DIFFERENCES.lines().filter(|line| line.starts_with("| ") && line.as_bytes()[2].is_ascii_digit());
+    let numbers: Vec<u32> = rows
+        .flat_map(|row| {
+            row[2..].split('|').next().expect("a cell").split(',').map(|n| n.trim().parse().expect("a number"))
+        })
+        .collect();
+    assert_eq!(numbers, (1..=ROWS).collect::<Vec<_>>());
+}
+
+#[test]
+fn lists_are_written_as_in_the_document() {
+    let with = Start { genesis: 10, history_rounds: 1, bottom: 10, peers: 3, used: Some(0), ..Start::default() };
+    let top_proof = PointId { round: 10, author: 0, digest: digest(9) };
+    let info = PointInfo { status: 1, trigger: true, top_proof, includes: vec![link(0, 5)], ..PointInfo::default() };
+    let calls = vec![Call::Start(with), Call::Name(point(11, 1, 7)), Call::Resolve(point(11, 1, 7), info), Call::Gap];
+    let list = List { places: 3, calls };
+    assert_eq!(
+        notation::written(&list),
+        "tables of 3 places\n\
+         start(genesis 10, H 1, dedup 0, bottom 10, peers {0,1}, no gap, used 0)\n\
+         name(11.1.b)\n\
+         resolve(11.1.b, valid, trigger, top 10.0.c, includes 0:a)\n\
+         gap question\n",
+    );
+    let records: Vec<u8> = list.calls.iter().flat_map(record::encode).collect();
+    assert_eq!(notation::records(&list).len(), 2 * records.len());
+}
+
+/// The library's text for the recorded calls is the Rust's.
+#[test]
+fn the_sample_is_what_the_library_answers() {
+    let sample = sample();
+    assert!(sample.records.len() < 60_000);
+    assert!(sample.calls.len() > 300);
+    let mut library = Library::new(20);
+    let mut text = String::new();
+    for call in record::calls(&sample.records) {
+        let call = call.expect("the records are whole");
+        text += &line(&call, &library.call(&call));
+    }
+    text += &held(&library.view());
+    assert_eq!(text, sample.text);
+}
+
+#[test]
+fn short_lists_are_as_many_as_the_readme_says() {
+    assert_eq!(shorts().count(), 30_000 + 28_561 + 2_197);
+}
