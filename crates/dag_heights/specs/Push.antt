@@ -1,6 +1,6 @@
 -- What the code does (models/cert.rs). Cell p + 1 is the place p's; cell 0 takes what no link hands on.
 use Prim.Native.Nat.{ℕ, zero, suc, _+_, _-_, _≤_, _<_, max}
-use mathlib.Core.Path.{_≡_, refl, _∙_}
+use mathlib.Core.Path.{_≡_, refl, sym, _∙_}
 use mathlib.Core.Bool.{Bool}
 use mathlib.Core.List.{List}
 use native.Mathlib.Numerals.{add-one}
@@ -66,6 +66,12 @@ pushed-more a h g r v k x p q e = rw add-one (q ∙ (rw (p, e) refl))
 
 pub pushed-end : (a : ℕ → ℕ) (h g : List ℕ) (v k m : ℕ) → g ≡ pushed a h v k → k ≤ m → m ≤ k → g ≡ pushed a h v m
 pushed-end a h g v k m p b c = let e : k ≡ m = omega arith in rw e at p
+
+-- a height below 2 raises no cell
+pub pushed-low : (a : ℕ → ℕ) (h : List ℕ) (v m : ℕ) → v < 2 → h ≡ pushed a h v m
+unfolding pushed
+pushed-low a h v zero l = refl
+pushed-low a h v (suc k) l = pushed-low a h v k l ∙ sym (raised-same (pushed a h v k) (a k) (v - dist k) (let e : v - dist k ≡ 0 = omega arith in rw e (omega arith)))
 
 pub one-more : (a : ℕ → ℕ) (h s r : List ℕ) (p x o v m : ℕ) → s ≡ raised h p x → x ≡ o → r ≡ pushed a s v m → r ≡ pushedOne a h p o v m
 unfolding pushedOne

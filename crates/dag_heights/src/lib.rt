@@ -24,11 +24,14 @@ fn less(v: u16, d: u16) -> u16
     if d <= v { v - d } else { 0 }
 }
 
-// Hands the height v of place q down its first m links.
+// Hands the height v of place q down its first m links; a height below 2 reaches no place, and then no link is read.
 fn push(cells: &mut [u16], links: &[u64], q: usize, v: u16, m: usize)
     requires { ⌜ (m ≤ 64) × (q * 328 + 328 ≤ length (now links)) ⌝ }
     ensures { λ _. ⌜ now (cells .exit) ≡ pushed (targetAt (now (links .entry)) q) (now (cells .entry)) v m ⌝ }
 {
+    if v < 2 {
+        return;
+    }
     let mut k: usize = 0;
     while k < m {
         let d = (1 + k / 32) as u16;

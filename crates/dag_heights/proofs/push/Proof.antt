@@ -3,7 +3,7 @@ use Prim.Native.Nat.{_≤_, _-_}
 use mathlib.Core.Path.{_≡_, refl, _∙_, ap}
 use native.Mathlib.Omega.{arith}
 use lib.ListN.{length}
-use Rattle.dag_heights.specs.Push.{pushed, pushed-more, pushed-end, pushed-length}
+use Rattle.dag_heights.specs.Push.{pushed, pushed-more, pushed-end, pushed-length, pushed-low}
 use borrow.Author.Needs.{needs}
 use Rattle.dag_heights.proofs.push.Statement.{statement}
 use Rattle.dag_heights.proofs.push.Tie as tie
@@ -14,6 +14,9 @@ Inv-loop cells₀ links q v m k₀ cells k = (k ≤ m) × (cells ≡ pushed (tar
 
 abbrev μ-loop : tie.MeasureT-loop
 μ-loop cells₀ links q v m k₀ cells k = m - k
+
+returns : tie.Need-returns Inv-loop μ-loop
+returns c = pushed-low _ _ _ _ (c .if1 .taken)
 
 loop-holds : tie.Need-loop-holds Inv-loop μ-loop
 unfolding pushed
@@ -58,8 +61,8 @@ loop-again c = (search needs, pushed-more _ _ _ _ _ _ _ (c .before .before .befo
 same-length : tie.Need-same-length Inv-loop μ-loop
 same-length c = ap length (c .before .loop .inv .1) ∙ pushed-length _ _ _ _
 
-returns : tie.Need-returns Inv-loop μ-loop
-returns c = pushed-end _ _ _ _ _ _ (c .before .loop .inv .1) (omega arith) (c .loop-test .left)
+returns-2 : tie.Need-returns-2 Inv-loop μ-loop
+returns-2 c = pushed-end _ _ _ _ _ _ (c .before .loop .inv .1) (omega arith) (c .loop-test .left)
 
 pub push-spec : {M : Type 1} → statement M
 push-spec =
@@ -67,6 +70,7 @@ push-spec =
     (tie.spec
     Inv-loop
     μ-loop
+    returns
     loop-holds
     add-d
     cast-d
@@ -81,4 +85,4 @@ push-spec =
     loop-less
     loop-again
     same-length
-    returns)
+    returns-2)
