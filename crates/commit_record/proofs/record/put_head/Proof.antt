@@ -1,0 +1,56 @@
+use native.Mathlib.Omega.{arith}
+use Rattle.laws.specs.Bytes.{be-length, andThen}
+use Rattle.spec.specs.Records.{id-length}
+use Rattle.commit_record.specs.Record.{headOf}
+use borrow.Author.Needs.{needs}
+use Rattle.commit_record.proofs.record.put_head.Statement.{statement}
+use Rattle.commit_record.proofs.record.put_head.Tie as tie
+
+put-id-requires : tie.Need-put-id-requires
+put-id-requires c κs = search needs
+
+put-id-requires-2 : tie.Need-put-id-requires-2
+put-id-requires-2 c κs = search needs
+
+flag-requires : tie.Need-flag-requires
+flag-requires c κs = search needs
+
+put-u8-requires : tie.Need-put-u8-requires
+put-u8-requires c κs = search needs
+
+wide-requires : tie.Need-wide-requires
+wide-requires c κs = search needs
+
+put-u32-requires : tie.Need-put-u32-requires
+put-u32-requires c κs = search needs
+
+put-u32-requires-2 : tie.Need-put-u32-requires-2
+put-u32-requires-2 c κs = search needs
+
+same-length : tie.Need-same-length
+same-length c = search needs
+
+returns : tie.Need-returns
+unfolding headOf
+returns c = (
+  omega arith,
+  andThen _ _ _ _ _ _ _ 37 (id-length _) (c .before .before .before .before .before .before .before .before .before .before .before .before .before .before .before .before .before .before .before .before .put-id .ensures .0) (c .before .before .before .before .before .before .before .before .before .before .before .before .before .before .before .before .before .before .before .before .put-id .ensures .1)
+      (andThen _ _ _ _ _ _ _ 37 (id-length _) (c .before .before .before .before .before .before .before .before .before .before .before .before .before .before .before .before .put-id2 .ensures .0) (c .before .before .before .before .before .before .before .before .before .before .before .before .before .before .before .before .put-id2 .ensures .1)
+      (andThen _ _ _ _ _ _ _ 1 (be-length 1 _) (c .before .before .before .before .before .before .before .before .before .before .before .put-u8 .ensures .0) (rw (c .before .before .before .before .before .before .before .before .before .before .before .before .flag .ensures) at (c .before .before .before .before .before .before .before .before .before .before .before .put-u8 .ensures .1))
+      (andThen _ _ _ _ _ _ _ 4 (be-length 4 _) (c .before .before .before .before .before .before .put-u32 .ensures .0) (rw (c .before .before .before .before .before .before .before .wide .ensures) at (c .before .before .before .before .before .before .put-u32 .ensures .1))
+      (c .before .before .put-u322 .ensures .1)))),
+)
+
+pub put-head-spec : {M : Type 1} → statement M
+put-head-spec =
+    tie.close
+    (tie.spec
+    put-id-requires
+    put-id-requires-2
+    flag-requires
+    put-u8-requires
+    wide-requires
+    put-u32-requires
+    put-u32-requires-2
+    same-length
+    returns)

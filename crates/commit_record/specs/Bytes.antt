@@ -1,0 +1,78 @@
+-- The bytes of an id, from its place's words (01: parts.rs).
+use Prim.Native.Nat.{ℕ, zero, suc, _+_, _*_, _/_, _%_, _^_, _<_}
+use mathlib.Core.Path.{_≡_, refl, sym, ap, ap₂, _∙_}
+use mathlib.Core.List.{List, [], _∷_, _++_, append-nil, append-assoc}
+use native.Mathlib.Omega.{arith}
+use native.Mathlib.Nat.{add-zero, add-suc, mul-assoc, pow-zero, pow-suc}
+use lib.ListN.{set, getD}
+use Rattle.laws.specs.Bytes.{be, number, written}
+use Rattle.spec.specs.Ids.{Id}
+use Rattle.models.specs.Digest.{Fit, words, digestAt}
+use Rattle.models.specs.Tables.{roundAt, authorAt, digestOf}
+
+-- the id in the keys of place q
+abbrev pub placeId : List ℕ → ℕ → Id
+placeId ks q = record { round = roundAt ks q; author = authorAt ks q; digest = digestOf ks q }
+
+-- one byte
+pub byte-written : (b : List ℕ) (at v : ℕ) → set b at (v % 256) ≡ written b at (be 1 v)
+unfolding written be
+byte-written b at v = refl
+
+-- offsets
+twice : (p : ℕ) → p + 1 + 1 ≡ p + 2
+twice p = omega arith
+
+thrice : (p : ℕ) → p + 1 + 1 + 1 ≡ p + 3
+thrice p = omega arith
+
+-- four bytes
+pub four-written : (b : List ℕ) (at v : ℕ) → set (set (set (set b at (v / 256 / 256 / 256 % 256)) (at + 1) (v / 256 / 256 % 256)) (at + 2) (v / 256 % 256)) (at + 3) (v % 256) ≡ written b at (be 4 v)
+unfolding written be
+four-written b at v = rw (thrice at, twice at) refl
+
+-- eight bytes are the upper four and the lower four
+pub be-halves : (v : ℕ) → be 4 (v / 4294967296) ++ be 4 v ≡ be 8 v
+unfolding be
+be-halves v = rw (quarter v) refl
+  where
+    quarter : (v : ℕ) → v / 4294967296 ≡ v / 256 / 256 / 256 / 256
+    quarter v = omega arith
+
+-- the bytes of a number with n more digits to the base 256
+be-join : (m n a b : ℕ) → b < 256 ^ n → be (m + n) (a * 256 ^ n + b) ≡ be m a ++ be n b
+unfolding be
+be-join m zero a b l = rw (add-zero m, append-nil (be m a)) (ap (be m) (first (256 ^ 0) (pow-zero 256) l))
+  where
+    first : (w : ℕ) → w ≡ 1 → b < w → a * w + b ≡ a
+    first w e k = rw e (omega arith)
+be-join m (suc n) a b l =
+    rw (add-suc m n, be)
+    (ap₂ (λ (x y : ℕ). be (m + n) x ++ (y ∷ [])) (upper (256 ^ suc n) (256 ^ n) (pow-suc 256 n)) (lower (256 ^ suc n) (256 ^ n) (pow-suc 256 n))
+    ∙ (ap (λ (x : List ℕ). x ++ (b % 256 ∷ [])) (be-join m n a (b / 256) (small (256 ^ suc n) (256 ^ n) (pow-suc 256 n) l)) ∙ append-assoc (be m a) (be n (b / 256)) (b % 256 ∷ [])))
+  where
+    times : (w x : ℕ) → w ≡ x * 256 → a * w ≡ a * x * 256
+    times w x e = rw e (sym (mul-assoc a x 256))
+
+    upper : (w x : ℕ) → w ≡ x * 256 → (a * w + b) / 256 ≡ a * x + b / 256
+    upper w x e = let t = times w x e in omega (arith, t)
+
+    lower : (w x : ℕ) → w ≡ x * 256 → (a * w + b) % 256 ≡ b % 256
+    lower w x e = let t = times w x e in omega (arith, t)
+
+    small : (w x : ℕ) → w ≡ x * 256 → b < w → b / 256 < x
+    small w x e k = omega arith
+
+-- a digest's bytes are those of its words
+pub digest-bytes : (t : List ℕ) (p : ℕ) → Fit t → be 8 (getD t (p + 0) 0) ++ (be 8 (getD t (p + 1) 0) ++ (be 8 (getD t (p + 2) 0) ++ be 8 (getD t (p + 3) 0))) ≡ be 32 (digestAt t p)
+unfolding digestAt words number
+digest-bytes t p f = rw (add-zero p, sym (twice p), sym (thrice p)) (sym (whole (getD t p 0) (getD t (p + 1) 0) (getD t (p + 1 + 1) 0) (getD t (p + 1 + 1 + 1) 0) (f (p + 1)) (f (p + 1 + 1)) (f (p + 1 + 1 + 1))))
+  where
+    nothing : (w : ℕ) → 0 * 2 ^ 64 + w ≡ w
+    nothing w = omega arith
+
+    whole : (w x y z : ℕ) → x < 2 ^ 64 → y < 2 ^ 64 → z < 2 ^ 64 → be 32 ((((0 * 2 ^ 64 + w) * 2 ^ 64 + x) * 2 ^ 64 + y) * 2 ^ 64 + z) ≡ be 8 w ++ (be 8 x ++ (be 8 y ++ be 8 z))
+    whole w x y z a b c =
+        be-join 24 8 _ z c
+        ∙ (ap (λ (l : List ℕ). l ++ be 8 z) (be-join 16 8 _ y b ∙ ap (λ (l : List ℕ). l ++ be 8 y) (be-join 8 8 _ x a ∙ ap (λ (k : ℕ). be 8 k ++ be 8 x) (nothing w)))
+        ∙ (append-assoc (be 8 w ++ be 8 x) (be 8 y) (be 8 z) ∙ append-assoc (be 8 w) (be 8 x) (be 8 y ++ be 8 z)))

@@ -1,0 +1,48 @@
+// Origin: dag/commit/mod.rs (dequeue_anchor): the marks of a history, and the state after its anchor.
+ghost use mathlib.Core.Path.{_≡_};
+ghost use Prim.Native.Nat.{_+_, _<_, _≤_};
+ghost use lib.ListN.{length};
+ghost use Rattle.models.specs.Tables.{Inside};
+ghost use Rattle.commit_record.specs.Marks.{Small, marksAll};
+ghost use Rattle.commit_record.specs.After.{afterState};
+use crate::record::in_history;
+use crate::record::is_first_executable;
+use dag_state::state::State;
+use models::cert::Cert;
+
+// Sets the committed bit of each point of the history.
+pub fn mark_all(marks: &[bool; 4096], order: &[u64], certs: &mut [u64], low: usize, high: usize)
+    requires { ⌜ (low ≤ high) × (high ≤ length (now order)) × (length (now certs) ≤ 4096) × Inside (now order) high (length (now certs)) × Small (now order) (now certs) high ⌝ }
+    ensures { λ _. ⌜ now (certs .exit) ≡ marksAll (now (order .entry)) (now (marks .entry)) low (now (certs .entry)) high ⌝ }
+{
+    let mut i = low;
+    while i < high {
+        let q = laws::slot(order[i]);
+        if in_history(marks, certs, q) {
+            let word = Cert(certs[q]);
+            let done = word.set_committed();
+            certs[q] = done.0;
+        }
+        i += 1;
+    }
+}
+
+// The state after an anchor: it and its proof are the last ones, the proof's round is used by its author, and the first executable
+// anchor after a gap uses the gap flag up.
+pub fn after_anchor(s: State, anchor_round: u32, proof_round: u32, author: u32) -> State
+    requires { ⌜ («anchor_round» ≤ 4000000000) × («proof_round» ≤ 4000000000) × (author < 32) ⌝ }
+    ensures { λ r. ⌜ r ≡ afterState s «anchor_round» «proof_round» author ⌝ }
+{
+    let first = is_first_executable(s, anchor_round);
+    let mut next = s;
+    next.last_proof = proof_round + 1;
+    next.last_anchor = anchor_round + 1;
+    let i = (proof_round % 512) as usize;
+    let mut rec = next.rounds[i];
+    rec.used = author + 1;
+    next.rounds[i] = rec;
+    if first {
+        next.gap = 0;
+    }
+    next
+}

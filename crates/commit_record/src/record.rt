@@ -1,0 +1,172 @@
+// Origin: models/output.rs (AnchorData), dag/commit/mod.rs (dequeue_anchor): an anchor's record. `marks` are the places that the anchor
+// needs, and positions low to high - 1 of the order are looked at.
+ghost use mathlib.Core.Path.{_≡_};
+ghost use mathlib.Core.List.{map};
+ghost use Prim.Native.Nat.{_+_, _*_, _<_, _≤_};
+ghost use lib.ListN.{length};
+ghost use Rattle.laws.specs.Bytes.{written};
+ghost use Rattle.laws.specs.Lists.{joined};
+ghost use Rattle.spec.specs.Ids.{idBytes};
+ghost use Rattle.models.specs.Tables.{Inside};
+ghost use Rattle.commit_record.specs.Bytes.{placeId};
+ghost use Rattle.commit_record.specs.Picked.{chosen, picked};
+ghost use Rattle.commit_record.specs.Record.{flagOf, headOf, recordOf, executes, isFirstOf, previousOf};
+use crate::bytes::put_id;
+use crate::bytes::put_u8;
+use crate::bytes::put_u32;
+use dag_state::state::State;
+use models::cert::Cert;
+use models::parts::Round;
+
+// Whether place q is of the history: needed and not committed.
+pub fn in_history(marks: &[bool; 4096], certs: &[u64], q: usize) -> bool
+    requires { ⌜ (q < 4096) × (q < length (now certs)) ⌝ }
+    ensures { λ r. ⌜ r ≡ chosen (now (marks .entry)) (now (certs .entry)) q ⌝ }
+{
+    if marks[q] {
+        let word = Cert(certs[q]);
+        return !word.is_committed();
+    }
+    false
+}
+
+// How many points the history has.
+pub fn count_points(
+    marks: &[bool; 4096],
+    order: &[u64],
+    certs: &[u64],
+    low: usize,
+    high: usize,
+) -> usize
+    requires { ⌜ (low ≤ high) × (high ≤ length (now order)) × (length (now certs) ≤ 4096) × Inside (now order) high (length (now certs)) ⌝ }
+    ensures { λ r. ⌜ r ≡ length (picked (now (order .entry)) (chosen (now (marks .entry)) (now (certs .entry))) low high) ⌝ }
+{
+    let mut n: usize = 0;
+    let mut i = low;
+    while i < high {
+        let q = laws::slot(order[i]);
+        if in_history(marks, certs, q) {
+            n += 1;
+        }
+        i += 1;
+    }
+    n
+}
+
+// The ids of the history, by rising position.
+pub fn put_points(
+    b: &mut [u8],
+    at: usize,
+    keys: &[u64],
+    marks: &[bool; 4096],
+    order: &[u64],
+    certs: &[u64],
+    low: usize,
+    high: usize,
+) -> usize
+    requires { ⌜ (low ≤ high) × (high ≤ length (now order)) × (length (now certs) ≤ 4096) × (length (now certs) * 8 ≤ length (now keys)) × Inside (now order) high (length (now certs)) ⌝ }
+    requires { ⌜ at + length (picked (now order) (chosen (now marks) (now certs)) low high) * 37 ≤ length (now b) ⌝ }
+    ensures { λ r. ⌜ (r ≡ at + length (picked (now (order .entry)) (chosen (now (marks .entry)) (now (certs .entry))) low high) * 37) × (now (b .exit) ≡ written (now (b .entry)) at (joined idBytes (map (placeId (now (keys .entry))) (picked (now (order .entry)) (chosen (now (marks .entry)) (now (certs .entry))) low high)))) ⌝ }
+{
+    let mut end = at;
+    let mut i = low;
+    while i < high {
+        let q = laws::slot(order[i]);
+        if in_history(marks, certs, q) {
+            end = put_id(b, end, keys, q);
+        }
+        i += 1;
+    }
+    end
+}
+
+fn flag(x: bool) -> u64
+    ensures { λ r. ⌜ r ≡ flagOf x ⌝ }
+{
+    if x { 1 } else { 0 }
+}
+
+fn wide(x: u32) -> u64
+    ensures { λ r. ⌜ r ≡ x ⌝ }
+{
+    x as u64
+}
+
+// What stands before the points' ids: 83 bytes.
+pub fn put_head(
+    b: &mut [u8],
+    at: usize,
+    keys: &[u64],
+    anchor: usize,
+    proof: usize,
+    executable: bool,
+    previous: u32,
+    count: usize,
+) -> usize
+    requires { ⌜ (at + 83 ≤ length (now b)) × (anchor * 8 + 8 ≤ length (now keys)) × (proof * 8 + 8 ≤ length (now keys)) ⌝ }
+    ensures { λ r. ⌜ (r ≡ at + 83) × (now (b .exit) ≡ written (now (b .entry)) at (headOf (now (keys .entry)) anchor proof executable previous count)) ⌝ }
+{
+    let a1 = put_id(b, at, keys, anchor);
+    let a2 = put_id(b, a1, keys, proof);
+    let a3 = put_u8(b, a2, flag(executable));
+    let a4 = put_u32(b, a3, wide(previous));
+    put_u32(b, a4, count as u64)
+}
+
+// The whole record, of `count` points.
+pub fn put_record(
+    b: &mut [u8],
+    at: usize,
+    keys: &[u64],
+    marks: &[bool; 4096],
+    order: &[u64],
+    certs: &[u64],
+    low: usize,
+    high: usize,
+    anchor: usize,
+    proof: usize,
+    executable: bool,
+    previous: u32,
+    count: usize,
+) -> usize
+    requires { ⌜ (low ≤ high) × (high ≤ length (now order)) × (length (now certs) ≤ 4096) × (length (now certs) * 8 ≤ length (now keys)) × Inside (now order) high (length (now certs)) ⌝ }
+    requires { ⌜ (anchor < length (now certs)) × (proof < length (now certs)) × (count ≡ length (picked (now order) (chosen (now marks) (now certs)) low high)) × (at + 83 + count * 37 ≤ length (now b)) ⌝ }
+    ensures { λ r. ⌜ (r ≡ at + 83 + count * 37) × (now (b .exit) ≡ written (now (b .entry)) at (recordOf (now (keys .entry)) anchor proof executable previous (picked (now (order .entry)) (chosen (now (marks .entry)) (now (certs .entry))) low high))) ⌝ }
+{
+    let next = put_head(b, at, keys, anchor, proof, executable, previous, count);
+    put_points(b, next, keys, marks, order, certs, low, high)
+}
+
+// Whether an anchor of this round is executable.
+pub fn executable(s: State, round: u32) -> bool
+    ensures { λ r. ⌜ r ≡ executes s round ⌝ }
+{
+    let first = s.first_executable;
+    first.0 <= round
+}
+
+// Whether it is the first executable one after a gap, once the gap question was put.
+pub fn is_first_executable(s: State, round: u32) -> bool
+    ensures { λ r. ⌜ r ≡ isFirstOf s round ⌝ }
+{
+    if s.gap <= 1 {
+        return false;
+    }
+    executable(s, round)
+}
+
+// The round of the anchor before the one of this round, whose top proof stands in round prev_proof; 0 for none.
+pub fn previous_anchor(s: State, round: u32, prev_proof: u32) -> u32
+    ensures { λ r. ⌜ r ≡ previousOf s round «prev_proof» ⌝ }
+{
+    let genesis = s.genesis;
+    let below = Round(prev_proof).prev();
+    let r = below.0;
+    if r <= genesis.0 {
+        return 0;
+    }
+    if is_first_executable(s, round) {
+        return 0;
+    }
+    r
+}
