@@ -92,18 +92,27 @@ pub step-is : (l m : Line) (s : State) → l ≡ m → _≡_ {A = Step} (record 
 step-is l m s e = rw e refl
 
 -- a call that is made
-pub plays-made : (k j : Kind) (b c : Board) (f : List ℕ) (a : Answer) (t : Step) → k ≡ j → isMade j ≡ true → leaves a c ≡ outcomeOf j b f
+pub plays-made : (j : Kind) (b c : Board) (f : List ℕ) (a : Answer) (t : Step) → isMade j ≡ true → leaves a c ≡ outcomeOf j b f
     → t ≡ record { line = lineSaid (yesOf j) (noOf j) (answerOf a); state = c .state }
-    → Plays k b f (t .line) (board (t .state) (c .keys) (c .links) (c .certs) (c .order))
+    → Plays j b f (t .line) (board (t .state) (c .keys) (c .links) (c .certs) (c .order))
 unfolding Plays leaves
-plays-made k j b c f a t e m h g =
-    rw (e, g)
+plays-made j b c f a t m h g =
+    rw g
     (λ _. (ap (λ (o : calls.Outcome). o .store) h, ap (λ (o : calls.Outcome). lineSaid (yesOf j) (noOf j) (o .answer)) h), λ n. absurd (clash m n))
+
+-- a record of that kind, its fields also others that make the same call
+pub plays-at : (k j : Kind) (b c : Board) (f g : List ℕ) (x : Line) → k ≡ j → callBy j g [] ≡ callBy j f [] → Plays j b g x c → Plays k b f x c
+unfolding Plays
+plays-at k j b c f g x e h p = rw (e, sym h) p
 
 -- one that isn't
 pub plays-idle : (k j : Kind) (b : Board) (f : List ℕ) → k ≡ j → isMade j ≡ false → Plays k b f (idle j) b
 unfolding Plays
 plays-idle k j b f e m = rw e (λ n. absurd (clash n m), λ _. (refl, refl))
+
+pub plays-unmade : (k j : Kind) (b : Board) (f : List ℕ) (t : Step) → k ≡ j → isMade j ≡ false → t ≡ record { line = idle j; state = b .state }
+    → Plays k b f (t .line) (board (t .state) (b .keys) (b .links) (b .certs) (b .order))
+plays-unmade k j b f t e m g = rw g (plays-idle k j b f e m)
 
 -- the record that was found
 pub plays-head : (bs : List ℕ) (r h : Record) (b c : Board) (x : Line) → r ≡ h → Plays (r .kind) b (part bs (r .from) (r .end)) x c → Plays (h .kind) b (part bs (h .from) (h .end)) x c

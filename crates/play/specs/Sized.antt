@@ -6,9 +6,9 @@ use mathlib.Core.Bool.{true}
 use native.Mathlib.Omega.{arith}
 use lib.ListN.{length}
 use Rattle.laws.specs.Test.{byTest, cond-yes, cond-no}
-use Rattle.trace.specs.Head.{known, fits, sizeOf, linksIn, part, headOk, headAt, restAt, head-known, fits-length, links-few}
+use Rattle.trace.specs.Head.{known, fits, sizeOf, linksIn, part, headOk, headAt, restAt, whole-short, head-cut, head-known, fits-length, links-few}
 use Rattle.trace.specs.declared.head.Kind.{Kind}
-use Rattle.trace.specs.declared.head.Kind.the-variants.{Start, Round, Name, Resolve, Certify, Drop}
+use Rattle.trace.specs.declared.head.Kind.the-variants.{Start, Round, Name, Resolve, Certify, Drop, Broken}
 use Rattle.trace.specs.declared.head.Record.{Record}
 
 -- fields of a kind that is known have its length, at most 4,094
@@ -53,6 +53,10 @@ module _ (k : Kind) (f : List ℕ) (s : Sized k f) where
   pub resolve-few : k ≡ Resolve → linksIn f ≤ 121
   unfolding Sized
   resolve-few e = let t = s (ap known e) in links-few f (ap (λ (i : Kind). fits i f) (sym e) ∙ t .0) (t .1)
+
+-- beyond the bytes there is none
+pub head-beyond : (bs : List ℕ) (p : ℕ) → length bs < p → _≡_ {A = Record} (record { kind = Broken; from = p; end = p }) (headAt bs p)
+head-beyond bs p l = head-cut bs p _ refl (sym (whole-short bs p (omega arith)))
 
 -- a record ends at its offset or after it
 pub head-after : (bs : List ℕ) (p : ℕ) (r : Record) → r ≡ headAt bs p → p ≤ r .end

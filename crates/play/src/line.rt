@@ -58,3 +58,10 @@ pub fn step_of(o: Outcome, yes: Line, no: Line) -> Step
     let line = line_of(answer, yes, no);
     Step { line, state }
 }
+
+// The line of a call that isn't made; the state stays.
+pub fn unmade(line: Line, state: State) -> Step
+    ensures { λ r. ⌜ r ≡ record { line = line; state = state } ⌝ }
+{
+    Step { line, state }
+}

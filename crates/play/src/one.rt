@@ -9,15 +9,15 @@ ghost use Rattle.play.specs.Sized.{Sized};
 ghost use Rattle.play.specs.Plays.{Plays};
 use crate::line::Line;
 use crate::line::Step;
-use crate::line::step_of;
+use crate::line::unmade;
 use crate::points::play_certify;
 use crate::points::play_name;
 use crate::points::play_resolve;
 use crate::rounds::play_drop;
+use crate::rounds::play_gap;
+use crate::rounds::play_reset;
 use crate::rounds::play_round;
 use crate::rounds::play_start;
-use commit_rounds::is_once_after_gap;
-use commit_start::reset;
 use dag_state::state::State;
 use trace::head::Kind;
 use trace::head::record_at;
@@ -43,58 +43,22 @@ fn play_fields(
     ensures { λ r. ⌜ Plays kind (board s (now (keys .entry)) (now (links .entry)) (now (certs .entry)) (now (order .entry))) (now (f .entry)) (r .line) (board (r .state) (now (keys .exit)) (now (links .exit)) (now (certs .exit)) (now (order .exit))) ⌝ }
 {
     match kind {
-        Kind::Start => {
-            let o = play_start(s, keys, links, certs, order, f);
-            step_of(o, Line::Ok, Line::Ok)
-        }
-        Kind::Round => {
-            let o = play_round(s, keys, links, certs, order, f);
-            step_of(o, Line::Ok, Line::Ok)
-        }
-        Kind::Name => {
-            let o = play_name(s, keys, links, certs, order, f);
-            step_of(o, Line::Ok, Line::Ok)
-        }
-        Kind::Resolve => {
-            let o = play_resolve(s, keys, links, certs, order, f);
-            step_of(o, Line::Ok, Line::Ok)
-        }
-        Kind::Certify => {
-            let o = play_certify(s, keys, links, certs, order, f);
-            step_of(o, Line::Ok, Line::Ok)
-        }
-        Kind::Commit => Step {
-            line: Line::Unsupported,
-            state: s,
-        },
-        Kind::Remove => Step {
-            line: Line::Unsupported,
-            state: s,
-        },
-        Kind::Drop => {
-            let o = play_drop(s, keys, links, certs, order, f);
-            step_of(o, Line::DropYes, Line::DropNo)
-        }
-        Kind::Gap => {
-            let o = is_once_after_gap(s, keys, links, certs, order);
-            step_of(o, Line::GapYes, Line::GapNo)
-        }
-        Kind::Reset => {
-            let o = reset(s, keys, links, certs, order);
-            step_of(o, Line::Ok, Line::Ok)
-        }
-        Kind::Outlook => Step {
-            line: Line::Unsupported,
-            state: s,
-        },
-        Kind::Broken => Step {
-            line: Line::Broken,
-            state: s,
-        },
+        Kind::Start => play_start(s, keys, links, certs, order, f),
+        Kind::Round => play_round(s, keys, links, certs, order, f),
+        Kind::Name => play_name(s, keys, links, certs, order, f),
+        Kind::Resolve => play_resolve(s, keys, links, certs, order, f),
+        Kind::Certify => play_certify(s, keys, links, certs, order, f),
+        Kind::Commit => unmade(Line::Unsupported, s),
+        Kind::Remove => unmade(Line::Unsupported, s),
+        Kind::Drop => play_drop(s, keys, links, certs, order, f),
+        Kind::Gap => play_gap(s, keys, links, certs, order),
+        Kind::Reset => play_reset(s, keys, links, certs, order),
+        Kind::Outlook => unmade(Line::Unsupported, s),
+        Kind::Broken => unmade(Line::Broken, s),
     }
 }
 
-// Plays the record at the offset: its call is made on the state and the tables.
+// Plays the record at the offset: its call is made on the state and the tables. An offset beyond the bytes has none, it is Broken.
 pub fn play_one(
     s: State,
     keys: &mut [u64],
@@ -104,11 +68,17 @@ pub fn play_one(
     bytes: &[u8],
     at: usize,
 ) -> Played
-    requires { ⌜ at ≤ length (now bytes) ⌝ }
-    ensures end { λ r. ⌜ (r .end ≡ headAt (now (bytes .entry)) at .end) × (at ≤ r .end) × (r .end ≤ length (now (bytes .entry))) ⌝ }
+    ensures end { λ r. ⌜ (r .end ≡ headAt (now (bytes .entry)) at .end) × (at ≤ r .end) × (at ≤ length (now (bytes .entry)) → r .end ≤ length (now (bytes .entry))) ⌝ }
     ensures plays { λ r. ⌜ Plays (headAt (now (bytes .entry)) at .kind) (board s (now (keys .entry)) (now (links .entry)) (now (certs .entry)) (now (order .entry))) (part (now (bytes .entry)) (headAt (now (bytes .entry)) at .from) (headAt (now (bytes .entry)) at .end)) (r .line) (board (r .state) (now (keys .exit)) (now (links .exit)) (now (certs .exit)) (now (order .exit))) ⌝ }
     ensures moves { λ r. ⌜ (known (headAt (now (bytes .entry)) at .kind) ≡ true → at < r .end) ⌝ }
 {
+    if bytes.len() < at {
+        return Played {
+            line: Line::Broken,
+            state: s,
+            end: at,
+        };
+    }
     let found = record_at(bytes, at);
     let kind = found.kind;
     let from = found.from;

@@ -1,14 +1,13 @@
 // Origin: none. A point named, resolved or certified, from the fields of its record.
-ghost use mathlib.Core.Path.{_≡_};
 ghost use Prim.Native.Nat.{_+_, _*_, _≤_};
 ghost use lib.ListN.{length};
-ghost use Rattle.spec.specs.Calls as calls;
-ghost use Rattle.dag_test.specs.View.{view};
-ghost use Rattle.commit_answer.specs.Answer.{board, leaves};
-ghost use Rattle.trace.specs.Numbers.{idAt};
+ghost use Rattle.commit_answer.specs.Answer.{board};
 ghost use Rattle.trace.specs.Head.{linksIn};
-ghost use Rattle.trace.specs.Fields.{toldIn};
-use commit_answer::answer::Outcome;
+ghost use Rattle.trace.specs.declared.head.Kind.the-variants as kinds;
+ghost use Rattle.play.specs.Plays.{Plays};
+use crate::line::Line;
+use crate::line::Step;
+use crate::line::step_of;
 use commit_points::certify::certify;
 use commit_points::name::add_dependency;
 use commit_points::resolve::resolve;
@@ -25,12 +24,13 @@ pub fn play_name(
     certs: &mut [u64],
     order: &mut [u64],
     f: &[u8],
-) -> Outcome
+) -> Step
     requires { ⌜ 37 ≤ length (now f) ⌝ }
-    ensures { λ r. ⌜ leaves (r .answer) (board (r .state) (now (keys .exit)) (now (links .entry)) (now (certs .exit)) (now (order .exit))) ≡ calls.call (view s (now (keys .entry)) (now (links .entry)) (now (certs .entry)) (now (order .entry))) (calls.name (idAt (now (f .entry)) 0)) ⌝ }
+    ensures { λ r. ⌜ Plays kinds.Name (board s (now (keys .entry)) (now (links .entry)) (now (certs .entry)) (now (order .entry))) (now (f .entry)) (r .line) (board (r .state) (now (keys .exit)) (now (links .entry)) (now (certs .exit)) (now (order .exit))) ⌝ }
 {
     let id = id_of(f, 0);
-    add_dependency(s, keys, links, certs, order, id)
+    let o = add_dependency(s, keys, links, certs, order, id);
+    step_of(o, Line::Ok, Line::Ok)
 }
 
 // Resolves the point that the fields say. Its links, at most 121, are five words each.
@@ -41,17 +41,18 @@ pub fn play_resolve(
     certs: &mut [u64],
     order: &[u64],
     f: &[u8],
-) -> Outcome
+) -> Step
     requires { ⌜ 82 + 33 * linksIn (now f) ≤ length (now f) ⌝ }
     requires { ⌜ linksIn (now f) ≤ 121 ⌝ }
-    ensures { λ r. ⌜ leaves (r .answer) (board (r .state) (now (keys .exit)) (now (links .exit)) (now (certs .exit)) (now (order .entry))) ≡ calls.call (view s (now (keys .entry)) (now (links .entry)) (now (certs .entry)) (now (order .entry))) (calls.resolve (idAt (now (f .entry)) 0) (toldIn (now (f .entry)))) ⌝ }
+    ensures { λ r. ⌜ Plays kinds.Resolve (board s (now (keys .entry)) (now (links .entry)) (now (certs .entry)) (now (order .entry))) (now (f .entry)) (r .line) (board (r .state) (now (keys .exit)) (now (links .exit)) (now (certs .exit)) (now (order .entry))) ⌝ }
 {
     let id = id_of(f, 0);
     let info = info_of(f);
     let n = info.includes + info.witness;
     let mut refs = [0u64; 605];
     refs_of(f, &mut refs);
-    resolve(s, keys, links, certs, order, id, info, &refs[..n * 5])
+    let o = resolve(s, keys, links, certs, order, id, info, &refs[..n * 5]);
+    step_of(o, Line::Ok, Line::Ok)
 }
 
 // Certifies the point that the fields say.
@@ -62,10 +63,11 @@ pub fn play_certify(
     certs: &mut [u64],
     order: &[u64],
     f: &[u8],
-) -> Outcome
+) -> Step
     requires { ⌜ 37 ≤ length (now f) ⌝ }
-    ensures { λ r. ⌜ leaves (r .answer) (board (r .state) (now (keys .entry)) (now (links .entry)) (now (certs .exit)) (now (order .entry))) ≡ calls.call (view s (now (keys .entry)) (now (links .entry)) (now (certs .entry)) (now (order .entry))) (calls.certify (idAt (now (f .entry)) 0)) ⌝ }
+    ensures { λ r. ⌜ Plays kinds.Certify (board s (now (keys .entry)) (now (links .entry)) (now (certs .entry)) (now (order .entry))) (now (f .entry)) (r .line) (board (r .state) (now (keys .entry)) (now (links .entry)) (now (certs .exit)) (now (order .entry))) ⌝ }
 {
     let id = id_of(f, 0);
-    certify(s, keys, links, certs, order, id)
+    let o = certify(s, keys, links, certs, order, id);
+    step_of(o, Line::Ok, Line::Ok)
 }

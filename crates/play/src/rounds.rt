@@ -1,16 +1,18 @@
-// Origin: none. A start, a round and a drop, from the fields of their records.
-ghost use mathlib.Core.Path.{_≡_};
+// Origin: none. A start, a round, a drop, the gap question and a reset, from the fields of their records.
 ghost use Prim.Native.Nat.{_≤_};
+ghost use mathlib.Core.List.{[]};
 ghost use lib.ListN.{length};
-ghost use Rattle.spec.specs.Calls as calls;
-ghost use Rattle.dag_test.specs.View.{view};
-ghost use Rattle.commit_answer.specs.Answer.{board, leaves};
-ghost use Rattle.trace.specs.Numbers.{numberAt};
-ghost use Rattle.trace.specs.Fields.{startIn};
-use commit_answer::answer::Outcome;
+ghost use Rattle.commit_answer.specs.Answer.{board};
+ghost use Rattle.trace.specs.declared.head.Kind.the-variants as kinds;
+ghost use Rattle.play.specs.Plays.{Plays};
+use crate::line::Line;
+use crate::line::Step;
+use crate::line::step_of;
 use commit_rounds::drop_upto;
 use commit_rounds::extend_from_ahead;
+use commit_rounds::is_once_after_gap;
 use commit_start::init;
+use commit_start::reset;
 use dag_state::state::State;
 use models::parts::Round;
 use trace::bytes::number_of;
@@ -25,12 +27,13 @@ pub fn play_start(
     certs: &mut [u64],
     order: &mut [u64],
     f: &[u8],
-) -> Outcome
+) -> Step
     requires { ⌜ 22 ≤ length (now f) ⌝ }
-    ensures { λ r. ⌜ leaves (r .answer) (board (r .state) (now (keys .exit)) (now (links .exit)) (now (certs .exit)) (now (order .exit))) ≡ calls.call (view s (now (keys .entry)) (now (links .entry)) (now (certs .entry)) (now (order .entry))) (calls.start (startIn (now (f .entry)))) ⌝ }
+    ensures { λ r. ⌜ Plays kinds.Start (board s (now (keys .entry)) (now (links .entry)) (now (certs .entry)) (now (order .entry))) (now (f .entry)) (r .line) (board (r .state) (now (keys .exit)) (now (links .exit)) (now (certs .exit)) (now (order .exit))) ⌝ }
 {
     let with = start_of(f);
-    init(s, keys, links, certs, order, with)
+    let o = init(s, keys, links, certs, order, with);
+    step_of(o, Line::Ok, Line::Ok)
 }
 
 // Adds the round that the fields say.
@@ -41,14 +44,15 @@ pub fn play_round(
     certs: &[u64],
     order: &[u64],
     f: &[u8],
-) -> Outcome
+) -> Step
     requires { ⌜ 8 ≤ length (now f) ⌝ }
-    ensures { λ r. ⌜ leaves (r .answer) (board (r .state) (now (keys .entry)) (now (links .entry)) (now (certs .entry)) (now (order .entry))) ≡ calls.call (view s (now (keys .entry)) (now (links .entry)) (now (certs .entry)) (now (order .entry))) (calls.round (numberAt (now (f .entry)) 0 4) (numberAt (now (f .entry)) 4 4)) ⌝ }
+    ensures { λ r. ⌜ Plays kinds.Round (board s (now (keys .entry)) (now (links .entry)) (now (certs .entry)) (now (order .entry))) (now (f .entry)) (r .line) (board (r .state) (now (keys .entry)) (now (links .entry)) (now (certs .entry)) (now (order .entry))) ⌝ }
 {
     let fields = round_of(f);
     let round = fields.round;
     let peers = fields.peers;
-    extend_from_ahead(s, keys, links, certs, order, round, peers)
+    let o = extend_from_ahead(s, keys, links, certs, order, round, peers);
+    step_of(o, Line::Ok, Line::Ok)
 }
 
 // Drops the rounds below the one that the fields say.
@@ -59,10 +63,33 @@ pub fn play_drop(
     certs: &mut [u64],
     order: &mut [u64],
     f: &[u8],
-) -> Outcome
+) -> Step
     requires { ⌜ 4 ≤ length (now f) ⌝ }
-    ensures { λ r. ⌜ leaves (r .answer) (board (r .state) (now (keys .exit)) (now (links .exit)) (now (certs .exit)) (now (order .exit))) ≡ calls.call (view s (now (keys .entry)) (now (links .entry)) (now (certs .entry)) (now (order .entry))) (calls.drop (numberAt (now (f .entry)) 0 4)) ⌝ }
+    ensures { λ r. ⌜ Plays kinds.Drop (board s (now (keys .entry)) (now (links .entry)) (now (certs .entry)) (now (order .entry))) (now (f .entry)) (r .line) (board (r .state) (now (keys .exit)) (now (links .exit)) (now (certs .exit)) (now (order .exit))) ⌝ }
 {
     let round = number_of(f, 0);
-    drop_upto(s, keys, links, certs, order, Round(round))
+    let o = drop_upto(s, keys, links, certs, order, Round(round));
+    step_of(o, Line::DropYes, Line::DropNo)
+}
+
+// Puts the gap question; its record has no fields.
+pub fn play_gap(s: State, keys: &[u64], links: &[u64], certs: &[u64], order: &[u64]) -> Step
+    ensures { λ r. ⌜ Plays kinds.Gap (board s (now (keys .entry)) (now (links .entry)) (now (certs .entry)) (now (order .entry))) [] (r .line) (board (r .state) (now (keys .entry)) (now (links .entry)) (now (certs .entry)) (now (order .entry))) ⌝ }
+{
+    let o = is_once_after_gap(s, keys, links, certs, order);
+    step_of(o, Line::GapYes, Line::GapNo)
+}
+
+// Resets; its record has no fields.
+pub fn play_reset(
+    s: State,
+    keys: &mut [u64],
+    links: &mut [u64],
+    certs: &mut [u64],
+    order: &mut [u64],
+) -> Step
+    ensures { λ r. ⌜ Plays kinds.Reset (board s (now (keys .entry)) (now (links .entry)) (now (certs .entry)) (now (order .entry))) [] (r .line) (board (r .state) (now (keys .exit)) (now (links .exit)) (now (certs .exit)) (now (order .exit))) ⌝ }
+{
+    let o = reset(s, keys, links, certs, order);
+    step_of(o, Line::Ok, Line::Ok)
 }

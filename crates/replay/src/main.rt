@@ -1,167 +1,167 @@
-// Plays the recorded calls of standard input on tables of 20 places, and writes a line for what each answered, then one for the state.
-// It reads 65,536 bytes; what stands after them is not read.
-use dag_state::state::RoundRecord;
+// Plays the recorded calls of standard input and writes a line for what each answered, then lines for the state and the points.
+// Its argument is the number of places of the tables, 1 to 256; without one there are 20.
+ghost use Prim.Native.Nat.{_≤_};
+ghost use lib.ListN.{length};
 use dag_state::state::State;
-use dag_state::state::empty_memory;
-use models::parts::Round;
-use play::line::Line;
-use play::one::play_one;
+use show::part::play_part;
+use show::state::unstarted;
+use show::state::write_state;
 
-fn write(text: &[u8]) {
-    let _all = io::write_all(1, text);
+// The state after some of the input, the offset of the first byte that was not played, how many such bytes are held, and whether to go on.
+struct Turn {
+    state: State,
+    base: u64,
+    held: usize,
+    more: bool,
 }
 
-// A number after its name.
-fn write_number(name: &[u8], n: u32) {
-    write(name);
-    let _all = io::print_decimal(1, n as u64);
+// The number that the digits say, or 0 if it is above 256 or not a number.
+fn number_said(digits: &[u8]) -> usize
+    ensures { λ r. ⌜ r ≤ 256 ⌝ }
+{
+    let mut n: usize = 0;
+    let mut i: usize = 0;
+    let size = digits.len();
+    while i < size {
+        let d = digits[i];
+        if d < 48 {
+            return 0;
+        }
+        if 57 < d {
+            return 0;
+        }
+        n = n * 10 + (d - 48) as usize;
+        if 256 < n {
+            return 0;
+        }
+        i += 1;
+    }
+    n
 }
 
-// The line of one call.
-fn write_line(line: Line) {
-    match line {
-        Line::Ok => {
-            write(b"ok\n");
-        }
-        Line::Refused(n) => {
-            write_number(b"refused ", n);
-            write(b"\n");
-        }
-        Line::GapYes => {
-            write(b"gap yes\n");
-        }
-        Line::GapNo => {
-            write(b"gap no\n");
-        }
-        Line::DropYes => {
-            write(b"drop yes\n");
-        }
-        Line::DropNo => {
-            write(b"drop no\n");
-        }
-        Line::Unsupported => {
-            write(b"unsupported\n");
-        }
-        Line::Broken => {
-            write(b"broken\n");
-        }
+// The number of places asked for, or 0 if the arguments aren't one such number.
+fn places_asked() -> usize
+    ensures { λ r. ⌜ r ≤ 256 ⌝ }
+{
+    let count = os::arg_count();
+    if count < 2 {
+        return 20;
+    }
+    if 2 < count {
+        return 0;
+    }
+    let mut text = [0u8; 16];
+    let n = os::arg(1, &mut text);
+    number_said(&text[..n])
+}
+
+// Reads after the bytes held; says how many are held then.
+fn refill(input: &mut [u8], held: usize) -> usize
+    requires { ⌜ held ≤ length (now input) ⌝ }
+    ensures { λ r. ⌜ r ≤ length (now (input .exit)) ⌝ }
+{
+    let got = io::read_full(0, &mut input[held..]);
+    held + got
+}
+
+// Moves the bytes from `from` to n to the front.
+fn move_down(input: &mut [u8], from: usize, n: usize)
+    requires { ⌜ (from ≤ n) × (n ≤ length (now input)) ⌝ }
+{
+    let mut i: usize = 0;
+    while i < n - from {
+        let moved = input[from + i];
+        input[i] = moved;
+        i += 1;
     }
 }
 
-// The line of a broken record: its offset.
-fn write_broken(at: usize) {
-    write(b"broken record ");
-    let _all = io::print_decimal(1, at as u64);
-    write(b"\n");
-}
-
-// The last proof's round: 0 is none, else the round plus 1.
-fn write_last_proof(last_proof: u32) {
-    if last_proof == 0 {
-        write(b" lastproof none");
-    } else {
-        write_number(b" lastproof ", last_proof - 1);
-    }
-}
-
-// What the gap flag says of the question: not waited for, waited for, put.
-fn write_emit(gap: u32) {
-    if gap == 0 {
-        write(b" emit none\n");
-    } else if gap == 1 {
-        write(b" emit false\n");
-    } else {
-        write(b" emit true\n");
-    }
-}
-
-// The rounds of a state that is started.
-fn write_rounds(bottom: Round, top: Round, last_proof: u32, full: Round, first: Round, gap: u32) {
-    write_number(b"state bottom ", bottom.0);
-    write_number(b" top ", top.0);
-    write_last_proof(last_proof);
-    write_number(b" fullbottom ", full.0);
-    write_number(b" first ", first.0);
-    write_emit(gap);
-}
-
-// The line of the state.
-fn write_state(s: State) {
-    if s.phase != 1 {
-        write(b"state none\n");
-    } else {
-        let bottom = s.bottom;
-        let top = s.top;
-        let full = s.full_history_bottom;
-        let first = s.first_executable;
-        write_rounds(bottom, top, s.last_proof, full, first, s.gap);
-    }
-}
-
-// A state of zeros, which isn't started.
-fn unstarted() -> State {
-    let empty = RoundRecord { peers: 0, used: 0 };
-    let memory = empty_memory();
-    State {
-        phase: 0,
-        count: 0,
-        genesis: Round(0),
-        history_rounds: 0,
-        deduplicate_rounds: 0,
-        bottom: Round(0),
-        top: Round(0),
-        last_proof: 0,
-        last_anchor: 0,
-        full_history_bottom: Round(0),
-        first_executable: Round(0),
-        gap: 0,
-        rounds: [empty; 512],
-        memory,
-    }
-}
-
-// Plays the records to the end of the bytes, or to one that is broken.
-fn play_all(
+// Fills the buffer, plays the records in it and keeps the rest. A buffer that isn't full holds the end of the input.
+fn play_some(
     s: State,
     keys: &mut [u64],
     links: &mut [u64],
     certs: &mut [u64],
     order: &mut [u64],
-    bytes: &[u8],
+    input: &mut [u8],
+    base: u64,
+    held: usize,
+) -> Turn
+    requires { ⌜ held ≤ length (now input) ⌝ }
+    ensures { λ r. ⌜ r .held ≤ length (now (input .exit)) ⌝ }
+{
+    let n = refill(input, held);
+    let last = n < input.len();
+    let part = play_part(s, keys, links, certs, order, &input[..n], base, last);
+    let state = part.state;
+    let at = part.at;
+    let broken = part.broken;
+    move_down(input, at, n);
+    Turn {
+        state,
+        base: std::num::wrapping_add_u64(base, at as u64),
+        held: n - at,
+        more: !last && !broken,
+    }
+}
+
+// Plays the whole input. Nothing says that it ends, so turns are counted, from a number that no input uses up.
+fn play_input(
+    keys: &mut [u64],
+    links: &mut [u64],
+    certs: &mut [u64],
+    order: &mut [u64],
+    input: &mut [u8],
 ) -> State {
-    let mut now = s;
-    let mut at: usize = 0;
-    let n = bytes.len();
-    while at < n {
-        let played = play_one(now, keys, links, certs, order, bytes, at);
-        let line = played.line;
-        let next = played.state;
-        let end = played.end;
-        now = next;
-        if end <= at {
-            write_broken(at);
+    let mut now = unstarted();
+    let mut base: u64 = 0;
+    let mut held: usize = 0;
+    let mut turns = u64::MAX;
+    while turns > 0 {
+        let turn = play_some(now, keys, links, certs, order, input, base, held);
+        let state = turn.state;
+        now = state;
+        base = turn.base;
+        held = turn.held;
+        if !turn.more {
             break;
         }
-        write_line(line);
-        at = end;
+        turns -= 1;
     }
     now
 }
 
-fn main() {
-    let mut keys = [0u64; 160];
-    let mut links = [0u64; 6560];
-    let mut certs = [0u64; 20];
-    let mut order = [0u64; 20];
+// Plays the input on the tables lent, and writes what is left.
+fn play_on(keys: &mut [u64], links: &mut [u64], certs: &mut [u64], order: &mut [u64]) {
     let mut input = io::large_buffer();
-    let n = io::read_full(0, &mut input);
-    let s = play_all(
-        unstarted(),
-        &mut keys,
-        &mut links,
-        &mut certs,
-        &mut order,
-        &input[..n],
+    let s = play_input(keys, links, certs, order, &mut input);
+    write_state(s, keys, links, certs, order);
+}
+
+// Plays the input on tables of n places.
+fn replay(n: usize)
+    requires { ⌜ n ≤ 256 ⌝ }
+{
+    let mut keys = [0u64; 2048];
+    let mut links = [0u64; 83968];
+    let mut certs = [0u64; 256];
+    let mut order = [0u64; 256];
+    play_on(
+        &mut keys[..n * 8],
+        &mut links[..n * 328],
+        &mut certs[..n],
+        &mut order[..n],
     );
-    write_state(s);
+}
+
+fn main() {
+    let n = places_asked();
+    if n == 0 {
+        let _all = io::write_all(
+            2,
+            b"replay: the one argument is a number of places, 1 to 256\n",
+        );
+    } else {
+        replay(n);
+    }
 }

@@ -1,7 +1,7 @@
 use mathlib.Core.Path.{refl}
 use Rattle.trace.specs.Fields.{callBy}
 use Rattle.trace.specs.declared.head.Kind.the-variants as kind
-use Rattle.play.specs.Plays.{plays-made, plays-idle}
+use Rattle.play.specs.Plays.{plays-at, plays-unmade}
 use Rattle.play.specs.Sized.{start-long, round-long, name-long, resolve-long, resolve-few, certify-long, drop-long}
 use borrow.Author.Needs.{needs}
 use Rattle.play.proofs.one.play_fields.Statement.{statement}
@@ -13,17 +13,11 @@ enum-told c = search needs
 play-start-requires : tie.Need-play-start-requires
 play-start-requires c κs = start-long _ _ (c .before .before .before .before .before .before .before .before .before .before .before .pre) (c .before .before .before .before .enum-told .given .1)
 
-step-of-requires : tie.Need-step-of-requires
-step-of-requires c κs = search needs
-
 enum-told-2 : tie.Need-enum-told-2
 enum-told-2 c = search needs
 
 play-round-requires : tie.Need-play-round-requires
 play-round-requires c κs = round-long _ _ (c .before .before .before .before .before .before .before .before .before .before .before .pre) (c .before .before .before .before .enum-told2 .given .1)
-
-step-of-requires-2 : tie.Need-step-of-requires-2
-step-of-requires-2 c κs = search needs
 
 enum-told-3 : tie.Need-enum-told-3
 enum-told-3 c = search needs
@@ -31,17 +25,11 @@ enum-told-3 c = search needs
 play-name-requires : tie.Need-play-name-requires
 play-name-requires c κs = name-long _ _ (c .before .before .before .before .before .before .before .before .before .before .before .pre) (c .before .before .before .before .enum-told3 .given .1)
 
-step-of-requires-3 : tie.Need-step-of-requires-3
-step-of-requires-3 c κs = search needs
-
 enum-told-4 : tie.Need-enum-told-4
 enum-told-4 c = search needs
 
 play-resolve-requires : tie.Need-play-resolve-requires
 play-resolve-requires c κs = (resolve-long _ _ (c .before .before .before .before .before .before .before .before .before .before .before .pre) (c .before .before .before .before .enum-told4 .given .1), resolve-few _ _ (c .before .before .before .before .before .before .before .before .before .before .before .pre) (c .before .before .before .before .enum-told4 .given .1))
-
-step-of-requires-4 : tie.Need-step-of-requires-4
-step-of-requires-4 c κs = search needs
 
 enum-told-5 : tie.Need-enum-told-5
 enum-told-5 c = search needs
@@ -49,14 +37,17 @@ enum-told-5 c = search needs
 play-certify-requires : tie.Need-play-certify-requires
 play-certify-requires c κs = certify-long _ _ (c .before .before .before .before .before .before .before .before .before .before .before .pre) (c .before .before .before .before .enum-told5 .given .1)
 
-step-of-requires-5 : tie.Need-step-of-requires-5
-step-of-requires-5 c κs = search needs
-
 enum-told-6 : tie.Need-enum-told-6
 enum-told-6 c = search needs
 
+unmade-requires : tie.Need-unmade-requires
+unmade-requires c κs = search needs
+
 enum-told-7 : tie.Need-enum-told-7
 enum-told-7 c = search needs
+
+unmade-requires-2 : tie.Need-unmade-requires-2
+unmade-requires-2 c κs = search needs
 
 enum-told-8 : tie.Need-enum-told-8
 enum-told-8 c = search needs
@@ -64,32 +55,29 @@ enum-told-8 c = search needs
 play-drop-requires : tie.Need-play-drop-requires
 play-drop-requires c κs = drop-long _ _ (c .before .before .before .before .before .before .before .before .before .before .before .pre) (c .before .before .before .before .enum-told8 .given .1)
 
-step-of-requires-6 : tie.Need-step-of-requires-6
-step-of-requires-6 c κs = search needs
-
 enum-told-9 : tie.Need-enum-told-9
 enum-told-9 c = search needs
 
-is-once-after-gap-requires : tie.Need-is-once-after-gap-requires
-is-once-after-gap-requires c κs = search needs
-
-step-of-requires-7 : tie.Need-step-of-requires-7
-step-of-requires-7 c κs = search needs
+play-gap-requires : tie.Need-play-gap-requires
+play-gap-requires c κs = search needs
 
 enum-told-10 : tie.Need-enum-told-10
 enum-told-10 c = search needs
 
-reset-requires : tie.Need-reset-requires
-reset-requires c κs = search needs
-
-step-of-requires-8 : tie.Need-step-of-requires-8
-step-of-requires-8 c κs = search needs
+play-reset-requires : tie.Need-play-reset-requires
+play-reset-requires c κs = search needs
 
 enum-told-11 : tie.Need-enum-told-11
 enum-told-11 c = search needs
 
+unmade-requires-3 : tie.Need-unmade-requires-3
+unmade-requires-3 c κs = search needs
+
 enum-told-12 : tie.Need-enum-told-12
 enum-told-12 c = search needs
+
+unmade-requires-4 : tie.Need-unmade-requires-4
+unmade-requires-4 c κs = search needs
 
 same-length : tie.Need-same-length
 same-length c = search needs
@@ -104,8 +92,7 @@ same-length-4 : tie.Need-same-length-4
 same-length-4 c = search needs
 
 returns : tie.Need-returns
-unfolding callBy
-returns c = plays-made _ kind.Start _ _ _ _ (c .step-of .result) (c .before .before .before .before .before .before .before .before .before .before .before .before .before .before .enum-told .given .1) refl (c .before .before .before .before .before .before .before .before .before .play-start .ensures) (c .step-of .ensures)
+returns c = plays-at _ kind.Start _ _ _ _ _ (c .before .before .before .before .before .before .before .before .before .before .before .before .before .enum-told .given .1) refl (c .before .before .before .before .before .before .before .before .play-start .ensures)
 
 same-length-5 : tie.Need-same-length-5
 same-length-5 c = search needs
@@ -120,8 +107,7 @@ same-length-8 : tie.Need-same-length-8
 same-length-8 c = search needs
 
 returns-2 : tie.Need-returns-2
-unfolding callBy
-returns-2 c = plays-made _ kind.Round _ _ _ _ (c .step-of2 .result) (c .before .before .before .before .before .before .enum-told2 .given .1) refl (c .before .play-round .ensures) (c .step-of2 .ensures)
+returns-2 c = plays-at _ kind.Round _ _ _ _ _ (c .before .before .before .before .before .enum-told2 .given .1) refl (c .play-round .ensures)
 
 same-length-9 : tie.Need-same-length-9
 same-length-9 c = search needs
@@ -136,8 +122,7 @@ same-length-12 : tie.Need-same-length-12
 same-length-12 c = search needs
 
 returns-3 : tie.Need-returns-3
-unfolding callBy
-returns-3 c = plays-made _ kind.Name _ _ _ _ (c .step-of3 .result) (c .before .before .before .before .before .before .before .before .before .before .before .before .enum-told3 .given .1) refl (c .before .before .before .before .before .before .before .play-name .ensures) (c .step-of3 .ensures)
+returns-3 c = plays-at _ kind.Name _ _ _ _ _ (c .before .before .before .before .before .before .before .before .before .before .before .enum-told3 .given .1) refl (c .before .before .before .before .before .before .play-name .ensures)
 
 same-length-13 : tie.Need-same-length-13
 same-length-13 c = search needs
@@ -152,8 +137,7 @@ same-length-16 : tie.Need-same-length-16
 same-length-16 c = search needs
 
 returns-4 : tie.Need-returns-4
-unfolding callBy
-returns-4 c = plays-made _ kind.Resolve _ _ _ _ (c .step-of4 .result) (c .before .before .before .before .before .before .before .before .before .before .before .before .enum-told4 .given .1) refl (c .before .before .before .before .before .before .before .play-resolve .ensures) (c .step-of4 .ensures)
+returns-4 c = plays-at _ kind.Resolve _ _ _ _ _ (c .before .before .before .before .before .before .before .before .before .before .before .enum-told4 .given .1) refl (c .before .before .before .before .before .before .play-resolve .ensures)
 
 same-length-17 : tie.Need-same-length-17
 same-length-17 c = search needs
@@ -168,14 +152,13 @@ same-length-20 : tie.Need-same-length-20
 same-length-20 c = search needs
 
 returns-5 : tie.Need-returns-5
-unfolding callBy
-returns-5 c = plays-made _ kind.Certify _ _ _ _ (c .step-of5 .result) (c .before .before .before .before .before .before .before .before .enum-told5 .given .1) refl (c .before .before .before .play-certify .ensures) (c .step-of5 .ensures)
+returns-5 c = plays-at _ kind.Certify _ _ _ _ _ (c .before .before .before .before .before .before .before .enum-told5 .given .1) refl (c .before .before .play-certify .ensures)
 
 returns-6 : tie.Need-returns-6
-returns-6 c = plays-idle _ kind.Commit _ _ (c .enum-told6 .given .1) refl
+returns-6 c = plays-unmade _ kind.Commit _ _ (c .unmade .result) (c .before .enum-told6 .given .1) refl (c .unmade .ensures)
 
 returns-7 : tie.Need-returns-7
-returns-7 c = plays-idle _ kind.Remove _ _ (c .enum-told7 .given .1) refl
+returns-7 c = plays-unmade _ kind.Remove _ _ (c .unmade2 .result) (c .before .enum-told7 .given .1) refl (c .unmade2 .ensures)
 
 same-length-21 : tie.Need-same-length-21
 same-length-21 c = search needs
@@ -190,8 +173,7 @@ same-length-24 : tie.Need-same-length-24
 same-length-24 c = search needs
 
 returns-8 : tie.Need-returns-8
-unfolding callBy
-returns-8 c = plays-made _ kind.Drop _ _ _ _ (c .step-of6 .result) (c .before .before .before .before .before .before .before .before .before .before .before .before .before .before .enum-told8 .given .1) refl (c .before .before .before .before .before .before .before .before .before .play-drop .ensures) (c .step-of6 .ensures)
+returns-8 c = plays-at _ kind.Drop _ _ _ _ _ (c .before .before .before .before .before .before .before .before .before .before .before .before .before .enum-told8 .given .1) refl (c .before .before .before .before .before .before .before .before .play-drop .ensures)
 
 same-length-25 : tie.Need-same-length-25
 same-length-25 c = search needs
@@ -207,7 +189,7 @@ same-length-28 c = search needs
 
 returns-9 : tie.Need-returns-9
 unfolding callBy
-returns-9 c = plays-made _ kind.Gap _ _ _ _ (c .step-of7 .result) (c .before .before .before .before .before .before .enum-told9 .given .1) refl (c .before .is-once-after-gap .ensures .0) (c .step-of7 .ensures)
+returns-9 c = plays-at _ kind.Gap _ _ _ _ _ (c .before .before .before .before .before .enum-told9 .given .1) refl (c .play-gap .ensures)
 
 same-length-29 : tie.Need-same-length-29
 same-length-29 c = search needs
@@ -223,13 +205,13 @@ same-length-32 c = search needs
 
 returns-10 : tie.Need-returns-10
 unfolding callBy
-returns-10 c = plays-made _ kind.Reset _ _ _ _ (c .step-of8 .result) (c .before .before .before .before .before .before .before .before .before .before .before .before .before .before .enum-told10 .given .1) refl (c .before .before .before .before .before .before .before .before .before .reset .ensures .0) (c .step-of8 .ensures)
+returns-10 c = plays-at _ kind.Reset _ _ _ _ _ (c .before .before .before .before .before .before .before .before .before .before .before .before .before .enum-told10 .given .1) refl (c .before .before .before .before .before .before .before .before .play-reset .ensures)
 
 returns-11 : tie.Need-returns-11
-returns-11 c = plays-idle _ kind.Outlook _ _ (c .enum-told11 .given .1) refl
+returns-11 c = plays-unmade _ kind.Outlook _ _ (c .unmade3 .result) (c .before .enum-told11 .given .1) refl (c .unmade3 .ensures)
 
 returns-12 : tie.Need-returns-12
-returns-12 c = plays-idle _ kind.Broken _ _ (c .enum-told12 .given .1) refl
+returns-12 c = plays-unmade _ kind.Broken _ _ (c .unmade4 .result) (c .before .enum-told12 .given .1) refl (c .unmade4 .ensures)
 
 pub play-fields-spec : {M : Type 1} → statement M
 play-fields-spec =
@@ -237,32 +219,28 @@ play-fields-spec =
     (tie.spec
     enum-told
     play-start-requires
-    step-of-requires
     enum-told-2
     play-round-requires
-    step-of-requires-2
     enum-told-3
     play-name-requires
-    step-of-requires-3
     enum-told-4
     play-resolve-requires
-    step-of-requires-4
     enum-told-5
     play-certify-requires
-    step-of-requires-5
     enum-told-6
+    unmade-requires
     enum-told-7
+    unmade-requires-2
     enum-told-8
     play-drop-requires
-    step-of-requires-6
     enum-told-9
-    is-once-after-gap-requires
-    step-of-requires-7
+    play-gap-requires
     enum-told-10
-    reset-requires
-    step-of-requires-8
+    play-reset-requires
     enum-told-11
+    unmade-requires-3
     enum-told-12
+    unmade-requires-4
     same-length
     same-length-2
     same-length-3

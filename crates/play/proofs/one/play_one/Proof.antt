@@ -1,23 +1,28 @@
-use Rattle.play.specs.Plays.{plays-head}
-use mathlib.Core.Path.{ap}
+use mathlib.Core.Path.{refl, ap}
 use Rattle.trace.specs.declared.head.Record.{Record}
+use Rattle.trace.specs.declared.head.Kind.the-variants as kind
 use Rattle.trace.specs.Head.{head-inside}
-use Rattle.play.specs.Sized.{sized-head, head-after, head-moves}
+use Rattle.play.specs.Plays.{plays-head, plays-idle}
+use Rattle.play.specs.Sized.{sized-head, head-beyond, head-after, head-moves}
 use borrow.Author.Needs.{needs}
 use Rattle.play.proofs.one.play_one.Statement.{statement}
 use Rattle.play.proofs.one.play_one.Tie as tie
+
+returns : tie.Need-returns
+returns c = let e = head-beyond _ _ (c .if1 .taken) in
+    ((ap (λ (x : Record). x .end) e, head-after _ _ _ e, λ l. l), (plays-head _ _ _ _ _ _ e (plays-idle _ kind.Broken _ _ refl refl), head-moves _ _ _ e))
 
 record-at-requires : tie.Need-record-at-requires
 record-at-requires c κs = search needs
 
 sub-play-fields : tie.Need-sub-play-fields
-sub-play-fields c = head-inside _ _ _ (c .before .before .before .before .record-at .ensures) (c .before .before .before .before .before .before .before .before .before .before .pre) .0
+sub-play-fields c = head-inside _ _ _ (c .before .before .before .before .record-at .ensures) (c .before .before .before .before .before .if1 .left) .0
 
 part-play-fields-start : tie.Need-part-play-fields-start
-part-play-fields-start c = head-inside _ _ _ (c .before .before .before .before .record-at .ensures) (c .before .before .before .before .before .before .before .before .before .before .pre) .0
+part-play-fields-start c = head-inside _ _ _ (c .before .before .before .before .record-at .ensures) (c .before .before .before .before .before .if1 .left) .0
 
 part-play-fields-end : tie.Need-part-play-fields-end
-part-play-fields-end c = head-inside _ _ _ (c .before .before .before .before .record-at .ensures) (c .before .before .before .before .before .before .before .before .before .before .pre) .1
+part-play-fields-end c = head-inside _ _ _ (c .before .before .before .before .record-at .ensures) (c .before .before .before .before .before .if1 .left) .1
 
 play-fields-requires : tie.Need-play-fields-requires
 play-fields-requires c κs = sized-head _ _ _ (c .before .before .before .before .before .record-at .ensures)
@@ -34,9 +39,9 @@ same-length-3 c = search needs
 same-length-4 : tie.Need-same-length-4
 same-length-4 c = search needs
 
-returns : tie.Need-returns
-returns c = (
-  (ap (λ (x : Record). x .end) (c .before .before .before .before .before .before .before .before .before .before .before .before .before .before .before .record-at .ensures), head-after _ _ _ (c .before .before .before .before .before .before .before .before .before .before .before .before .before .before .before .record-at .ensures), head-inside _ _ _ (c .before .before .before .before .before .before .before .before .before .before .before .before .before .before .before .record-at .ensures) (c .before .before .before .before .before .before .before .before .before .before .before .before .before .before .before .before .before .before .before .before .before .pre) .1),
+returns-2 : tie.Need-returns-2
+returns-2 c = (
+  (ap (λ (x : Record). x .end) (c .before .before .before .before .before .before .before .before .before .before .before .before .before .before .before .record-at .ensures), head-after _ _ _ (c .before .before .before .before .before .before .before .before .before .before .before .before .before .before .before .record-at .ensures), λ _. head-inside _ _ _ (c .before .before .before .before .before .before .before .before .before .before .before .before .before .before .before .record-at .ensures) (c .before .before .before .before .before .before .before .before .before .before .before .before .before .before .before .before .if1 .left) .1),
   (plays-head _ _ _ _ _ _ (c .before .before .before .before .before .before .before .before .before .before .before .before .before .before .before .record-at .ensures) (c .before .before .before .before .before .before .before .before .before .play-fields .ensures), head-moves _ _ _ (c .before .before .before .before .before .before .before .before .before .before .before .before .before .before .before .record-at .ensures)),
 )
 
@@ -44,6 +49,7 @@ pub play-one-spec : {M : Type 1} → statement M
 play-one-spec =
     tie.close
     (tie.spec
+    returns
     record-at-requires
     sub-play-fields
     part-play-fields-start
@@ -53,4 +59,4 @@ play-one-spec =
     same-length-2
     same-length-3
     same-length-4
-    returns)
+    returns-2)

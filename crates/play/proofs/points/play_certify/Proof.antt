@@ -1,5 +1,9 @@
+use mathlib.Core.Path.{refl}
 use Rattle.spec.specs.Calls as calls
+use Rattle.trace.specs.Fields.{callBy}
+use Rattle.trace.specs.declared.head.Kind.the-variants as kind
 use Rattle.play.specs.Made.{made}
+use Rattle.play.specs.Plays.{plays-made}
 use borrow.Author.Needs.{needs}
 use Rattle.play.proofs.points.play_certify.Statement.{statement}
 use Rattle.play.proofs.points.play_certify.Tie as tie
@@ -10,11 +14,16 @@ id-of-requires c κs = search needs
 certify-requires : tie.Need-certify-requires
 certify-requires c κs = search needs
 
+step-of-requires : tie.Need-step-of-requires
+step-of-requires c κs = search needs
+
 same-length : tie.Need-same-length
 same-length c = search needs
 
 returns : tie.Need-returns
-returns c = made calls.certify _ _ _ _ (c .before .before .certify .ensures .0) (c .before .before .before .before .id-of .ensures)
+unfolding callBy
+returns c = plays-made kind.Certify _ _ _ _ (c .step-of .result) refl (made calls.certify _ _ _ _ (c .before .before .before .certify .ensures .0) (c .before .before .before .before .before .id-of .ensures)) (c .step-of .ensures)
 
 pub play-certify-spec : {M : Type 1} → statement M
-play-certify-spec = tie.close (tie.spec id-of-requires certify-requires same-length returns)
+play-certify-spec =
+    tie.close (tie.spec id-of-requires certify-requires step-of-requires same-length returns)

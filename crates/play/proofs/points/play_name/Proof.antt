@@ -1,5 +1,9 @@
+use mathlib.Core.Path.{refl}
 use Rattle.spec.specs.Calls as calls
+use Rattle.trace.specs.Fields.{callBy}
+use Rattle.trace.specs.declared.head.Kind.the-variants as kind
 use Rattle.play.specs.Made.{made}
+use Rattle.play.specs.Plays.{plays-made}
 use borrow.Author.Needs.{needs}
 use Rattle.play.proofs.points.play_name.Statement.{statement}
 use Rattle.play.proofs.points.play_name.Tie as tie
@@ -9,6 +13,9 @@ id-of-requires c κs = search needs
 
 add-dependency-requires : tie.Need-add-dependency-requires
 add-dependency-requires c κs = search needs
+
+step-of-requires : tie.Need-step-of-requires
+step-of-requires c κs = search needs
 
 same-length : tie.Need-same-length
 same-length c = search needs
@@ -20,7 +27,8 @@ same-length-3 : tie.Need-same-length-3
 same-length-3 c = search needs
 
 returns : tie.Need-returns
-returns c = made calls.name _ _ _ _ (c .before .before .before .before .before .before .add-dependency .ensures .0) (c .before .before .before .before .before .before .before .before .before .before .id-of .ensures)
+unfolding callBy
+returns c = plays-made kind.Name _ _ _ _ (c .step-of .result) refl (made calls.name _ _ _ _ (c .before .before .before .before .before .before .before .add-dependency .ensures .0) (c .before .before .before .before .before .before .before .before .before .before .before .id-of .ensures)) (c .step-of .ensures)
 
 pub play-name-spec : {M : Type 1} → statement M
 play-name-spec =
@@ -28,6 +36,7 @@ play-name-spec =
     (tie.spec
     id-of-requires
     add-dependency-requires
+    step-of-requires
     same-length
     same-length-2
     same-length-3

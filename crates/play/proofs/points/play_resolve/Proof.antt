@@ -1,6 +1,9 @@
 use mathlib.Core.Path.{refl}
 use Rattle.spec.specs.Calls as calls
+use Rattle.trace.specs.Fields.{callBy}
+use Rattle.trace.specs.declared.head.Kind.the-variants as kind
 use Rattle.play.specs.Made.{made-two, refs-count, refs-told}
+use Rattle.play.specs.Plays.{plays-made}
 use borrow.Author.Needs.{needs}
 use Rattle.play.proofs.points.play_resolve.Statement.{statement}
 use Rattle.play.proofs.points.play_resolve.Tie as tie
@@ -32,6 +35,9 @@ slice-aggregate-resolve c = refs-count _ _ _ (c .before .before .before .before 
 resolve-requires : tie.Need-resolve-requires
 resolve-requires c κs = search needs
 
+step-of-requires : tie.Need-step-of-requires
+step-of-requires c κs = search needs
+
 same-length : tie.Need-same-length
 same-length c = search needs
 
@@ -42,7 +48,8 @@ same-length-3 : tie.Need-same-length-3
 same-length-3 c = search needs
 
 returns : tie.Need-returns
-returns c = made-two calls.resolve _ _ _ _ _ _ (c .before .before .before .before .before .before .resolve .ensures .0) (c .before .before .before .before .before .before .before .before .before .before .before .before .before .before .before .before .id-of .ensures) (refs-told _ _ _ (c .before .before .before .before .before .before .before .before .before .before .before .before .before .before .before .info-of .result) (c .before .before .before .before .before .before .before .before .before .before .before .before .refs-of .ensures) refl (c .before .before .before .before .before .before .before .before .before .before .before .before .before .before .before .info-of .ensures .1) (c .before .before .before .before .before .before .before .before .before .before .before .before .before .before .before .before .before .before .before .before .before .before .pre .1) (c .before .before .before .before .before .before .before .before .before .before .before .before .before .before .before .info-of .ensures .0))
+unfolding callBy
+returns c = plays-made kind.Resolve _ _ _ _ (c .step-of .result) refl (made-two calls.resolve _ _ _ _ _ _ (c .before .before .before .before .before .before .before .resolve .ensures .0) (c .before .before .before .before .before .before .before .before .before .before .before .before .before .before .before .before .before .id-of .ensures) (refs-told _ _ _ (c .before .before .before .before .before .before .before .before .before .before .before .before .before .before .before .before .info-of .result) (c .before .before .before .before .before .before .before .before .before .before .before .before .before .refs-of .ensures) refl (c .before .before .before .before .before .before .before .before .before .before .before .before .before .before .before .before .info-of .ensures .1) (c .before .before .before .before .before .before .before .before .before .before .before .before .before .before .before .before .before .before .before .before .before .before .before .pre .1) (c .before .before .before .before .before .before .before .before .before .before .before .before .before .before .before .before .info-of .ensures .0))) (c .step-of .ensures)
 
 pub play-resolve-spec : {M : Type 1} → statement M
 play-resolve-spec =
@@ -57,6 +64,7 @@ play-resolve-spec =
     array-share-prefix-refs
     slice-aggregate-resolve
     resolve-requires
+    step-of-requires
     same-length
     same-length-2
     same-length-3

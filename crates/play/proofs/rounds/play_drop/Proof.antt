@@ -1,5 +1,9 @@
+use mathlib.Core.Path.{refl}
 use Rattle.spec.specs.Calls as calls
+use Rattle.trace.specs.Fields.{callBy}
+use Rattle.trace.specs.declared.head.Kind.the-variants as kind
 use Rattle.play.specs.Made.{made}
+use Rattle.play.specs.Plays.{plays-made}
 use borrow.Author.Needs.{needs}
 use Rattle.play.proofs.rounds.play_drop.Statement.{statement}
 use Rattle.play.proofs.rounds.play_drop.Tie as tie
@@ -9,6 +13,9 @@ number-of-requires c κs = search needs
 
 drop-upto-requires : tie.Need-drop-upto-requires
 drop-upto-requires c κs = search needs
+
+step-of-requires : tie.Need-step-of-requires
+step-of-requires c κs = search needs
 
 same-length : tie.Need-same-length
 same-length c = search needs
@@ -23,7 +30,8 @@ same-length-4 : tie.Need-same-length-4
 same-length-4 c = search needs
 
 returns : tie.Need-returns
-returns c = made calls.drop _ _ _ _ (c .before .before .before .before .before .before .before .before .drop-upto .ensures .0) (c .before .before .before .before .before .before .before .before .before .before .before .before .before .number-of .ensures)
+unfolding callBy
+returns c = plays-made kind.Drop _ _ _ _ (c .step-of .result) refl (made calls.drop _ _ _ _ (c .before .before .before .before .before .before .before .before .before .drop-upto .ensures .0) (c .before .before .before .before .before .before .before .before .before .before .before .before .before .before .number-of .ensures)) (c .step-of .ensures)
 
 pub play-drop-spec : {M : Type 1} → statement M
 play-drop-spec =
@@ -31,6 +39,7 @@ play-drop-spec =
     (tie.spec
     number-of-requires
     drop-upto-requires
+    step-of-requires
     same-length
     same-length-2
     same-length-3

@@ -1,5 +1,9 @@
+use mathlib.Core.Path.{refl}
 use Rattle.spec.specs.Calls as calls
+use Rattle.trace.specs.Fields.{callBy}
+use Rattle.trace.specs.declared.head.Kind.the-variants as kind
 use Rattle.play.specs.Made.{made-two}
+use Rattle.play.specs.Plays.{plays-made}
 use borrow.Author.Needs.{needs}
 use Rattle.play.proofs.rounds.play_round.Statement.{statement}
 use Rattle.play.proofs.rounds.play_round.Tie as tie
@@ -10,8 +14,13 @@ round-of-requires c κs = search needs
 extend-from-ahead-requires : tie.Need-extend-from-ahead-requires
 extend-from-ahead-requires c κs = search needs
 
+step-of-requires : tie.Need-step-of-requires
+step-of-requires c κs = search needs
+
 returns : tie.Need-returns
-returns c = made-two calls.round _ _ _ _ _ _ (c .extend-from-ahead .ensures .0) (c .before .before .round-of .ensures .0) (c .before .before .round-of .ensures .1)
+unfolding callBy
+returns c = plays-made kind.Round _ _ _ _ (c .step-of .result) refl (made-two calls.round _ _ _ _ _ _ (c .before .extend-from-ahead .ensures .0) (c .before .before .before .round-of .ensures .0) (c .before .before .before .round-of .ensures .1)) (c .step-of .ensures)
 
 pub play-round-spec : {M : Type 1} → statement M
-play-round-spec = tie.close (tie.spec round-of-requires extend-from-ahead-requires returns)
+play-round-spec =
+    tie.close (tie.spec round-of-requires extend-from-ahead-requires step-of-requires returns)

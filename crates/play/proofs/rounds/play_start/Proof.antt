@@ -1,5 +1,9 @@
+use mathlib.Core.Path.{refl}
 use Rattle.spec.specs.Calls as calls
+use Rattle.trace.specs.Fields.{callBy}
+use Rattle.trace.specs.declared.head.Kind.the-variants as kind
 use Rattle.play.specs.Made.{made}
+use Rattle.play.specs.Plays.{plays-made}
 use borrow.Author.Needs.{needs}
 use Rattle.play.proofs.rounds.play_start.Statement.{statement}
 use Rattle.play.proofs.rounds.play_start.Tie as tie
@@ -9,6 +13,9 @@ start-of-requires c κs = search needs
 
 init-requires : tie.Need-init-requires
 init-requires c κs = search needs
+
+step-of-requires : tie.Need-step-of-requires
+step-of-requires c κs = search needs
 
 same-length : tie.Need-same-length
 same-length c = search needs
@@ -23,7 +30,8 @@ same-length-4 : tie.Need-same-length-4
 same-length-4 c = search needs
 
 returns : tie.Need-returns
-returns c = made calls.start _ _ _ _ (c .before .before .before .before .before .before .before .before .init .ensures .0) (c .before .before .before .before .before .before .before .before .before .before .before .before .before .start-of .ensures)
+unfolding callBy
+returns c = plays-made kind.Start _ _ _ _ (c .step-of .result) refl (made calls.start _ _ _ _ (c .before .before .before .before .before .before .before .before .before .init .ensures .0) (c .before .before .before .before .before .before .before .before .before .before .before .before .before .before .start-of .ensures)) (c .step-of .ensures)
 
 pub play-start-spec : {M : Type 1} → statement M
 play-start-spec =
@@ -31,6 +39,7 @@ play-start-spec =
     (tie.spec
     start-of-requires
     init-requires
+    step-of-requires
     same-length
     same-length-2
     same-length-3

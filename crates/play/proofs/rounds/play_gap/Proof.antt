@@ -1,0 +1,20 @@
+use mathlib.Core.Path.{refl}
+use Rattle.trace.specs.Fields.{callBy}
+use Rattle.trace.specs.declared.head.Kind.the-variants as kind
+use Rattle.play.specs.Plays.{plays-made}
+use borrow.Author.Needs.{needs}
+use Rattle.play.proofs.rounds.play_gap.Statement.{statement}
+use Rattle.play.proofs.rounds.play_gap.Tie as tie
+
+is-once-after-gap-requires : tie.Need-is-once-after-gap-requires
+is-once-after-gap-requires c κs = search needs
+
+step-of-requires : tie.Need-step-of-requires
+step-of-requires c κs = search needs
+
+returns : tie.Need-returns
+unfolding callBy
+returns c = plays-made kind.Gap _ _ _ _ (c .step-of .result) refl (c .before .is-once-after-gap .ensures .0) (c .step-of .ensures)
+
+pub play-gap-spec : {M : Type 1} → statement M
+play-gap-spec = tie.close (tie.spec is-once-after-gap-requires step-of-requires returns)

@@ -1,0 +1,41 @@
+use mathlib.Core.Path.{refl}
+use Rattle.trace.specs.Fields.{callBy}
+use Rattle.trace.specs.declared.head.Kind.the-variants as kind
+use Rattle.play.specs.Plays.{plays-made}
+use borrow.Author.Needs.{needs}
+use Rattle.play.proofs.rounds.play_reset.Statement.{statement}
+use Rattle.play.proofs.rounds.play_reset.Tie as tie
+
+reset-requires : tie.Need-reset-requires
+reset-requires c κs = search needs
+
+step-of-requires : tie.Need-step-of-requires
+step-of-requires c κs = search needs
+
+same-length : tie.Need-same-length
+same-length c = search needs
+
+same-length-2 : tie.Need-same-length-2
+same-length-2 c = search needs
+
+same-length-3 : tie.Need-same-length-3
+same-length-3 c = search needs
+
+same-length-4 : tie.Need-same-length-4
+same-length-4 c = search needs
+
+returns : tie.Need-returns
+unfolding callBy
+returns c = plays-made kind.Reset _ _ _ _ (c .step-of .result) refl (c .before .before .before .before .before .before .before .before .before .reset .ensures .0) (c .step-of .ensures)
+
+pub play-reset-spec : {M : Type 1} → statement M
+play-reset-spec =
+    tie.close
+    (tie.spec
+    reset-requires
+    step-of-requires
+    same-length
+    same-length-2
+    same-length-3
+    same-length-4
+    returns)

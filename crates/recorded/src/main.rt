@@ -1,0 +1,120 @@
+// Plays recorded runs from standard input, each on tables of zeros with 20 places. A run is its length (4 bytes, at most 65,536) and that
+// many bytes of recorded calls.
+ghost use Prim.Native.Nat.{_≤_};
+ghost use lib.ListN.{length};
+use show::lines::write;
+use show::lines::write_number;
+use show::part::play_part;
+use show::state::unstarted;
+use show::state::write_state;
+use trace::bytes::number_of;
+
+// What stands next in the input: nothing, a run that is cut short or too long, or a run.
+enum Next {
+    End,
+    Cut,
+    Run,
+}
+
+// What stands next, and the number of its bytes, which are read if it is a run.
+struct Found {
+    next: Next,
+    n: usize,
+}
+
+// Reads the length of a run.
+fn read_length() -> Found {
+    let mut head = [0u8; 4];
+    let got = io::read_full(0, &mut head);
+    if got == 0 {
+        return Found {
+            next: Next::End,
+            n: 0,
+        };
+    }
+    if got < 4 {
+        return Found {
+            next: Next::Cut,
+            n: 0,
+        };
+    }
+    let n = number_of(&head, 0) as usize;
+    Found { next: Next::Run, n }
+}
+
+// Reads the bytes of a run.
+fn read_run(input: &mut [u8]) -> Found
+    ensures { λ r. ⌜ r .n ≤ length (now (input .exit)) ⌝ }
+{
+    let cut = Found {
+        next: Next::Cut,
+        n: 0,
+    };
+    let found = read_length();
+    let n = found.n;
+    if input.len() < n {
+        return cut;
+    }
+    let got = io::read_full(0, &mut input[..n]);
+    if got < n {
+        return cut;
+    }
+    found
+}
+
+// Plays a run.
+fn play_run(bytes: &[u8]) {
+    let mut keys = [0u64; 160];
+    let mut links = [0u64; 6560];
+    let mut certs = [0u64; 20];
+    let mut order = [0u64; 20];
+    let part = play_part(
+        unstarted(),
+        &mut keys,
+        &mut links,
+        &mut certs,
+        &mut order,
+        bytes,
+        0,
+        true,
+    );
+    let s = part.state;
+    write_state(s, &keys, &links, &certs, &order);
+}
+
+// The line before a run.
+fn write_head(name: &[u8], number: u64) {
+    write_number(name, number);
+    write(b"\n");
+}
+
+// Plays the next run, if there is one, and says so.
+fn play_next(input: &mut [u8], number: u64) -> bool {
+    let found = read_run(input);
+    let next = found.next;
+    let n = found.n;
+    match next {
+        Next::End => false,
+        Next::Cut => {
+            write_head(b"cut part ", number);
+            false
+        }
+        Next::Run => {
+            write_head(b"part ", number);
+            play_run(&input[..n]);
+            true
+        }
+    }
+}
+
+// Nothing says that the input ends, so the runs are counted, to a number that no input reaches.
+fn main() {
+    let mut input = io::large_buffer();
+    let mut number: u64 = 0;
+    while number < u64::MAX {
+        if !play_next(&mut input, number) {
+            break;
+        }
+        number += 1;
+    }
+}

@@ -1,0 +1,63 @@
+// Origin: none. Records played one after another.
+ghost use mathlib.Core.Path.{_≡_};
+ghost use Prim.Native.Nat.{_≤_};
+ghost use lib.ListN.{length};
+ghost use Rattle.commit_answer.specs.Answer.{board};
+ghost use Rattle.show.specs.Runs.{Runs, Ends, leastLeft};
+use crate::lines::write_line;
+use dag_state::state::State;
+use play::one::play_one;
+
+// The state after the records that were played, the offset of the first that was not, and whether that one is broken.
+pub struct Part {
+    pub state: State,
+    pub at: usize,
+    pub broken: bool,
+}
+
+// How many bytes must be left for a record to be played: 4,100, the most that a record has, unless the bytes are the last.
+fn least_left(last: bool) -> usize
+    ensures { λ r. ⌜ r ≡ leastLeft last ⌝ }
+{
+    if last { 1 } else { 4100 }
+}
+
+// Plays the records of the bytes and writes their lines, until one is broken or too few bytes are left. The bytes begin at the offset
+// base of the input; last: nothing follows them.
+pub fn play_part(
+    s: State,
+    keys: &mut [u64],
+    links: &mut [u64],
+    certs: &mut [u64],
+    order: &mut [u64],
+    bytes: &[u8],
+    base: u64,
+    last: bool,
+) -> Part
+    ensures runs { λ r. ⌜ Runs (now (bytes .entry)) (board s (now (keys .entry)) (now (links .entry)) (now (certs .entry)) (now (order .entry))) (r .at) (board (r .state) (now (keys .exit)) (now (links .exit)) (now (certs .exit)) (now (order .exit))) ⌝ }
+    ensures ends { λ r. ⌜ (r .at ≤ length (now (bytes .entry))) × Ends (now (bytes .entry)) last (r .at) (r .broken) ⌝ }
+{
+    let mut now = s;
+    let mut at: usize = 0;
+    let mut broken = false;
+    let n = bytes.len();
+    let least = least_left(last);
+    while least <= n - at {
+        let played = play_one(now, keys, links, certs, order, bytes, at);
+        let line = played.line;
+        let next = played.state;
+        let end = played.end;
+        now = next;
+        write_line(line, std::num::wrapping_add_u64(base, at as u64));
+        if end <= at {
+            broken = true;
+            break;
+        }
+        at = end;
+    }
+    Part {
+        state: now,
+        at,
+        broken,
+    }
+}

@@ -1,0 +1,113 @@
+// Origin: none. The lines of the state and of the points.
+ghost use Prim.Native.Nat.{_+_, _*_, _≤_};
+ghost use lib.ListN.{length};
+ghost use Rattle.show.specs.Points.{Readable};
+use crate::lines::write;
+use crate::lines::write_number;
+use dag_state::state::RoundRecord;
+use dag_state::state::State;
+use dag_state::state::empty_memory;
+use dag_test::counts_as_started;
+use models::parts::Round;
+
+// A state of zeros, which isn't started.
+pub fn unstarted() -> State {
+    let empty = RoundRecord { peers: 0, used: 0 };
+    let memory = empty_memory();
+    State {
+        phase: 0,
+        count: 0,
+        genesis: Round(0),
+        history_rounds: 0,
+        deduplicate_rounds: 0,
+        bottom: Round(0),
+        top: Round(0),
+        last_proof: 0,
+        last_anchor: 0,
+        full_history_bottom: Round(0),
+        first_executable: Round(0),
+        gap: 0,
+        rounds: [empty; 512],
+        memory,
+    }
+}
+
+// The last proof's round: 0 is none, else the round plus 1.
+fn write_last_proof(last_proof: u32) {
+    if last_proof == 0 {
+        write(b" lastproof none");
+    } else {
+        write_number(b" lastproof ", (last_proof - 1) as u64);
+    }
+}
+
+// What the gap flag says of the question: not waited for, waited for, put.
+fn write_emit(gap: u32) {
+    if gap == 0 {
+        write(b" emit none\n");
+    } else if gap == 1 {
+        write(b" emit false\n");
+    } else {
+        write(b" emit true\n");
+    }
+}
+
+// The line of a state that is started.
+fn write_rounds(s: State) {
+    let bottom = s.bottom;
+    let top = s.top;
+    let full = s.full_history_bottom;
+    let first = s.first_executable;
+    write_number(b"state bottom ", bottom.0 as u64);
+    write_number(b" top ", top.0 as u64);
+    write_last_proof(s.last_proof);
+    write_number(b" fullbottom ", full.0 as u64);
+    write_number(b" first ", first.0 as u64);
+    write_emit(s.gap);
+}
+
+// The digest of place q, 64 digits.
+fn write_digest(keys: &[u64], q: usize)
+    requires { ⌜ q * 8 + 8 ≤ length (now keys) ⌝ }
+{
+    let _all = io::print_hex(1, keys[q * 8 + 2], 16);
+    let _all = io::print_hex(1, keys[q * 8 + 3], 16);
+    let _all = io::print_hex(1, keys[q * 8 + 4], 16);
+    let _all = io::print_hex(1, keys[q * 8 + 5], 16);
+}
+
+// The line of the point at place q with its certificate word.
+fn write_point(keys: &[u64], q: usize, word: u64)
+    requires { ⌜ q * 8 + 8 ≤ length (now keys) ⌝ }
+{
+    write_number(b"p ", keys[q * 8 + 0]);
+    write_number(b".", keys[q * 8 + 1]);
+    write(b".");
+    write_digest(keys, q);
+    write(b" ");
+    let _all = io::print_hex(1, word, 4);
+    write(b"\n");
+}
+
+// The lines of the points, by rising round, then digest: so the order holds their places.
+fn write_points(keys: &[u64], certs: &[u64], order: &[u64], count: usize)
+    requires { ⌜ Readable (now keys) (now certs) (now order) count ⌝ }
+{
+    let mut i: usize = 0;
+    while i < count {
+        let q = laws::slot(order[i]);
+        let word = certs[q];
+        write_point(keys, q, word);
+        i += 1;
+    }
+}
+
+// The lines of the state and its points; tables that don't count as started have none.
+pub fn write_state(s: State, keys: &[u64], links: &[u64], certs: &[u64], order: &[u64]) {
+    if counts_as_started(s, keys, links, certs, order) {
+        write_rounds(s);
+        write_points(keys, certs, order, s.count);
+    } else {
+        write(b"state none\n");
+    }
+}
