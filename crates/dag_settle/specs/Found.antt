@@ -46,7 +46,11 @@ unfolding placeOf unless
 then-is v i true q f e = rw (e, placeOf, then) refl
 then-is v i false q f e = rw (e, placeOf, then) refl
 
-module _ (s : State) (ks ls cs os : List ℕ) (i : PointId) (fk : Fit ks) (fl : Fit ls) (h : counts (view s ks ls cs os) ≡ true) (fi : Fit (idWords i)) where
+-- the id whose words are w
+abbrev pub idFor : List ℕ → Id
+idFor w = record { round = getD w 0 0; author = getD w 1 0; digest = digestAt w 2 }
+
+module _ (s : State) (ks ls cs os : List ℕ) (fk : Fit ks) (fl : Fit ls) (h : counts (view s ks ls cs os) ≡ true) where
   -- the store
   abbrev v : Store
   v = view s ks ls cs os
@@ -59,50 +63,60 @@ module _ (s : State) (ks ls cs os : List ℕ) (i : PointId) (fk : Fit ks) (fl : 
   t : Started s ks ls cs os
   t = counted s ks ls cs os fk fl h
 
-  -- the place q has the id's key and author
-  abbrev matches : ℕ → Bool
-  matches q = same (key ks q) (key (idWords i) 0) && eqb (authorAt ks q) (getD (idWords i) 1 0)
+  module _ (w : List ℕ) (fw : Fit w) where
+    -- the place q has the id's key and author
+    abbrev matches : ℕ → Bool
+    matches q = same (key ks q) (key w 0) && eqb (authorAt ks q) (getD w 1 0)
 
-  -- so it is named with the id
-  named-is : (q : ℕ) → Used os n q → isNamed v (idOf i) q ≡ matches q
-  unfolding view isNamed sameId state.pointAt idWords words digestAt
-  named-is q u =
-      ap (λ (p : Point). p .named && sameId (p .id) (idOf i)) (seen-used ks ls cs os n q u)
-      ∙ (turned (eqb (roundAt ks q) (i .round .0)) (eqb (authorAt ks q) (i .author)) (eqb (digestOf ks q) (digestAt (i .digest .0) 0))
-      ∙ ap (λ x. x && eqb (authorAt ks q) (i .author)) (sym (same-is ks (idWords i) q 0 fk fi)))
+    -- so it is named with the id
+    named-is : (q : ℕ) → Used os n q → isNamed v (idFor w) q ≡ matches q
+    unfolding view isNamed sameId state.pointAt
+    named-is q u =
+        ap (λ (p : Point). p .named && sameId (p .id) (idFor w)) (seen-used ks ls cs os n q u)
+        ∙ (turned (eqb (roundAt ks q) (getD w 0 0)) (eqb (authorAt ks q) (getD w 1 0)) (eqb (digestOf ks q) (digestAt w 2))
+        ∙ ap (λ x. x && eqb (authorAt ks q) (getD w 1 0)) (sym (same-is ks w q 0 fk fw)))
 
-  -- a place that is named with the id stands in the order, and has the id's key and author
-  stands : (q : ℕ) → isNamed v (idOf i) q ≡ true → (x : ℕ) × (x < n) × (placeAt os x ≡ q) × (matches q ≡ true)
-  unfolding view isNamed
-  stands q e = let u = seen-named ks ls cs os n q (and-l _ _ e) in (u .0, u .1, u .2, sym (named-is q u) ∙ e)
+    -- a place that is named with the id stands in the order, and has the id's key and author
+    stands : (q : ℕ) → isNamed v (idFor w) q ≡ true → (x : ℕ) × (x < n) × (placeAt os x ≡ q) × (matches q ≡ true)
+    unfolding view isNamed
+    stands q e = let u = seen-named ks ls cs os n q (and-l _ _ e) in (u .0, u .1, u .2, sym (named-is q u) ∙ e)
 
-  -- the position of the id's point
-  abbrev at : ℕ
-  at = positionFor ks os n (idWords i)
+    -- the position of the id's point
+    abbrev at : ℕ
+    at = positionFor ks os n w
 
-  -- the point is found exactly if it has a position
-  find-is : find v (idOf i) ≡ cond (ltb at n) (some (placeAt os at)) none
-  unfolding find pointAt
-  find-is = go (lowest (v .places) (isNamed v (idOf i))) refl
-    where
-      go : (o : Option ℕ) → lowest (v .places) (isNamed v (idOf i)) ≡ o → o ≡ cond (ltb at n) (some (placeAt os at)) none
-      go none e =
-          byTest (ltb at n)
-          (λ y. absurd (let l = ltb-true at n y in
-          clash (named-is (placeAt os at) (at, l, refl) ∙ first-hit (λ p. matches (placeAt os p)) n l) (lowest-none (v .places) (isNamed v (idOf i)) e (placeAt os at) (rw (places-is s ks ls cs os fk fl (t .shaped)) (t .facts .inside at l)))))
-          (λ y. rw y refl)
-      go (some q) e =
-          let (x, l, d, m) = stands q (lowest-some (v .places) (isNamed v (idOf i)) q e .1) in
-          byTest (ltb at n)
-          (λ y. let k = ltb-true at n y in
-          let w = first-hit (λ p. matches (placeAt os p)) n k in
-          rw y (ap some (sym d ∙ ap (placeAt os) (sorted-key ks os n x at (t .facts .sorted) l k (ap (key ks) d ∙ (same-eq _ _ (and-l _ _ m) ∙ sym (same-eq _ _ (and-l _ _ w))))))))
-          (λ y. absurd (clash (ap matches d ∙ m) (first-miss (λ p. matches (placeAt os p)) n x (omega (arith, l, ltb-false at n y)))))
+    -- the point is found exactly if it has a position
+    pub find-is : find v (idFor w) ≡ cond (ltb at n) (some (placeAt os at)) none
+    unfolding find pointAt
+    find-is = go (lowest (v .places) (isNamed v (idFor w))) refl
+      where
+        go : (o : Option ℕ) → lowest (v .places) (isNamed v (idFor w)) ≡ o → o ≡ cond (ltb at n) (some (placeAt os at)) none
+        go none e =
+            byTest (ltb at n)
+            (λ y. absurd (let l = ltb-true at n y in
+            clash (named-is (placeAt os at) (at, l, refl) ∙ first-hit (λ p. matches (placeAt os p)) n l) (lowest-none (v .places) (isNamed v (idFor w)) e (placeAt os at) (rw (places-is s ks ls cs os fk fl (t .shaped)) (t .facts .inside at l)))))
+            (λ y. rw y refl)
+        go (some q) e =
+            let (x, l, d, m) = stands q (lowest-some (v .places) (isNamed v (idFor w)) q e .1) in
+            byTest (ltb at n)
+            (λ y. let k = ltb-true at n y in
+            let w = first-hit (λ p. matches (placeAt os p)) n k in
+            rw y (ap some (sym d ∙ ap (placeAt os) (sorted-key ks os n x at (t .facts .sorted) l k (ap (key ks) d ∙ (same-eq _ _ (and-l _ _ m) ∙ sym (same-eq _ _ (and-l _ _ w))))))))
+            (λ y. absurd (clash (ap matches d ∙ m) (first-miss (λ p. matches (placeAt os p)) n x (omega (arith, l, ltb-false at n y)))))
 
+-- an id's words are its own
+words-id : (i : PointId) → idFor (idWords i) ≡ idOf i
+unfolding idWords words digestAt
+words-id i = refl
+
+module _ (s : State) (ks ls cs os : List ℕ) (i : PointId) (fk : Fit ks) (fl : Fit ls) (h : counts (view s ks ls cs os) ≡ true) (fi : Fit (idWords i)) where
   -- the tests of a call that names a point, as one number
-  pub point-is : {A : Type 0} (f : ℕ → Out A) → atId v (idOf i) (then (placeOf v (idOf i)) f) ≡ unless (pointCode s ks os i) (f (placeFor s ks os i))
+  pub point-is : {A : Type 0} (f : ℕ → Out A)
+      → atId (view s ks ls cs os) (idOf i) (then (placeOf (view s ks ls cs os) (idOf i)) f) ≡ unless (pointCode s ks os i) (f (placeFor s ks os i))
   unfolding pointCode placeFor missing
   point-is f =
+      let v = view s ks ls cs os in
+      let at = positionFor ks os (s .count) (idWords i) in
       at-code s ks ls cs os i _
-      ∙ (ap (unless (idCode s i)) (then-is v (idOf i) (ltb at n) (placeAt os at) f find-is)
-      ∙ unless-else (idCode s i) (missing ks os n (idWords i)) _)
+      ∙ (ap (unless (idCode s i)) (then-is v (idOf i) (ltb at (s .count)) (placeAt os at) f (ap (find v) (sym (words-id i)) ∙ find-is s ks ls cs os fk fl h (idWords i) fi))
+      ∙ unless-else (idCode s i) (missing ks os (s .count) (idWords i)) _)

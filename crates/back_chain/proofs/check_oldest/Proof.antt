@@ -1,0 +1,31 @@
+use native.Mathlib.Omega.{arith}
+use mathlib.Core.Path.{refl}
+use Rattle.back_chain.specs.Chain.{check-bad, check-none, check-apart, check-on}
+use borrow.Author.Needs.{needs}
+use Rattle.back_chain.proofs.check_oldest.Statement.{statement}
+use Rattle.back_chain.proofs.check_oldest.Tie as tie
+
+returns : tie.Need-returns
+returns c = (check-bad _ _ (c .if1 .taken), search needs)
+
+returns-2 : tie.Need-returns-2
+returns-2 c = (check-none _ _ (c .before .if1 .left) (c .if2 .taken), search needs)
+
+sub-e : tie.Need-sub-e
+sub-e c = search needs
+
+mul-e : tie.Need-mul-e
+mul-e c = search needs
+
+array-copy-out-e : tie.Need-array-copy-out-e
+array-copy-out-e c = search needs
+
+returns-3 : tie.Need-returns-3
+returns-3 c = (check-apart _ _ (c .before .before .before .before .before .before .if1 .left) (c .before .before .before .before .before .if2 .left) (omega (arith, c .if3 .taken)) _ refl, search needs)
+
+returns-4 : tie.Need-returns-4
+returns-4 c = (check-on _ _ (c .before .before .before .before .before .before .if1 .left) (c .before .before .before .before .before .if2 .left) (omega (arith, c .if3 .left)), search needs)
+
+pub check-oldest-spec : {M : Type 1} → statement M
+check-oldest-spec =
+    tie.close (tie.spec returns returns-2 sub-e mul-e array-copy-out-e returns-3 returns-4)

@@ -1,0 +1,57 @@
+use Rattle.back_chain.specs.Trigger.{walks-invalid, walks-unmarked, walks-genesis, walks-by}
+use borrow.Author.Needs.{needs}
+use Rattle.back_chain.proofs.has_walk.Statement.{statement}
+use Rattle.back_chain.proofs.has_walk.Tie as tie
+
+mul-status : tie.Need-mul-status
+mul-status c = search needs
+
+add-status : tie.Need-add-status
+add-status c = search needs
+
+mul-status-2 : tie.Need-mul-status-2
+mul-status-2 c = search needs
+
+shared-slice-read-status : tie.Need-shared-slice-read-status
+shared-slice-read-status c = search needs
+
+mul-marks : tie.Need-mul-marks
+mul-marks c = search needs
+
+add-marks : tie.Need-add-marks
+add-marks c = search needs
+
+mul-marks-2 : tie.Need-mul-marks-2
+mul-marks-2 c = search needs
+
+shared-slice-read-marks : tie.Need-shared-slice-read-marks
+shared-slice-read-marks c = search needs
+
+returns : tie.Need-returns
+returns c = walks-invalid _ _ _ _ _ (c .if1 .taken)
+
+returns-2 : tie.Need-returns-2
+returns-2 c = walks-unmarked _ _ _ _ _ (c .before .if1 .left) (c .if2 .taken)
+
+returns-3 : tie.Need-returns-3
+returns-3 c = walks-genesis _ _ _ _ _ (c .before .before .before .before .if1 .left) (c .before .before .before .if2 .left) (c .if3 .taken)
+
+returns-4 : tie.Need-returns-4
+returns-4 c = walks-by _ _ _ _ _ (c .before .before .before .before .if1 .left) (c .before .before .before .if2 .left) (c .if3 .left)
+
+pub has-walk-spec : {M : Type 1} → statement M
+has-walk-spec =
+    tie.close
+    (tie.spec
+    mul-status
+    add-status
+    mul-status-2
+    shared-slice-read-status
+    mul-marks
+    add-marks
+    mul-marks-2
+    shared-slice-read-marks
+    returns
+    returns-2
+    returns-3
+    returns-4)

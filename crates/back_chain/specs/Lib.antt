@@ -1,0 +1,4 @@
+pub mod Chain
+pub mod Walked
+pub mod Trigger
+pub mod Anchors

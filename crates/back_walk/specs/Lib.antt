@@ -1,0 +1,3 @@
+pub mod Words
+pub mod Step
+pub mod Visit
