@@ -15,7 +15,7 @@ pub enum Known {
 }
 
 /// The titles of the entries, numbered from 1.
-pub const ENTRIES: [&str; 14] = [
+pub const ENTRIES: [&str; 15] = [
     "A trigger that is neither valid nor certified",
     "Calls on tables that aren't started",
     "Drop keeps the last committed proof",
@@ -30,6 +30,7 @@ pub const ENTRIES: [&str; 14] = [
     "A trigger that the store doesn't have",
     "Peer sets",
     "Buffers",
+    "A proof's top proof",
 ];
 
 /// The rows are numbered from 1.
@@ -142,8 +143,7 @@ impl Tried<'_> {
             Call::Start(_) => self.when(panics(self.told, "already init"), Known::Row(2)),
             Call::Reset => self.when(done(self.told), entry),
             Call::Gap => self.when(answers(self.told, &Answer::Said(false)), entry),
-            // there is no round to hold the point: row 6
-            Call::Name(_) | Call::Resolve(..) | Call::Certify(_) => self.when(no_call(self.told), Known::Row(6)),
+            Call::Name(_) | Call::Resolve(..) | Call::Certify(_) => self.when(no_call(self.told), entry),
             Call::Round { .. } | Call::Drop(_) | Call::Commit(_) | Call::Remove { .. } => {
                 self.when(panics(self.told, EMPTY), entry)
             }

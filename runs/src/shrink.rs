@@ -1,12 +1,16 @@
 //! The shortest list that still shows a difference: calls are taken away, then fields are made simpler.
 
 use std::collections::BTreeMap;
+use std::time::{Duration, Instant};
 
 use committer::{Call, PointId, PointInfo, Start};
 
 use crate::compare::{Difference, Kind, List, compare};
 use crate::counts::Counts;
 use crate::library::Side;
+
+/// A list of thousands of calls isn't made shorter for longer than this.
+const LONGEST: Duration = Duration::from_secs(30);
 
 /// The list without what the difference doesn't need, and the difference that it shows.
 pub fn shrink<S: Side>(list: &List, found: &Difference) -> (List, Difference) {
@@ -29,6 +33,7 @@ struct Shown<S> {
     list: List,
     found: Difference,
     kind: Kind,
+    until: Instant,
     side: std::marker::PhantomData<S>,
 }
 
@@ -36,11 +41,20 @@ impl<S: Side> Shown<S> {
     fn new(list: &List, found: &Difference) -> Self {
         let mut list = list.clone();
         list.calls.truncate(found.at + 1);
-        Shown { list, found: found.clone(), kind: found.kind, side: std::marker::PhantomData }
+        Shown {
+            list,
+            found: found.clone(),
+            kind: found.kind,
+            until: Instant::now() + LONGEST,
+            side: std::marker::PhantomData,
+        }
     }
 
     /// Takes another list if it shows a difference of the same kind. Calls after that difference go.
     fn take(&mut self, mut list: List) -> bool {
+        if Instant::now() > self.until {
+            return false;
+        }
         match compare::<S>(&list, &mut Counts::default()) {
             Err(found) if found.kind == self.kind => {
                 list.calls.truncate(found.at + 1);

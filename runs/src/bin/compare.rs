@@ -99,10 +99,11 @@ fn tasks(seed: u64) -> impl Iterator<Item = Task> {
         let list = damaged(grown(random(2, n)), random(3, n));
         Task { family: "damaged", twice: n % TWICE == 0, list }
     });
-    (limits().into_iter().map(once("limits")))
-        .chain(shorts().map(once("short")))
+    // short lists first, so that a difference is shown by a short one; the long ones of the limits last
+    (shorts().map(once("short")))
         .chain(grown_tasks)
         .chain(damaged_tasks)
+        .chain(limits().into_iter().map(once("limits")))
 }
 
 fn report((task, found): &Failure) -> ExitCode {
