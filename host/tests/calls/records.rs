@@ -153,30 +153,64 @@ fn line(call: &Call, answer: Answer) -> String {
     }
 }
 
-fn last_line(committer: &Committer) -> String {
-    let Some(s) = committer.summary() else { return "state none".into() };
+/// The lines of the state and of the points.
+fn last_lines(committer: &Committer) -> Vec<String> {
+    let Some(s) = committer.summary() else { return vec!["state none".into()] };
     let proof = s.last_proof.map_or("none".into(), |round| round.to_string());
     let emit = s.emit_first_after_gap.map_or("none".into(), |flag| flag.to_string());
-    format!(
+    let state = format!(
         "state bottom {} top {} lastproof {proof} fullbottom {} first {} emit {emit}",
         s.bottom, s.top, s.full_history_bottom, s.first_executable
-    )
+    );
+    let points = committer.points().into_iter().map(|p| {
+        let digest: String = p.id.digest.iter().map(|byte| format!("{byte:02x}")).collect();
+        format!("p {}.{}.{digest} {:04x}", p.id.round, p.id.author, p.word)
+    });
+    std::iter::once(state).chain(points).collect()
 }
 
-/// `replay` reads this recording and writes this text, in the repository's own tests.
-#[test]
-fn the_recording_of_replay() {
-    let folder = concat!(env!("CARGO_MANIFEST_DIR"), "/../crates/replay/");
-    let recording = std::fs::read(format!("{folder}stdin")).expect("the recording");
-    let expected = std::fs::read_to_string(format!("{folder}stdout")).expect("what replay writes");
+/// What `replay` writes for a recording.
+fn played(recording: &[u8]) -> Vec<String> {
     let mut committer = Committer::new(20);
     let mut lines = Vec::new();
-    for call in record::calls(&recording) {
+    for call in record::calls(recording) {
         lines.push(match call {
             Ok(call) => line(&call, committer.call(&call)),
             Err(broken) => broken.to_string(),
         });
     }
-    lines.push(last_line(&committer));
-    assert_eq!(lines, expected.lines().collect::<Vec<_>>());
+    lines.extend(last_lines(&committer));
+    lines
+}
+
+/// The input of a program of the repository, and what it must write.
+fn run_of(program: &str) -> (Vec<u8>, Vec<String>) {
+    let folder = format!("{}/../crates/{program}/", env!("CARGO_MANIFEST_DIR"));
+    let input = std::fs::read(format!("{folder}stdin")).expect("the input");
+    let text = std::fs::read_to_string(format!("{folder}stdout")).expect("what the program writes");
+    (input, text.lines().map(String::from).collect())
+}
+
+#[test]
+fn the_recording_of_replay() {
+    let (recording, expected) = run_of("replay");
+    assert_eq!(played(&recording), expected);
+}
+
+#[test]
+fn the_parts_of_recorded() {
+    let (mut input, expected) = run_of("recorded");
+    let mut lines = Vec::new();
+    for part in 0.. {
+        let Some((length, rest)) = input.split_first_chunk::<4>() else { break };
+        let length = u32::from_be_bytes(*length) as usize;
+        if rest.len() < length {
+            lines.push(format!("cut part {part}"));
+            break;
+        }
+        lines.push(format!("part {part}"));
+        lines.extend(played(&rest[..length]));
+        input = rest[length..].to_vec();
+    }
+    assert_eq!(lines, expected);
 }
