@@ -164,7 +164,7 @@ fn last_lines(committer: &Committer) -> Vec<String> {
     );
     let points = committer.points().into_iter().map(|p| {
         let digest: String = p.id.digest.iter().map(|byte| format!("{byte:02x}")).collect();
-        format!("p {}.{}.{digest} {:04x}", p.id.round, p.id.author, p.word)
+        format!("p {}.{}.{digest} {:04x}", p.id.round, p.id.author, p.cert)
     });
     std::iter::once(state).chain(points).collect()
 }
