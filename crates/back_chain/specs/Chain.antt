@@ -61,7 +61,7 @@ sub-one : (n : ℕ) → suc n - 1 ≡ n
 sub-one n = omega arith
 
 -- the oldest one first
-chain-head : (l : List Enqueued) (n : ℕ) → 0 < n → chainOf l n ≡ enqueuedOf (getD l (n - 1) noEnqueued) ∷ chainOf l (n - 1)
+pub chain-head : (l : List Enqueued) (n : ℕ) → 0 < n → chainOf l n ≡ enqueuedOf (getD l (n - 1) noEnqueued) ∷ chainOf l (n - 1)
 unfolding chainOf
 chain-head l zero h = absurd (omega arith)
 chain-head l (suc n) h = rw (sub-one n) refl

@@ -55,6 +55,10 @@ seen b = view (b .state) (b .keys) (b .links) (b .certs) (b .order)
 unfoldable pub leaves : Answer → Board → calls.Outcome
 leaves a b = quiet (seen b) (answerOf a)
 
+-- what a call with a buffer leaves
+unfoldable pub leavesIn : Answer → Board → List ℕ → calls.Outcome
+leavesIn a b buffer = record { answer = answerOf a; store = seen b; buffer = buffer }
+
 -- whether it is a refusal
 unfoldable pub isRefused : Answer → Bool
 isRefused Done = false

@@ -1,0 +1,106 @@
+use Prim.Native.Nat.{_-_}
+use mathlib.Core.Path.{_≡_, sym, _∙_}
+use native.Mathlib.Omega.{arith}
+use lib.ListN.{length, length-map}
+use Rattle.models.specs.Digest.{Fit}
+use Rattle.back_walk.specs.Visit.{enqueuedOf}
+use Rattle.commit_anchor.specs.One.{number-fits, one-refused, one-taken}
+use Rattle.commit_anchor.specs.Says.{held, anchor-used, placed, picked-ready, one-says}
+use borrow.Author.Needs.{needs}
+use Rattle.commit_anchor.proofs.one.commit_one.Statement.{statement}
+use Rattle.commit_anchor.proofs.one.commit_one.Tie as tie
+
+-- a state has 512 round records
+long : (b : tie.Start) → length (b .args .s .rounds) ≡ 512
+long b = sym (length-map (b .args .s .rounds) _) ∙ b .good .0 .1 .1 .1 .1 .1 .1 .1 .1 .1 .1 .1 .1 .1 .1 .0 .1 .0 .1
+
+test-anchor-requires : tie.Need-test-anchor-requires
+test-anchor-requires c κs =
+    let b = c .before .before .before .before .before .before in
+    let a = b .args in
+    let fk : Fit (a .keys .now) = λ p. c .before .before .before .before .before .shared-slice-known .given p .fits in
+    let fl : Fit (a .links .now) = λ p. c .before .before .before .before .shared-slice-known2 .given p .fits in
+    (held (a .s) (a .keys .now) (a .links .now) (a .certs .now) (a .order .now) fk fl (b .pre .0) (enqueuedOf (a .e)) (b .pre .1 .0), anchor-used (a .s) (a .keys .now) (a .links .now) (a .certs .now) (a .order .now) fk fl (b .pre .0) (enqueuedOf (a .e)) (b .pre .1 .0))
+
+sub-number-for : tie.Need-sub-number-for
+sub-number-for c = search needs
+
+number-for-requires : tie.Need-number-for-requires
+number-for-requires c κs =
+    let b = c .before .before .before .before .before .before .before .before in
+    let a = b .args in
+    let fk : Fit (a .keys .now) = λ p. c .before .before .before .before .before .before .before .shared-slice-known .given p .fits in
+    let fl : Fit (a .links .now) = λ p. c .before .before .before .before .before .before .shared-slice-known2 .given p .fits in
+    let (n, p, q) = picked-ready (a .s) (a .keys .now) (a .links .now) (a .certs .now) (a .order .now) fk fl (b .pre .0) (enqueuedOf (a .e)) (b .pre .1 .0) (c .before .test-anchor .result) (c .before .test-anchor .ensures .0) in
+    n
+
+same-length : tie.Need-same-length
+same-length c = search needs
+
+returns : tie.Need-returns
+returns c =
+    let b = c .before .before .before .before .before .before .before .before .before .before in
+    let a = b .args in
+    let fk : Fit (a .keys .now) = λ p. c .before .before .before .before .before .before .before .before .before .shared-slice-known .given p .fits in
+    let fl : Fit (a .links .now) = λ p. c .before .before .before .before .before .before .before .before .shared-slice-known2 .given p .fits in
+    let w = one-refused (a .s) (a .keys .now) (a .links .now) (a .certs .now) (a .order .now) (a .b .now) (a .at) (enqueuedOf (a .e)) (c .before .before .before .test-anchor .result) (c .before .before .before .test-anchor .ensures .0) _ (c .before .number-for .ensures) (c .if1 .taken) in
+    (w, one-says (a .s) (a .keys .now) (a .links .now) (a .certs .now) (a .order .now) fk fl (b .pre .0) (enqueuedOf (a .e)) (b .pre .1 .0) (long b) (a .b .now) (a .at) (b .pre .1 .1) _ w)
+
+put-anchor-requires : tie.Need-put-anchor-requires
+put-anchor-requires c κs =
+    let b = c .before .before .before .before .before .before .before .before .before .before .before .before .before .before in
+    let a = b .args in
+    let fk : Fit (a .keys .now) = λ p. c .before .before .before .before .before .before .before .before .before .before .before .before .before .shared-slice-known .given p .fits in
+    let fl : Fit (a .links .now) = λ p. c .before .before .before .before .before .before .before .before .before .before .before .before .shared-slice-known2 .given p .fits in
+    let (n, p, q) = picked-ready (a .s) (a .keys .now) (a .links .now) (a .certs .now) (a .order .now) fk fl (b .pre .0) (enqueuedOf (a .e)) (b .pre .1 .0) (c .before .before .before .before .before .before .before .test-anchor .result) (c .before .before .before .before .before .before .before .test-anchor .ensures .0) in
+    let r = number-fits (c .before .before .before .before .before .before .before .test-anchor .result .code) (a .s .gap) (c .before .before .before .before .before .before .before .test-anchor .result .count) (length (a .b .now) - a .at) (sym (c .before .before .before .before .before .number-for .ensures) ∙ c .before .before .before .before .if1 .left) in
+    (p, (placed (a .s) (a .keys .now) (a .links .now) (a .certs .now) (a .order .now) fk fl (b .pre .0) (enqueuedOf (a .e)) (b .pre .1 .0), omega (arith, r, b .pre .1 .1)))
+
+next-state-requires : tie.Need-next-state-requires
+next-state-requires c κs =
+    let b = c .before .before .before .before .before .before .before .before .before .before .before .before .before .before .before .before .before .before in
+    let a = b .args in
+    let fk : Fit (a .keys .now) = λ p. c .before .before .before .before .before .before .before .before .before .before .before .before .before .before .before .before .before .shared-slice-known .given p .fits in
+    let fl : Fit (a .links .now) = λ p. c .before .before .before .before .before .before .before .before .before .before .before .before .before .before .before .before .shared-slice-known2 .given p .fits in
+    let (n, p, q) = picked-ready (a .s) (a .keys .now) (a .links .now) (a .certs .now) (a .order .now) fk fl (b .pre .0) (enqueuedOf (a .e)) (b .pre .1 .0) (c .before .before .before .before .before .before .before .before .before .before .before .test-anchor .result) (c .before .before .before .before .before .before .before .before .before .before .before .test-anchor .ensures .0) in
+    (p .3, placed (a .s) (a .keys .now) (a .links .now) (a .certs .now) (a .order .now) fk fl (b .pre .0) (enqueuedOf (a .e)) (b .pre .1 .0))
+
+mark-all-requires : tie.Need-mark-all-requires
+mark-all-requires c κs =
+    let b = c .before .before .before .before .before .before .before .before .before .before .before .before .before .before .before .before .before .before .before .before .before in
+    let a = b .args in
+    let fk : Fit (a .keys .now) = λ p. c .before .before .before .before .before .before .before .before .before .before .before .before .before .before .before .before .before .before .before .before .shared-slice-known .given p .fits in
+    let fl : Fit (a .links .now) = λ p. c .before .before .before .before .before .before .before .before .before .before .before .before .before .before .before .before .before .before .before .shared-slice-known2 .given p .fits in
+    let (n, p, q) = picked-ready (a .s) (a .keys .now) (a .links .now) (a .certs .now) (a .order .now) fk fl (b .pre .0) (enqueuedOf (a .e)) (b .pre .1 .0) (c .before .before .before .before .before .before .before .before .before .before .before .before .before .before .test-anchor .result) (c .before .before .before .before .before .before .before .before .before .before .before .before .before .before .test-anchor .ensures .0) in
+    (p .0, p .1, p .2, p .4, q)
+
+same-length-2 : tie.Need-same-length-2
+same-length-2 c = search needs
+
+same-length-3 : tie.Need-same-length-3
+same-length-3 c = search needs
+
+returns-2 : tie.Need-returns-2
+returns-2 c =
+    let b = c .before .before .before .before .before .before .before .before .before .before .before .before .before .before .before .before .before .before .before .before .before .before .before .before in
+    let a = b .args in
+    let fk : Fit (a .keys .now) = λ p. c .before .before .before .before .before .before .before .before .before .before .before .before .before .before .before .before .before .before .before .before .before .before .before .shared-slice-known .given p .fits in
+    let fl : Fit (a .links .now) = λ p. c .before .before .before .before .before .before .before .before .before .before .before .before .before .before .before .before .before .before .before .before .before .before .shared-slice-known2 .given p .fits in
+    let w = one-taken (a .s) (a .keys .now) (a .links .now) (a .certs .now) (a .order .now) (a .b .now) (a .at) (enqueuedOf (a .e)) (c .before .before .before .before .before .before .before .before .before .before .before .before .before .before .before .before .before .test-anchor .result) (c .before .before .before .before .before .before .before .before .before .before .before .before .before .before .before .before .before .test-anchor .ensures .0) _ (c .before .before .before .before .before .before .before .before .before .before .before .before .before .before .before .number-for .ensures) (c .before .before .before .before .before .before .before .before .before .before .before .before .before .before .if1 .left) _ _ _ _ (c .before .before .before .before .before .next-state .ensures) (c .before .before .mark-all .ensures) (c .before .before .before .before .before .before .before .before .before .put-anchor .ensures .1) (c .before .before .before .before .before .before .before .before .before .put-anchor .ensures .0) in
+    (w, one-says (a .s) (a .keys .now) (a .links .now) (a .certs .now) (a .order .now) fk fl (b .pre .0) (enqueuedOf (a .e)) (b .pre .1 .0) (long b) (a .b .now) (a .at) (b .pre .1 .1) _ w)
+
+pub commit-one-spec : {M : Type 1} → statement M
+commit-one-spec =
+    tie.close
+    (tie.spec
+    test-anchor-requires
+    sub-number-for
+    number-for-requires
+    same-length
+    returns
+    put-anchor-requires
+    next-state-requires
+    mark-all-requires
+    same-length-2
+    same-length-3
+    returns-2)

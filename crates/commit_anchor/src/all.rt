@@ -1,0 +1,69 @@
+// Origin: dag/commit/mod.rs (commit): the anchors of a chain, oldest first, up to the first that is refused.
+ghost use mathlib.Core.Path.{_≡_};
+ghost use mathlib.Core.Bool.{true};
+ghost use Prim.Native.Nat.{_≤_};
+ghost use Rattle.spec.specs.Rules.{counts};
+ghost use Rattle.spec.specs.Walk.{Rising};
+ghost use Rattle.spec.specs.History.{commitAll};
+ghost use Rattle.dag_test.specs.View.{view};
+ghost use Rattle.back_chain.specs.Chain.{chainOf};
+ghost use Rattle.commit_anchor.specs.All.{leftOf, finishedOf, allOf};
+use crate::one::commit_one;
+use back_walk::Enqueued;
+use dag_state::state::State;
+use models::parts::Round;
+
+// What stopped the anchors, 0 if nothing did, with the round of a history conflict; the state and the number of finished anchors.
+pub struct All {
+    pub code: u32,
+    pub round: Round,
+    pub state: State,
+    pub finished: u32,
+}
+
+// The `count` anchors of the list, which has the newest first, their records from the buffer's first byte on. Finished anchors stay
+// finished if a later one is refused.
+pub fn commit_all(
+    s: State,
+    keys: &[u64],
+    links: &[u64],
+    certs: &mut [u64],
+    order: &[u64],
+    b: &mut [u8],
+    list: [Enqueued; 512],
+    count: usize,
+) -> All
+    requires { ⌜ counts (view s (now keys) (now links) (now certs) (now order)) ≡ true ⌝ }
+    requires { ⌜ Rising (view s (now keys) (now links) (now certs) (now order)) 0 (chainOf list count) ⌝ }
+    requires { ⌜ count ≤ 512 ⌝ }
+    ensures words { λ r. ⌜ leftOf (r .code) (r .round .0) (r .state) (now (certs .exit)) (now (b .exit)) (r .finished) ≡ allOf (now (keys .entry)) (now (links .entry)) (now (order .entry)) s (now (certs .entry)) (now (b .entry)) 0 0 (chainOf list count) ⌝ }
+    ensures finished { λ r. ⌜ finishedOf (now (keys .entry)) (now (links .entry)) (now (order .entry)) (leftOf (r .code) (r .round .0) (r .state) (now (certs .exit)) (now (b .exit)) (r .finished)) ≡ commitAll (view s (now (keys .entry)) (now (links .entry)) (now (certs .entry)) (now (order .entry))) (now (b .entry)) 0 0 (chainOf list count) ⌝ }
+{
+    let mut cur = s;
+    let mut end: usize = 0;
+    let mut finished: u32 = 0;
+    let mut k = count;
+    while 0 < k {
+        k -= 1;
+        let e = list[k];
+        let o = commit_one(cur, keys, links, certs, order, b, end, e);
+        let round = o.round;
+        cur = o.state;
+        if o.code != 0 {
+            return All {
+                code: o.code,
+                round,
+                state: cur,
+                finished,
+            };
+        }
+        end = o.end;
+        finished += 1;
+    }
+    All {
+        code: 0,
+        round: Round(0),
+        state: cur,
+        finished,
+    }
+}

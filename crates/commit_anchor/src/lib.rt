@@ -1,0 +1,3 @@
+// The anchors of a chain, committed one after another.
+pub mod all;
+pub mod one;

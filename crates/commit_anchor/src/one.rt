@@ -1,0 +1,160 @@
+// Origin: dag/commit/mod.rs (dequeue_anchor): one anchor is tested, then its record is written, its history marked and the state brought
+// up to it.
+ghost use mathlib.Core.Path.{_≡_};
+ghost use mathlib.Core.Bool.{true};
+ghost use Prim.Native.Nat.{_+_, _*_, _-_, _<_, _≤_};
+ghost use lib.ListN.{length};
+ghost use Rattle.laws.specs.Bytes.{written};
+ghost use Rattle.spec.specs.Rules.{counts};
+ghost use Rattle.spec.specs.Walk.{Anchored};
+ghost use Rattle.models.specs.Tables.{roundAt, authorAt};
+ghost use Rattle.dag_test.specs.View.{view};
+ghost use Rattle.back_walk.specs.Visit.{enqueuedOf};
+ghost use Rattle.commit_record.specs.After.{afterState};
+ghost use Rattle.commit_anchor.specs.One.{Pickable, Placed, numberFor, recordFor, stepOf, oneOf};
+ghost use Rattle.commit_anchor.specs.Says.{Says};
+use back_points::anchor::test_anchor;
+use back_points::fault::round_at;
+use back_walk::Enqueued;
+use commit_record::after::after_anchor;
+use commit_record::after::mark_all;
+use commit_record::record::executable;
+use commit_record::record::previous_anchor;
+use commit_record::record::put_record;
+use dag_state::state::State;
+use models::parts::Round;
+
+// What one anchor was refused with, 0 if it wasn't, and the round of a history conflict; the state, and the next free byte.
+pub struct One {
+    pub code: u32,
+    pub round: Round,
+    pub state: State,
+    pub end: usize,
+}
+
+// What refuses an anchor of this many points: the number of its tests, 20 while the gap question isn't put, 21 if its record is longer
+// than what is left of the buffer.
+fn number_for(code: u32, gap: u32, count: usize, left: usize) -> u32
+    requires { ⌜ count ≤ 4096 ⌝ }
+    ensures { λ r. ⌜ r ≡ numberFor code gap count left ⌝ }
+{
+    if code != 0 {
+        return code;
+    }
+    if gap == 1 {
+        return 20;
+    }
+    if left < 83 + count * 37 {
+        return 21;
+    }
+    0
+}
+
+// The record of the anchor, of `count` points.
+fn put_anchor(
+    s: State,
+    keys: &[u64],
+    certs: &[u64],
+    order: &[u64],
+    b: &mut [u8],
+    at: usize,
+    e: Enqueued,
+    marks: &[bool; 4096],
+    low: usize,
+    high: usize,
+    count: usize,
+) -> usize
+    requires { ⌜ Pickable (now keys) (now certs) (now order) (now marks) low high count ⌝ }
+    requires { ⌜ Placed (now keys) (now certs) (enqueuedOf e) ⌝ }
+    requires { ⌜ at + 83 + count * 37 ≤ length (now b) ⌝ }
+    ensures { λ r. ⌜ (r ≡ at + 83 + count * 37) × (now (b .exit) ≡ written (now (b .entry)) at (recordFor s (now (keys .entry)) (now (certs .entry)) (now (order .entry)) (now (marks .entry)) low high (enqueuedOf e))) ⌝ }
+{
+    let anchor = e.anchor;
+    let proof = e.proof;
+    let r = round_at(keys, anchor);
+    let round = r.0;
+    let x = executable(s, round);
+    let before = previous_anchor(s, round, e.prev_proof_round);
+    put_record(
+        b,
+        at,
+        keys,
+        marks,
+        order,
+        certs,
+        low,
+        high,
+        anchor,
+        proof,
+        x,
+        before,
+        count,
+    )
+}
+
+// The state after the anchor.
+fn next_state(s: State, keys: &[u64], certs: &[u64], e: Enqueued) -> State
+    requires { ⌜ length (now certs) * 8 ≤ length (now keys) ⌝ }
+    requires { ⌜ Placed (now keys) (now certs) (enqueuedOf e) ⌝ }
+    ensures { λ r. ⌜ r ≡ afterState s (roundAt (now (keys .entry)) (e .anchor)) (roundAt (now (keys .entry)) (e .proof)) (authorAt (now (keys .entry)) (e .anchor)) ⌝ }
+{
+    let anchor = e.anchor;
+    let proof = e.proof;
+    let ar = round_at(keys, anchor);
+    let pr = round_at(keys, proof);
+    let author = dag_keys::author(keys, anchor) as u32;
+    after_anchor(s, ar.0, pr.0, author)
+}
+
+// One anchor, its record from byte `at` on. Nothing changes if it is refused.
+pub fn commit_one(
+    s: State,
+    keys: &[u64],
+    links: &[u64],
+    certs: &mut [u64],
+    order: &[u64],
+    b: &mut [u8],
+    at: usize,
+    e: Enqueued,
+) -> One
+    requires { ⌜ counts (view s (now keys) (now links) (now certs) (now order)) ≡ true ⌝ }
+    requires { ⌜ Anchored (view s (now keys) (now links) (now certs) (now order)) (enqueuedOf e) ⌝ }
+    requires { ⌜ at ≤ length (now b) ⌝ }
+    ensures words { λ r. ⌜ stepOf (r .code) (r .round .0) (r .state) (now (certs .exit)) (now (b .exit)) (r .end) ≡ oneOf s (now (keys .entry)) (now (links .entry)) (now (certs .entry)) (now (order .entry)) (now (b .entry)) at (enqueuedOf e) ⌝ }
+    ensures says { λ r. ⌜ Says (view s (now (keys .entry)) (now (links .entry)) (now (certs .entry)) (now (order .entry))) (now (b .entry)) at (enqueuedOf e) (r .code) (r .round .0) (view (r .state) (now (keys .entry)) (now (links .entry)) (now (certs .exit)) (now (order .entry))) (now (b .exit)) (r .end) ⌝ }
+{
+    let t = test_anchor(s, keys, links, certs, order, e.anchor);
+    let count = t.count;
+    let round = t.round;
+    let code = number_for(t.code, s.gap, count, b.len() - at);
+    if code != 0 {
+        return One {
+            code,
+            round,
+            state: s,
+            end: at,
+        };
+    }
+    let marks = t.marks;
+    let end = put_anchor(
+        s,
+        keys,
+        certs,
+        order,
+        b,
+        at,
+        e,
+        &marks,
+        t.low,
+        t.high,
+        count,
+    );
+    let next = next_state(s, keys, certs, e);
+    mark_all(&marks, order, certs, t.low, t.high);
+    One {
+        code: 0,
+        round,
+        state: next,
+        end,
+    }
+}

@@ -1,0 +1,232 @@
+-- The call commit (01: commit/mod.rs): "A commit does its whole walk first", then its anchors, oldest first.
+use Prim.Native.Nat.{ℕ}
+use mathlib.Core.Path.{_≡_, refl, sym, ap, subst, _∙_}
+use mathlib.Core.List.{List}
+use mathlib.Core.Bool.{Bool, true, false, not, cond}
+use mathlib.Core.Option.{Option, none, some}
+use native.Mathlib.Omega.{arith}
+use borrow.Author.Tests.{eq-eqb, ne-eqb, not-true, not-false}
+use Rattle.laws.specs.Test.{byTest}
+use Rattle.spec.specs.Ids.{Id}
+use Rattle.spec.specs.Store.{Store}
+use Rattle.spec.specs.Rules.{counts}
+use Rattle.spec.specs.Chain as chain
+use Rattle.spec.specs.Chain.{number, conflict, Out, bad, good, Enqueued, lowestWalked, anchorsOf}
+use Rattle.spec.specs.History.{Finished, commitAll}
+use Rattle.spec.specs.Walk.{Rising, rising-less}
+use Rattle.spec.specs.Started.{Wf, counts-elim}
+use Rattle.spec.specs.Kept.{anchors-rising}
+use Rattle.spec.specs.Calls as calls
+use Rattle.spec.specs.Calls.{call, act, isStart, lent, doCommit, commitEnd}
+use Rattle.models.specs.Digest.{Fit}
+use Rattle.dag_state.specs.declared.state.State.{State}
+use Rattle.dag_test.specs.View.{view}
+use Rattle.dag_test.specs.Whole.{sized}
+use Rattle.dag_test.specs.Counts.{Started, counted}
+use Rattle.back_walk.specs.Visit as visit
+use Rattle.back_points.specs.Fault as fault
+use Rattle.back_chain.specs.declared.Chain.{Chain}
+use Rattle.back_chain.specs.Chain.{chainOf, chainOut, out-good, out-bad}
+use Rattle.commit_anchor.specs.All.{Left, stopOf, leftOf, finishedOf, allOf, all-kept}
+use Rattle.commit_answer.specs.declared.answer.Refusal.{Refusal}
+use Rattle.commit_answer.specs.declared.answer.Refusal.the-variants.{Number, Conflict}
+use Rattle.commit_answer.specs.declared.answer.Answer.{Answer}
+use Rattle.commit_answer.specs.declared.answer.Answer.the-variants.{Done, Said, Handed, Refused}
+use Rattle.commit_answer.specs.declared.answer.Outcome.{Outcome}
+use Rattle.commit_answer.specs.Answer.{refusalOf, answerOf, Board, board, board-same, leavesIn, byTables, call-by}
+
+-- ---- mirrors
+
+-- 01's refusal as the code's
+unfoldable pub whyFrom : chain.Refusal → Refusal
+whyFrom (number n) = Number n
+whyFrom (conflict r) = Conflict (record { 0 = r })
+
+-- the refusal of a number and a round
+unfoldable pub whyOf : ℕ → ℕ → Refusal
+whyOf k r = whyFrom (fault.refusalOf k r)
+
+-- the answer after n finished anchors
+unfoldable pub answerFrom : Option chain.Refusal → ℕ → Answer
+answerFrom none n = Handed n
+answerFrom (some r) n = Refused (whyFrom r) n
+
+unfoldable pub endedOf : ℕ → ℕ → State → ℕ → Outcome
+endedOf k r s n = record { answer = answerFrom (stopOf k r) n; state = s }
+
+unfoldable pub outcomeOf : Left → Outcome
+outcomeOf l = record { answer = answerFrom (l .stopped) (l .finished); state = l .state }
+
+-- the anchors that the trigger yields; 2 for tables that don't count as started
+unfoldable pub walked : Store → Id → Out (List Enqueued)
+walked v i = cond (counts v) (anchorsOf v i) (bad (number 2))
+
+-- what is left after the walk
+unfoldable pub afterWalk : List ℕ → List ℕ → List ℕ → State → List ℕ → List ℕ → Out (List Enqueued) → Left
+afterWalk ks ls os s cs b (bad r) = record { state = s; certs = cs; buffer = b; finished = 0; stopped = some r }
+afterWalk ks ls os s cs b (good es) = allOf ks ls os s cs b 0 0 es
+
+-- what the call leaves
+unfoldable pub committed : State → List ℕ → List ℕ → List ℕ → List ℕ → Id → List ℕ → Left
+committed s ks ls cs os i b = afterWalk ks ls os s cs b (walked (view s ks ls cs os) i)
+
+-- ---- answers
+
+-- the number of finished anchors in an answer
+unfoldable pub anchorsIn : Answer → ℕ
+anchorsIn Done = 0
+anchorsIn (Said b) = 0
+anchorsIn (Handed n) = n
+anchorsIn (Refused r n) = n
+
+-- a call that finished no anchor leaves the board and the buffer as they were
+abbrev pub KeptIn : Answer → Board → List ℕ → Board → List ℕ → Type 0
+KeptIn a d b d′ b′ = anchorsIn a ≡ 0 → (d′ ≡ d) × (b′ ≡ b)
+
+-- the code's refusal is 01's again
+why-is : (r : chain.Refusal) → refusalOf (whyFrom r) ≡ r
+unfolding refusalOf whyFrom
+why-is (number n) = refl
+why-is (conflict r) = refl
+
+-- the number of anchors, whatever stopped them
+anchors-is : (o : Option chain.Refusal) (n : ℕ) → anchorsIn (answerFrom o n) ≡ n
+unfolding anchorsIn answerFrom
+anchors-is none n = refl
+anchors-is (some r) n = refl
+
+-- what a finished chain leaves is what 01's commit ends with
+end-is : (o : Option chain.Refusal) (f : Finished) → f .stopped ≡ o → record { answer = answerOf (answerFrom o (f .anchors)); store = f .store; buffer = f .buffer } ≡ commitEnd f
+unfolding answerOf answerFrom commitEnd
+end-is none f e = rw e refl
+end-is (some r) f e = rw (e, why-is r) refl
+
+-- ---- one law for each way out of the code
+
+pub why-conflict : (k : ℕ) (r : ℕ) → k ≡ 13 → Conflict (record { 0 = r }) ≡ whyOf k r
+unfolding whyOf whyFrom fault.refusalOf
+why-conflict k r e = rw (eq-eqb k 13 e) refl
+
+pub why-number : (k r : ℕ) → (k ≡ 13 → ⊥) → Number k ≡ whyOf k r
+unfolding whyOf whyFrom fault.refusalOf
+why-number k r d = rw (ne-eqb k 13 d) refl
+
+pub ended-handed : (k r : ℕ) (s : State) (n : ℕ) → k ≡ 0 → record { answer = Handed n; state = s } ≡ endedOf k r s n
+unfolding endedOf answerFrom stopOf
+ended-handed k r s n e = rw (eq-eqb k 0 e) refl
+
+pub ended-refused : (k r : ℕ) (s : State) (n : ℕ) (w : Refusal) → (k ≡ 0 → ⊥) → w ≡ whyOf k r → record { answer = Refused w n; state = s } ≡ endedOf k r s n
+unfolding endedOf answerFrom stopOf whyOf
+ended-refused k r s n w d e = rw (ne-eqb k 0 d, e) refl
+
+-- refused by the walk
+pub ended-why : (k r : ℕ) (s : State) (n : ℕ) → (k ≡ 0 → ⊥) → endedOf k r s n ≡ record { answer = Refused (whyFrom (visit.refusalOf k r)) n; state = s }
+unfolding endedOf answerFrom stopOf fault.refusalOf visit.refusalOf
+ended-why k r s n d = rw (ne-eqb k 0 d) refl
+
+-- ---- the anchors
+
+-- what the anchors of a chain leave, with the outcome o
+abbrev pub Ended : List ℕ → List ℕ → List ℕ → State → List ℕ → List ℕ → List Enqueued → Outcome → List ℕ → List ℕ → Type 0
+Ended ks ls os s cs b es o cs′ b′ =
+    let x = allOf ks ls os s cs b 0 0 es in
+    (o ≡ outcomeOf x) × (cs′ ≡ x .certs) × (b′ ≡ x .buffer) × (finishedOf ks ls os x ≡ commitAll (view s ks ls cs os) b 0 0 es)
+
+pub ended-by : (ks ls os : List ℕ) (s : State) (cs b : List ℕ) (es : List Enqueued) (k r : ℕ) (s′ : State) (cs′ b′ : List ℕ) (n : ℕ) → leftOf k r s′ cs′ b′ n ≡ allOf ks ls os s cs b 0 0 es
+    → finishedOf ks ls os (leftOf k r s′ cs′ b′ n) ≡ commitAll (view s ks ls cs os) b 0 0 es → (o : Outcome) → o ≡ endedOf k r s′ n → Ended ks ls os s cs b es o cs′ b′
+unfolding outcomeOf endedOf
+ended-by ks ls os s cs b es k r s′ cs′ b′ n w f o g =
+    (g ∙ ap outcomeOf w, ap (λ (y : Left). y .certs) w, ap (λ (y : Left). y .buffer) w, subst (λ (y : Left). finishedOf ks ls os y ≡ commitAll (view s ks ls cs os) b 0 0 es) w f)
+
+-- ---- the walk
+
+module _ (v : Store) (i : Id) (r : Bool) (e : r ≡ counts v) where
+  pub walked-no : not r ≡ true → walked v i ≡ bad (number 2)
+  unfolding walked
+  walked-no h = rw (sym e ∙ not-true r h) refl
+
+  module _ (h : not r ≡ false) where
+    pub walked-counts : counts v ≡ true
+    walked-counts = sym e ∙ not-false r h
+
+    module _ (c : Chain) (d : chainOut c ≡ anchorsOf v i) where
+      pub walked-bad : (c .code ≡ 0 → ⊥) → walked v i ≡ bad (visit.refusalOf (c .code) (c .round .0))
+      unfolding walked
+      walked-bad z = rw walked-counts (sym d ∙ out-bad c z)
+
+      pub walked-good : c .code ≡ 0 → walked v i ≡ good (chainOf (c .list) (c .count))
+      unfolding walked
+      walked-good z = rw walked-counts (sym d ∙ out-good c z)
+
+-- what it is given
+module _ (s : State) (ks ls cs os : List ℕ) (fk : Fit ks) (fl : Fit ls) (h : counts (view s ks ls cs os) ≡ true) where
+  -- the anchors rise
+  pub chain-rises : (i : Id) (es : List Enqueued) → walked (view s ks ls cs os) i ≡ good es → Rising (view s ks ls cs os) 0 es
+  unfolding walked
+  chain-rises i es e =
+      let v = view s ks ls cs os in
+      let t : Started s ks ls cs os = counted s ks ls cs os fk fl h in
+      let w : Wf v = counts-elim v (sized s ks ls cs os fk fl (t .shaped) (t .facts .inside)) h in
+      rising-less v 0 (lowestWalked v) es (omega arith) (anchors-rising v w i es (rw h at e))
+
+-- ---- the call
+
+module _ (s : State) (ks ls cs os : List ℕ) (i : Id) (b : List ℕ) where
+  abbrev v : Store
+  v = view s ks ls cs os
+
+  -- what 01 leaves after the walk
+  abbrev leaveBy : Out (List Enqueued) → calls.Outcome
+  leaveBy (bad r) = record { answer = calls.refused r 0; store = v; buffer = b }
+  leaveBy (good es) = commitEnd (commitAll v b 0 0 es)
+
+  call-is : call v (calls.commit i b) ≡ leaveBy (walked v i)
+  unfolding isStart act lent byTables walked doCommit
+  call-is = call-by v (calls.commit i b) refl ∙ byTest (counts v) (λ t. rw t (by (anchorsOf v i) refl)) (λ f. rw f refl)
+    where
+      by : (o : Out (List Enqueued)) → anchorsOf v i ≡ o → doCommit v i b ≡ leaveBy (anchorsOf v i)
+      by (bad r) e = rw (e, doCommit) refl
+      by (good es) e = rw (e, doCommit) refl
+
+  -- what the contract says of an outcome, the certificate words and the buffer
+  abbrev Says : Outcome → List ℕ → List ℕ → Type 0
+  Says o cs′ b′ =
+      (leavesIn (o .answer) (board (o .state) ks ls cs′ os) b′ ≡ call v (calls.commit i b))
+      × ((o ≡ outcomeOf (committed s ks ls cs os i b)) × ((cs′ ≡ committed s ks ls cs os i b .certs) × ((b′ ≡ committed s ks ls cs os i b .buffer)
+      × KeptIn (o .answer) (board s ks ls cs os) b (board (o .state) ks ls cs′ os) b′)))
+
+  -- from what is left
+  says : (x : Left) → x ≡ committed s ks ls cs os i b → leavesIn (answerFrom (x .stopped) (x .finished)) (board (x .state) ks ls (x .certs) os) (x .buffer) ≡ call v (calls.commit i b)
+      → (x .finished ≡ 0 → (x .state ≡ s) × (x .certs ≡ cs) × (x .buffer ≡ b)) → (o : Outcome) → o ≡ outcomeOf x → Says o (x .certs) (x .buffer)
+  unfolding outcomeOf
+  says x is h k o f = (
+    ap (λ (y : Outcome). leavesIn (y .answer) (board (y .state) ks ls (x .certs) os) (x .buffer)) f ∙ h,
+    (
+      f ∙ ap outcomeOf is,
+      (
+        ap (λ (y : Left). y .certs) is,
+        (
+          ap (λ (y : Left). y .buffer) is,
+          λ z.
+              let (a, c, d) = k (sym (anchors-is (x .stopped) (x .finished)) ∙ (ap (λ (y : Outcome). anchorsIn (y .answer)) (sym f) ∙ z)) in
+              (board-same (ap (λ (y : Outcome). y .state) f ∙ a) refl refl c refl, d),
+        ),
+      ),
+    ),
+  )
+
+  -- refused before the first anchor
+  pub says-refused : (r : chain.Refusal) → walked v i ≡ bad r → (o : Outcome) → o ≡ record { answer = Refused (whyFrom r) 0; state = s } → Says o cs b
+  unfolding committed afterWalk leavesIn answerOf answerFrom outcomeOf
+  says-refused r e o f =
+      says (record { state = s; certs = cs; buffer = b; finished = 0; stopped = some r }) (sym (ap (afterWalk ks ls os s cs b) e))
+      (ap (λ (y : chain.Refusal). record { answer = calls.refused y 0; store = v; buffer = b }) (why-is r) ∙ sym (call-is ∙ ap leaveBy e))
+      (λ z. (refl, refl, refl)) o f
+
+  -- the anchors of the chain were gone through
+  pub says-ended : (es : List Enqueued) → walked v i ≡ good es → (o : Outcome) (cs′ b′ : List ℕ) → Ended ks ls os s cs b es o cs′ b′ → Says o cs′ b′
+  unfolding committed afterWalk leavesIn finishedOf
+  says-ended es e o cs′ b′ (f, c, d, g) =
+      let x = allOf ks ls os s cs b 0 0 es in
+      let h = says x (sym (ap (afterWalk ks ls os s cs b) e)) (end-is (x .stopped) (finishedOf ks ls os x) refl ∙ (ap commitEnd g ∙ sym (call-is ∙ ap leaveBy e))) (all-kept ks ls os s cs b 0 0 es) o f in
+      subst (λ (y : List ℕ). Says o cs′ y) (sym d) (subst (λ (y : List ℕ). Says o y (x .buffer)) (sym c) h)

@@ -1,0 +1,99 @@
+// Origin: dag/commit/mod.rs (commit). The call commit: the chain of a trigger's anchors, then each of them, oldest first.
+ghost use mathlib.Core.Path.{_≡_};
+ghost use mathlib.Core.Bool.{true};
+ghost use Prim.Native.Nat.{_≤_};
+ghost use Rattle.spec.specs.Calls as calls;
+ghost use Rattle.spec.specs.Rules.{counts};
+ghost use Rattle.spec.specs.Walk.{Rising};
+ghost use Rattle.models.specs.Parts.{idOf};
+ghost use Rattle.dag_test.specs.View.{view};
+ghost use Rattle.back_chain.specs.Chain.{chainOf};
+ghost use Rattle.commit_answer.specs.Answer.{board, leavesIn};
+ghost use Rattle.commit_commit.specs.Commit.{whyOf, endedOf, Ended, committed, outcomeOf, KeptIn};
+use back_chain::Chain;
+use back_chain::chain_of;
+use commit_anchor::all::commit_all;
+use commit_answer::answer::Answer;
+use commit_answer::answer::Outcome;
+use commit_answer::answer::Refusal;
+use commit_answer::answer::refused;
+use dag_state::state::State;
+use dag_test::counts_as_started;
+use models::parts::PointId;
+use models::parts::Round;
+
+// A refusal with this number; 13, the history conflict, holds its round.
+fn refusal_of(code: u32, round: Round) -> Refusal
+    ensures { λ r. ⌜ r ≡ whyOf code (round .0) ⌝ }
+{
+    if code == 13 {
+        return Refusal::Conflict(round);
+    }
+    Refusal::Number(code)
+}
+
+// The outcome of a commit that finished this many anchors; refused unless the number is 0.
+fn ended(code: u32, round: Round, state: State, finished: u32) -> Outcome
+    ensures { λ r. ⌜ r ≡ endedOf code (round .0) state finished ⌝ }
+{
+    if code == 0 {
+        return Outcome {
+            answer: Answer::Handed(finished),
+            state,
+        };
+    }
+    let why = refusal_of(code, round);
+    Outcome {
+        answer: Answer::Refused(why, finished),
+        state,
+    }
+}
+
+// The anchors of a chain. A function apart, so that no function declares both the chain and its list.
+fn commit_chain(
+    s: State,
+    keys: &[u64],
+    links: &[u64],
+    certs: &mut [u64],
+    order: &[u64],
+    b: &mut [u8],
+    c: Chain,
+) -> Outcome
+    requires { ⌜ counts (view s (now keys) (now links) (now certs) (now order)) ≡ true ⌝ }
+    requires { ⌜ Rising (view s (now keys) (now links) (now certs) (now order)) 0 (chainOf (c .list) (c .count)) ⌝ }
+    requires { ⌜ c .count ≤ 511 ⌝ }
+    ensures { λ r. ⌜ Ended (now (keys .entry)) (now (links .entry)) (now (order .entry)) s (now (certs .entry)) (now (b .entry)) (chainOf (c .list) (c .count)) r (now (certs .exit)) (now (b .exit)) ⌝ }
+{
+    let list = c.list;
+    let all = commit_all(s, keys, links, certs, order, b, list, c.count);
+    let round = all.round;
+    ended(all.code, round, all.state, all.finished)
+}
+
+// Commits the anchors that a trigger yields: their records go into the buffer, their histories are marked. A refusal says how many
+// anchors are finished; they stay so.
+pub fn commit(
+    s: State,
+    keys: &[u64],
+    links: &[u64],
+    certs: &mut [u64],
+    order: &[u64],
+    id: PointId,
+    b: &mut [u8],
+) -> Outcome
+    ensures answer { λ r. ⌜ leavesIn (r .answer) (board (r .state) (now (keys .entry)) (now (links .entry)) (now (certs .exit)) (now (order .entry))) (now (b .exit)) ≡ calls.call (view s (now (keys .entry)) (now (links .entry)) (now (certs .entry)) (now (order .entry))) (calls.commit (idOf id) (now (b .entry))) ⌝ }
+    ensures outcome { λ r. ⌜ r ≡ outcomeOf (committed s (now (keys .entry)) (now (links .entry)) (now (certs .entry)) (now (order .entry)) (idOf id) (now (b .entry))) ⌝ }
+    ensures words { λ r. ⌜ now (certs .exit) ≡ committed s (now (keys .entry)) (now (links .entry)) (now (certs .entry)) (now (order .entry)) (idOf id) (now (b .entry)) .certs ⌝ }
+    ensures bytes { λ r. ⌜ now (b .exit) ≡ committed s (now (keys .entry)) (now (links .entry)) (now (certs .entry)) (now (order .entry)) (idOf id) (now (b .entry)) .buffer ⌝ }
+    ensures kept { λ r. ⌜ KeptIn (r .answer) (board s (now (keys .entry)) (now (links .entry)) (now (certs .entry)) (now (order .entry))) (now (b .entry)) (board (r .state) (now (keys .entry)) (now (links .entry)) (now (certs .exit)) (now (order .entry))) (now (b .exit)) ⌝ }
+{
+    if !counts_as_started(s, keys, links, certs, order) {
+        return refused(s, 2);
+    }
+    let c = chain_of(s, keys, links, certs, order, id);
+    let round = c.round;
+    if c.code != 0 {
+        return ended(c.code, round, s, 0);
+    }
+    commit_chain(s, keys, links, certs, order, b, c)
+}
