@@ -32,7 +32,7 @@ use Rattle.back_history.specs.Need.{lowOf, highOf, marksOf, used-point, 
 use Rattle.back_history.specs.Picked.{wantsAt, isLow, flatAt}
 
 -- two lists in one strict order with the same elements are one
-ordered-one : {A : Type 0} (R : A → A → Type 0) → ((x y : A) → R x y → R y x → ⊥) → (xs ys : List A) → Pairs R xs → Pairs R ys
+pub ordered-one : {A : Type 0} (R : A → A → Type 0) → ((x y : A) → R x y → R y x → ⊥) → (xs ys : List A) → Pairs R xs → Pairs R ys
     → ((a : A) → List·Memᴰ a xs → List·Memᴰ a ys) → ((a : A) → List·Memᴰ a ys → List·Memᴰ a xs) → xs ≡ ys
 ordered-one R asym [] [] p q f g = refl
 ordered-one R asym [] (y ∷ ys) p q f g = absurd (List·Memᴰ·not-nil (g y (List·Memᴰ·head refl)))
@@ -81,7 +81,7 @@ unfolding picked
 picked-intro os f low k j l h = upto-in k _ _ .1 (j, l, one-intro _ _ h)
 
 -- each of them before each later one, in a relation that rises with positions
-picked-pairs : (R : ℕ → ℕ → Type 0) (os : List ℕ) (f : ℕ → Bool) (low k : ℕ) → ((i j : ℕ) → i < j → j < k → R (placeAt os (low + i)) (placeAt os (low + j))) → Pairs R (picked os f low k)
+pub picked-pairs : (R : ℕ → ℕ → Type 0) (os : List ℕ) (f : ℕ → Bool) (low k : ℕ) → ((i j : ℕ) → i < j → j < k → R (placeAt os (low + i)) (placeAt os (low + j))) → Pairs R (picked os f low k)
 unfolding picked one
 picked-pairs R os f low k h =
     upto-pairs R k _ (λ i l. single (f (placeAt os (low + i))) (placeAt os (low + i)))
@@ -102,7 +102,7 @@ picked-count os f low (suc k) =
     (λ e. rw e (length-append (picked os f low k) [] ∙ omega (arith, r)))
 
 -- neither of two ids comes before the other and after it
-before-asym : (x y : Id) → Before x y → Before y x → ⊥
+pub before-asym : (x y : Id) → Before x y → Before y x → ⊥
 before-asym x y (inl a) (inl c) = omega arith
 before-asym x y (inl a) (inr c) = omega (arith, c .0)
 before-asym x y (inr a) (inl c) = omega (arith, a .0)

@@ -14,7 +14,8 @@ use Rattle.models.specs.Tables.{roundAt, authorAt, Inside}
 use Rattle.dag_state.specs.declared.state.State.{State}
 use Rattle.back_points.specs.declared.anchor.Tested.{Tested}
 use Rattle.back_points.specs.Anchor.{testedOf}
-use Rattle.commit_record.specs.Picked.{chosen, picked}
+use Rattle.back_history.specs.Sweep.{wants}
+use Rattle.back_history.specs.History.{picked}
 use Rattle.commit_record.specs.Record.{recordOf, executes, previousOf}
 use Rattle.commit_record.specs.Marks.{marksAll}
 use Rattle.commit_record.specs.After.{afterState}
@@ -25,7 +26,7 @@ use Rattle.commit_record.specs.After.{afterState}
 abbrev pub Pickable : List ℕ → List ℕ → List ℕ → List Bool → ℕ → ℕ → ℕ → Type 0
 Pickable ks cs os m low high n =
     (low ≤ high) × (high ≤ length os) × (length cs ≤ 4096) × (length cs * 8 ≤ length ks) × Inside os high (length cs)
-    × (n ≡ length (picked os (chosen m cs) low high))
+    × (n ≡ length (picked os (wants cs m) low (high - low)))
 
 -- the anchor and its proof stand at places, with rounds of 01 and an author of a peer's number
 abbrev pub Placed : List ℕ → List ℕ → Enqueued → Type 0
@@ -41,7 +42,7 @@ numberFor k gap n left = cond (eqb k 0) (cond (eqb gap 1) 20 (cond (ltb left (83
 unfoldable pub recordFor : State → List ℕ → List ℕ → List ℕ → List Bool → ℕ → ℕ → Enqueued → List ℕ
 recordFor s ks cs os m low high e =
     let r = roundAt ks (e .anchor) in
-    recordOf ks (e .anchor) (e .proof) (executes s r) (previousOf s r (e .prevProofRound)) (picked os (chosen m cs) low high)
+    recordOf ks (e .anchor) (e .proof) (executes s r) (previousOf s r (e .prevProofRound)) (picked os (wants cs m) low (high - low))
 
 -- what one anchor leaves
 pub record Step : Type 0 where
@@ -104,7 +105,7 @@ number-fits k gap n left h =
 
 -- the record, from what is read for it
 pub record-by : (s : State) (ks cs os : List ℕ) (m : List Bool) (low high : ℕ) (e : Enqueued) (r : ℕ) (x : Bool) (p : ℕ) → r ≡ roundAt ks (e .anchor) → x ≡ executes s r → p ≡ previousOf s r (e .prevProofRound)
-    → recordOf ks (e .anchor) (e .proof) x p (picked os (chosen m cs) low high) ≡ recordFor s ks cs os m low high e
+    → recordOf ks (e .anchor) (e .proof) x p (picked os (wants cs m) low (high - low)) ≡ recordFor s ks cs os m low high e
 unfolding recordFor
 record-by s ks cs os m low high e r x p a c d = rw (d, c, a) refl
 

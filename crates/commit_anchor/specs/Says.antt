@@ -34,7 +34,9 @@ use Rattle.back_points.specs.Fault.{refusalOf, outOf}
 use Rattle.back_points.specs.Anchor.{spanOf, testedIn, testedOf}
 use Rattle.back_points.specs.Tested.{tested-is, tested-count}
 use Rattle.commit_record.specs.Bytes.{placeId}
-use Rattle.commit_record.specs.Picked.{chosen, isPicked, picked}
+use Rattle.back_history.specs.Sweep.{wants}
+use Rattle.back_history.specs.History.{picked}
+use Rattle.commit_record.specs.Picked.{isPicked}
 use Rattle.commit_record.specs.Marks.{Small, marksAll}
 use Rattle.commit_record.specs.After.{afterState}
 use Rattle.commit_record.specs.History.{Picks, history-is}
@@ -105,7 +107,7 @@ module _ (s : State) (ks ls cs os : List ℕ) (fk : Fit ks) (fl : Fit ls) (h : c
 
   -- the marks say what is in the history
   picks : Picks v (e .anchor) os (s .count) (t .marks) cs (t .low) (t .high)
-  unfolding testedOf testedIn spanOf isPicked chosen wants
+  unfolding testedOf testedIn spanOf isPicked wants
   picks j l =
       same-test _ _
       (λ k. let (i, lo, hi, d, w) = in-elim s ks ls cs os fk fl held (e .anchor) anchor-used (placeAt os j) k in
@@ -114,10 +116,10 @@ module _ (s : State) (ks ls cs os : List ℕ) (fk : Fit ks) (fl : Fit ls) (h : c
       (λ k. let m = and-r (ltb j _) _ k in in-intro s ks ls cs os fk fl held (e .anchor) anchor-used j (leb-true _ _ (and-l _ _ m)) (ltb-true _ _ (and-l _ _ k)) (and-r (leb _ j) _ m))
 
   -- the number of points
-  count-is : t .count ≡ length (picked os (chosen (t .marks) cs) (t .low) (t .high))
+  count-is : t .count ≡ length (picked os (wants cs (t .marks)) (t .low) ((t .high) - (t .low)))
   count-is =
       tested-count s ks ls cs os fk fl held (e .anchor) anchor-used
-      ∙ (ap length (history-is s ks ls cs os fk (well s ks ls cs os fk fl held) (held .facts .sorted) (e .anchor) anchor-used (t .marks) (t .low) (t .high) high-le picks) ∙ length-map (picked os (chosen (t .marks) cs) (t .low) (t .high)) (placeId ks))
+      ∙ (ap length (history-is s ks ls cs os fk (well s ks ls cs os fk fl held) (held .facts .sorted) (e .anchor) anchor-used (t .marks) (t .low) (t .high) high-le picks) ∙ length-map (picked os (wants cs (t .marks)) (t .low) ((t .high) - (t .low))) (placeId ks))
 
   -- the record's length
   size-is : length (recordBytes v e) ≡ 83 + t .count * 37

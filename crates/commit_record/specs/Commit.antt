@@ -1,5 +1,5 @@
 -- What one committed anchor writes is what document 01 says (commit/mod.rs, output.rs): the record's bytes, and the store after it.
-use Prim.Native.Nat.{ℕ, _+_, _*_, _%_, _≤_, _<_}
+use Prim.Native.Nat.{ℕ, _+_, _*_, _%_, _≤_, _<_, _-_}
 use mathlib.Core.Path.{_≡_, refl, sym, ap, ap₂, subst, _∙_}
 use mathlib.Core.List.{List, _++_, map, append-assoc}
 use mathlib.Core.Bool.{Bool, true, false, not, _&&_, _||_, cond}
@@ -34,7 +34,8 @@ use Rattle.dag_test.specs.Regular.{phase-same, places-same}
 use Rattle.dag_test.specs.Whole.{sized}
 use Rattle.dag_test.specs.Counts.{Started, counted}
 use Rattle.commit_record.specs.Bytes.{placeId}
-use Rattle.commit_record.specs.Picked.{chosen, picked}
+use Rattle.back_history.specs.Sweep.{wants}
+use Rattle.back_history.specs.History.{picked}
 use Rattle.commit_record.specs.Record.{record-length, flagOf, headOf, pointsOf, recordOf, executes, isFirstOf, previousOf}
 use Rattle.commit_record.specs.Marks.{Small, committedWord, marksAll, marks-length, marks-at, marks-small}
 use Rattle.commit_record.specs.After.{afterState, option-is, asked-is, gap-reads, after-rounds}
@@ -124,11 +125,11 @@ module _ (s : State) (ks ls cs os : List ℕ) (fk : Fit ks) (fl : Fit ls) (h : c
 
     module _ (m : List Bool) (low high : ℕ) (lh : high ≤ s .count) (pk : Picks v (e .anchor) os (s .count) m cs low high) where
       -- the ids of its history
-      listed : history v (e .anchor) ≡ map (placeId ks) (picked os (chosen m cs) low high)
+      listed : history v (e .anchor) ≡ map (placeId ks) (picked os (wants cs m) low (high - low))
       listed = history-is s ks ls cs os fk w (t .facts .sorted) (e .anchor) ua m low high lh pk
 
       -- the record's bytes are those of 01
-      pub record-is : recordOf ks (e .anchor) (e .proof) (executes s (roundAt ks (e .anchor))) (previousOf s (roundAt ks (e .anchor)) (e .prevProofRound)) (picked os (chosen m cs) low high) ≡ recordBytes v e
+      pub record-is : recordOf ks (e .anchor) (e .proof) (executes s (roundAt ks (e .anchor))) (previousOf s (roundAt ks (e .anchor)) (e .prevProofRound)) (picked os (wants cs m) low (high - low)) ≡ recordBytes v e
       unfolding recordOf headOf pointsOf recordBytes flagOf
       record-is =
           let is = sym listed in
@@ -136,13 +137,13 @@ module _ (s : State) (ks ls cs os : List ℕ) (fk : Fit ks) (fl : Fit ls) (h : c
           let proof = sym (id-is (e .proof) up) in
           let flag = ap (λ (b : Bool). be 1 (cond b 1 0)) (sym executable-is) in
           let before = ap (be 4) (sym previous-is) in
-          let number = ap (be 4) (sym (length-map (picked os (chosen m cs) low high) (placeId ks)) ∙ ap length is) in
-          six-parts (idBytes (placeId ks (e .anchor))) (idBytes (placeId ks (e .proof))) (be 1 (cond (executes s ar) 1 0)) (be 4 (previousOf s ar (e .prevProofRound))) (be 4 (length (picked os (chosen m cs) low high))) (joined idBytes (map (placeId ks) (picked os (chosen m cs) low high)))
+          let number = ap (be 4) (sym (length-map (picked os (wants cs m) low (high - low)) (placeId ks)) ∙ ap length is) in
+          six-parts (idBytes (placeId ks (e .anchor))) (idBytes (placeId ks (e .proof))) (be 1 (cond (executes s ar) 1 0)) (be 4 (previousOf s ar (e .prevProofRound))) (be 4 (length (picked os (wants cs m) low (high - low)))) (joined idBytes (map (placeId ks) (picked os (wants cs m) low (high - low))))
           ∙ (λ i. idBytes (anchor i) ++ (idBytes (proof i) ++ (flag i ++ (before i ++ (number i ++ joined idBytes (is i))))))
 
       -- its length
-      pub record-size : length (recordBytes v e) ≡ 83 + length (picked os (chosen m cs) low high) * 37
-      record-size = ap length (sym record-is) ∙ record-length ks (e .anchor) (e .proof) (executes s ar) (previousOf s ar (e .prevProofRound)) (picked os (chosen m cs) low high)
+      pub record-size : length (recordBytes v e) ≡ 83 + length (picked os (wants cs m) low (high - low)) * 37
+      record-size = ap length (sym record-is) ∙ record-length ks (e .anchor) (e .proof) (executes s ar) (previousOf s ar (e .prevProofRound)) (picked os (wants cs m) low (high - low))
 
       -- what the code is given: the tables
       pub tables-ready : (high ≤ length os) × (length cs ≤ 4096) × (length cs * 8 ≤ length ks) × Inside os high (length cs) × Small os cs high

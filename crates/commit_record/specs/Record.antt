@@ -15,7 +15,8 @@ use Rattle.spec.specs.Records.{id-length, ids-length}
 use Rattle.models.specs.Tables.{placeAt}
 use Rattle.dag_state.specs.declared.state.State.{State}
 use Rattle.commit_record.specs.Bytes.{placeId}
-use Rattle.commit_record.specs.Picked.{picked, picked-none, picked-yes, picked-no, snoc-length}
+use Rattle.back_history.specs.History.{picked}
+use Rattle.commit_record.specs.Picked.{picked-none, picked-yes, picked-no, snoc-length}
 
 -- the byte of a flag
 unfoldable pub flagOf : Bool → ℕ
@@ -62,7 +63,7 @@ points-length ks l = ids-length (map (placeId ks) l) ∙ ap (λ (n : ℕ). n * 3
 
 -- what the positions up to i gave: the offset and the buffer
 abbrev pub Sofar : List ℕ → List ℕ → (ℕ → Bool) → ℕ → ℕ → List ℕ → ℕ → List ℕ → ℕ → Type 0
-Sofar ks os f low at b₀ i b end = (end ≡ at + length (picked os f low i) * 37) × (b ≡ written b₀ at (pointsOf ks (picked os f low i)))
+Sofar ks os f low at b₀ i b end = (end ≡ at + length (picked os f low (i - low)) * 37) × (b ≡ written b₀ at (pointsOf ks (picked os f low (i - low))))
 
 module _ (ks os : List ℕ) (f : ℕ → Bool) (low at : ℕ) (b₀ : List ℕ) where
   -- at first; a position that passes; one that fails
@@ -73,13 +74,13 @@ module _ (ks os : List ℕ) (f : ℕ → Bool) (low at : ℕ) (b₀ : List ℕ) 
   pub sofar-yes : (i q : ℕ) (b b′ : List ℕ) (end end′ : ℕ) → low ≤ i → Sofar ks os f low at b₀ i b end → q ≡ placeAt os i → f q ≡ true → end′ ≡ end + 37 → b′ ≡ written b end (idBytes (placeId ks q))
       → Sofar ks os f low at b₀ (i + 1) b′ end′
   sofar-yes i q b b′ end end′ l (e, d) is t g h =
-      rw (picked-yes os f low i l (rw is at t), snoc-length (picked os f low i) (placeAt os i), points-snoc ks (picked os f low i) (placeAt os i)) (
+      rw (picked-yes os f low i l (rw is at t), snoc-length (picked os f low (i - low)) (placeAt os i), points-snoc ks (picked os f low (i - low)) (placeAt os i)) (
         omega arith,
-        h ∙ (rw (d, is) refl ∙ sym (written-append b₀ at (pointsOf ks (picked os f low i)) (idBytes (placeId ks (placeAt os i))) end (e ∙ ap (λ (n : ℕ). at + n) (sym (points-length ks (picked os f low i)))))),
+        h ∙ (rw (d, is) refl ∙ sym (written-append b₀ at (pointsOf ks (picked os f low (i - low))) (idBytes (placeId ks (placeAt os i))) end (e ∙ ap (λ (n : ℕ). at + n) (sym (points-length ks (picked os f low (i - low))))))),
       )
 
-  pub sofar-no : (i q : ℕ) (b b′ : List ℕ) (end end′ : ℕ) → Sofar ks os f low at b₀ i b end → q ≡ placeAt os i → f q ≡ false → end′ ≡ end → b′ ≡ b → Sofar ks os f low at b₀ (i + 1) b′ end′
-  sofar-no i q b b′ end end′ (e, d) is t g h = rw (picked-no os f low i (rw is at t)) (g ∙ e, h ∙ d)
+  pub sofar-no : (i q : ℕ) (b b′ : List ℕ) (end end′ : ℕ) → low ≤ i → Sofar ks os f low at b₀ i b end → q ≡ placeAt os i → f q ≡ false → end′ ≡ end → b′ ≡ b → Sofar ks os f low at b₀ (i + 1) b′ end′
+  sofar-no i q b b′ end end′ l (e, d) is t g h = rw (picked-no os f low i l (rw is at t)) (g ∙ e, h ∙ d)
 
 -- ---- the whole record
 

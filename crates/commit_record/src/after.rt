@@ -5,8 +5,8 @@ ghost use lib.ListN.{length};
 ghost use Rattle.models.specs.Tables.{Inside};
 ghost use Rattle.commit_record.specs.Marks.{Small, marksAll};
 ghost use Rattle.commit_record.specs.After.{afterState};
-use crate::record::in_history;
 use crate::record::is_first_executable;
+use back_history::is_wanted;
 use dag_state::state::State;
 use models::cert::Cert;
 
@@ -18,7 +18,7 @@ pub fn mark_all(marks: &[bool; 4096], order: &[u64], certs: &mut [u64], low: usi
     let mut i = low;
     while i < high {
         let q = laws::slot(order[i]);
-        if in_history(marks, certs, q) {
+        if is_wanted(marks, certs, q) {
             let word = Cert(certs[q]);
             let done = word.set_committed();
             certs[q] = done.0;

@@ -2,56 +2,22 @@
 // needs, and positions low to high - 1 of the order are looked at.
 ghost use mathlib.Core.Path.{_≡_};
 ghost use mathlib.Core.List.{map};
-ghost use Prim.Native.Nat.{_+_, _*_, _<_, _≤_};
+ghost use Prim.Native.Nat.{_+_, _*_, _<_, _≤_, _-_};
 ghost use lib.ListN.{length};
 ghost use Rattle.laws.specs.Bytes.{written};
 ghost use Rattle.laws.specs.Lists.{joined};
 ghost use Rattle.spec.specs.Ids.{idBytes};
 ghost use Rattle.models.specs.Tables.{Inside};
 ghost use Rattle.commit_record.specs.Bytes.{placeId};
-ghost use Rattle.commit_record.specs.Picked.{chosen, picked};
+ghost use Rattle.back_history.specs.Sweep.{wants};
+ghost use Rattle.back_history.specs.History.{picked};
 ghost use Rattle.commit_record.specs.Record.{flagOf, headOf, recordOf, executes, isFirstOf, previousOf};
 use crate::bytes::put_id;
 use crate::bytes::put_u8;
 use crate::bytes::put_u32;
+use back_history::is_wanted;
 use dag_state::state::State;
-use models::cert::Cert;
 use models::parts::Round;
-
-// Whether place q is of the history: needed and not committed.
-pub fn in_history(marks: &[bool; 4096], certs: &[u64], q: usize) -> bool
-    requires { ⌜ (q < 4096) × (q < length (now certs)) ⌝ }
-    ensures { λ r. ⌜ r ≡ chosen (now (marks .entry)) (now (certs .entry)) q ⌝ }
-{
-    if marks[q] {
-        let word = Cert(certs[q]);
-        return !word.is_committed();
-    }
-    false
-}
-
-// How many points the history has.
-pub fn count_points(
-    marks: &[bool; 4096],
-    order: &[u64],
-    certs: &[u64],
-    low: usize,
-    high: usize,
-) -> usize
-    requires { ⌜ (low ≤ high) × (high ≤ length (now order)) × (length (now certs) ≤ 4096) × Inside (now order) high (length (now certs)) ⌝ }
-    ensures { λ r. ⌜ r ≡ length (picked (now (order .entry)) (chosen (now (marks .entry)) (now (certs .entry))) low high) ⌝ }
-{
-    let mut n: usize = 0;
-    let mut i = low;
-    while i < high {
-        let q = laws::slot(order[i]);
-        if in_history(marks, certs, q) {
-            n += 1;
-        }
-        i += 1;
-    }
-    n
-}
 
 // The ids of the history, by rising position.
 pub fn put_points(
@@ -65,14 +31,14 @@ pub fn put_points(
     high: usize,
 ) -> usize
     requires { ⌜ (low ≤ high) × (high ≤ length (now order)) × (length (now certs) ≤ 4096) × (length (now certs) * 8 ≤ length (now keys)) × Inside (now order) high (length (now certs)) ⌝ }
-    requires { ⌜ at + length (picked (now order) (chosen (now marks) (now certs)) low high) * 37 ≤ length (now b) ⌝ }
-    ensures { λ r. ⌜ (r ≡ at + length (picked (now (order .entry)) (chosen (now (marks .entry)) (now (certs .entry))) low high) * 37) × (now (b .exit) ≡ written (now (b .entry)) at (joined idBytes (map (placeId (now (keys .entry))) (picked (now (order .entry)) (chosen (now (marks .entry)) (now (certs .entry))) low high)))) ⌝ }
+    requires { ⌜ at + length (picked (now order) (wants (now certs) (now marks)) low (high - low)) * 37 ≤ length (now b) ⌝ }
+    ensures { λ r. ⌜ (r ≡ at + length (picked (now (order .entry)) (wants (now (certs .entry)) (now (marks .entry))) low (high - low)) * 37) × (now (b .exit) ≡ written (now (b .entry)) at (joined idBytes (map (placeId (now (keys .entry))) (picked (now (order .entry)) (wants (now (certs .entry)) (now (marks .entry))) low (high - low))))) ⌝ }
 {
     let mut end = at;
     let mut i = low;
     while i < high {
         let q = laws::slot(order[i]);
-        if in_history(marks, certs, q) {
+        if is_wanted(marks, certs, q) {
             end = put_id(b, end, keys, q);
         }
         i += 1;
@@ -130,8 +96,8 @@ pub fn put_record(
     count: usize,
 ) -> usize
     requires { ⌜ (low ≤ high) × (high ≤ length (now order)) × (length (now certs) ≤ 4096) × (length (now certs) * 8 ≤ length (now keys)) × Inside (now order) high (length (now certs)) ⌝ }
-    requires { ⌜ (anchor < length (now certs)) × (proof < length (now certs)) × (count ≡ length (picked (now order) (chosen (now marks) (now certs)) low high)) × (at + 83 + count * 37 ≤ length (now b)) ⌝ }
-    ensures { λ r. ⌜ (r ≡ at + 83 + count * 37) × (now (b .exit) ≡ written (now (b .entry)) at (recordOf (now (keys .entry)) anchor proof executable previous (picked (now (order .entry)) (chosen (now (marks .entry)) (now (certs .entry))) low high))) ⌝ }
+    requires { ⌜ (anchor < length (now certs)) × (proof < length (now certs)) × (count ≡ length (picked (now order) (wants (now certs) (now marks)) low (high - low))) × (at + 83 + count * 37 ≤ length (now b)) ⌝ }
+    ensures { λ r. ⌜ (r ≡ at + 83 + count * 37) × (now (b .exit) ≡ written (now (b .entry)) at (recordOf (now (keys .entry)) anchor proof executable previous (picked (now (order .entry)) (wants (now (certs .entry)) (now (marks .entry))) low (high - low)))) ⌝ }
 {
     let next = put_head(b, at, keys, anchor, proof, executable, previous, count);
     put_points(b, next, keys, marks, order, certs, low, high)

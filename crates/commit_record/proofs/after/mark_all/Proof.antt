@@ -26,8 +26,8 @@ shared-slice-read-slot c = search needs
 slot-requires : tie.Need-slot-requires Inv-loop μ-loop
 slot-requires c κs = search needs
 
-in-history-requires : tie.Need-in-history-requires Inv-loop μ-loop
-in-history-requires c κs =
+is-wanted-requires : tie.Need-is-wanted-requires Inv-loop μ-loop
+is-wanted-requires c κs =
     let s = c .before .before .before .before .before .before .before in
     let l = c .before .before .before .before .loop in
     let h : getD (s .args .order .now) (l .i) 0 < length (s .args .certs .now) = s .pre .3 (l .i) (omega arith) in
@@ -79,7 +79,7 @@ loop-again : tie.Need-loop-again Inv-loop μ-loop
 unfolding committedWord
 loop-again c =
     let l = c .before .before .before .before .before .before .loop in
-    let is = c .before .in-history .ensures in
+    let is = c .before .is-wanted .ensures in
     let x = c .before .before .before .slot .ensures in
     ⊎-elim
     (λ w. (omega arith, omega arith, ap length (w .3) ∙ (length-set (l .certs) _ _ ∙ l .inv .2), marks-yes _ _ _ _ _ _ (l .i) _ (l .inv .3) x (l .inv .0) (sym is ∙ w .0 .taken) _ (w .2 .ensures) (w .3)))
@@ -106,7 +106,7 @@ mark-all-spec =
     mul-slot
     shared-slice-read-slot
     slot-requires
-    in-history-requires
+    is-wanted-requires
     mul-t17
     slice-read-t19
     set-committed-requires

@@ -5,13 +5,15 @@ use mathlib.Core.Logic.{⊎-elim}
 use native.Mathlib.Omega.{arith}
 use lib.ListN.{length, getD}
 use Rattle.laws.specs.Bytes.{written-length}
-use Rattle.commit_record.specs.Picked.{chosen, picked, room}
+use Rattle.back_history.specs.Sweep.{wants}
+use Rattle.back_history.specs.History.{picked}
+use Rattle.commit_record.specs.Picked.{room}
 use Rattle.commit_record.specs.Record.{pointsOf, Sofar, sofar-none, sofar-yes, sofar-no}
 use Rattle.commit_record.proofs.record.put_points.Statement.{statement}
 use Rattle.commit_record.proofs.record.put_points.Tie as tie
 
 abbrev Inv-loop : tie.InvT-loop
-Inv-loop b₀ at keys marks order certs low high end₀ i₀ b end i = (low ≤ i) × (i ≤ high) × (length b ≡ length b₀) × Sofar keys order (chosen marks certs) low at b₀ i b end
+Inv-loop b₀ at keys marks order certs low high end₀ i₀ b end i = (low ≤ i) × (i ≤ high) × (length b ≡ length b₀) × Sofar keys order (wants certs marks) low at b₀ i b end
 
 abbrev μ-loop : tie.MeasureT-loop
 μ-loop b₀ at keys marks order certs low high end₀ i₀ b end i = high - i
@@ -28,8 +30,8 @@ shared-slice-read-slot c = search needs
 slot-requires : tie.Need-slot-requires Inv-loop μ-loop
 slot-requires c κs = search needs
 
-in-history-requires : tie.Need-in-history-requires Inv-loop μ-loop
-in-history-requires c κs =
+is-wanted-requires : tie.Need-is-wanted-requires Inv-loop μ-loop
+is-wanted-requires c κs =
     let s = c .before .before .before .before .before .before .before .before in
     let l = c .before .before .before .loop in
     let h : getD (s .args .order .now) (l .i) 0 < length (s .args .certs .now) = s .pre .0 .4 (l .i) (omega arith) in
@@ -40,8 +42,8 @@ put-id-requires c κs =
     let s = c .before .before .before .before .before .before .before .before .before .before .before in
     let l = c .before .before .before .before .before .before .loop in
     let h : getD (s .args .order .now) (l .i) 0 < length (s .args .certs .now) = s .pre .0 .4 (l .i) (omega arith) in
-    let r = room (s .args .order .now) (chosen (s .args .marks .now) (s .args .certs .now)) (s .args .low) (l .i) (s .args .high) (l .inv .0) (omega arith) (ap (chosen (s .args .marks .now) (s .args .certs .now)) (sym (c .before .before .before .slot .ensures)) ∙ (sym (c .before .before .in-history .ensures) ∙ c .before .if1 .taken)) in
-    let p : s .args .at + length (picked (s .args .order .now) (chosen (s .args .marks .now) (s .args .certs .now)) (s .args .low) (s .args .high)) * 37 ≤ length (s .args .b .now) = s .pre .1 in
+    let r = room (s .args .order .now) (wants (s .args .certs .now) (s .args .marks .now)) (s .args .low) (l .i) (s .args .high) (l .inv .0) (omega arith) (ap (wants (s .args .certs .now) (s .args .marks .now)) (sym (c .before .before .before .slot .ensures)) ∙ (sym (c .before .before .is-wanted .ensures) ∙ c .before .if1 .taken)) in
+    let p : s .args .at + length (picked (s .args .order .now) (wants (s .args .certs .now) (s .args .marks .now)) (s .args .low) ((s .args .high) - (s .args .low))) * 37 ≤ length (s .args .b .now) = s .pre .1 in
     (omega (arith, r, p, l .inv .2, l .inv .3 .0), omega (arith, h, c .before .before .before .slot .ensures, s .pre .0 .3))
 
 add-i : tie.Need-add-i Inv-loop μ-loop
@@ -53,12 +55,12 @@ loop-less c = search needs
 loop-again : tie.Need-loop-again Inv-loop μ-loop
 loop-again c =
     let l = c .before .before .before .before .before .loop in
-    let is = c .before .in-history .ensures in
+    let is = c .before .is-wanted .ensures in
     let x = c .before .before .slot .ensures in
     ⊎-elim
     (λ w. let e = w .5 ∙ w .2 .ensures .1 in
     (omega arith, omega arith, ap length e ∙ (written-length _ _ _ ∙ l .inv .2), sofar-yes _ _ _ _ _ _ (l .i) _ _ _ _ _ (l .inv .0) (l .inv .3) x (sym is ∙ w .0 .taken) (w .6 ∙ w .2 .ensures .0) e))
-    (λ w. (omega arith, omega arith, ap length (w .1) ∙ l .inv .2, sofar-no _ _ _ _ _ _ (l .i) _ _ _ _ _ (l .inv .3) x (sym is ∙ w .0 .left) (w .2) (w .1)))
+    (λ w. (omega arith, omega arith, ap length (w .1) ∙ l .inv .2, sofar-no _ _ _ _ _ _ (l .i) _ _ _ _ _ (l .inv .0) (l .inv .3) x (sym is ∙ w .0 .left) (w .2) (w .1)))
     (c .if1 .came)
 
 same-length : tie.Need-same-length Inv-loop μ-loop
@@ -82,7 +84,7 @@ put-points-spec =
     mul-slot
     shared-slice-read-slot
     slot-requires
-    in-history-requires
+    is-wanted-requires
     put-id-requires
     add-i
     loop-less
