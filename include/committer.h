@@ -12,13 +12,14 @@
  * hold: calls are refused with 2, and a start clears them.
  *
  * A call answers with a number in `refused`, 0 if it isn't refused. A refused call changes nothing: the tables stay as they are, and the
- * state returned is the one given.
+ * state returned is the one given. Only a commit may have finished anchors before it is refused, as many as `anchors` says; what these
+ * changed stays.
  *
  * The host's fault, with undefined behaviour as in all C, is only what a callee can't see:
  *   - a null pointer with a length above 0, or a pointer that isn't aligned for uint64_t;
- *   - a length above the number of words behind the pointer;
- *   - tables, or links lent to a resolution, that overlap each other;
- *   - tables that another thread writes during the call (or reads, if the call changes them).
+ *   - a length above the number of words behind the pointer, or of bytes behind a buffer;
+ *   - tables, links lent to a resolution, or a buffer, that overlap each other;
+ *   - tables or a buffer that another thread writes during the call (or reads, if the call changes them).
  * Everything else is refused by number, tables of wrong lengths too.
  *
  * The calls allocate nothing, keep no pointer, and share nothing: different states with tables of their own can be used at the same time.
@@ -76,6 +77,23 @@ extern "C" {
 #define COMMITTER_CERT_COMMITTED 0x1000u
 #define COMMITTER_CERT_HEIGHT 0x0fffu
 
+/* ---- anchor records */
+
+/*
+ * What a commit writes for each anchor, numbers big-endian; a point id is round (4 bytes), author (1), digest (32).
+ *   0    id of the anchor
+ *   37   id of its proof
+ *   74   executable, 1 or 0
+ *   75   round of the previous anchor (4), 0 for none
+ *   79   number of points (4)
+ *   83   their ids, by rising round, then by rising digest
+ */
+#define COMMITTER_ID_BYTES 37u
+#define COMMITTER_RECORD_BYTES(points) (83u + (size_t)(points) * COMMITTER_ID_BYTES)
+
+/* A buffer of so many bytes has room for the records of any commit: at most 511 anchors, and each point in one history at most. */
+#define COMMITTER_COMMIT_MAX (511u * COMMITTER_RECORD_BYTES(0) + (size_t)COMMITTER_PLACES_MAX * COMMITTER_ID_BYTES)
+
 /* ---- numbers */
 
 /* Statuses of a resolved point. 4 and 5 come without links and evidence. */
@@ -93,7 +111,7 @@ extern "C" {
 /* `used` of a start whose bottom has no used mark. */
 #define COMMITTER_NOBODY UINT32_MAX
 
-/* The numbers of refusals. 13 to 23 are of calls that this header doesn't have yet. */
+/* The numbers of refusals. 23 is of a call that this header doesn't have yet. */
 enum committer_refusal {
     COMMITTER_DONE = 0,
     COMMITTER_BAD_START = 1, /* what a start takes, or the tables' lengths, out of range */
@@ -184,7 +202,7 @@ typedef struct committer_state {
 typedef struct committer_reply {
     uint32_t refused; /* enum committer_refusal, 0 for none */
     uint32_t said; /* 1 for yes, of the gap question and of a drop; else 0 */
-    uint32_t anchors; /* anchors handed out, or finished before a refusal; 0 in the calls of this header */
+    uint32_t anchors; /* anchors handed out, or finished before a refusal, by a commit; else 0 */
     uint32_t conflict; /* the round of a history conflict (13), else 0 */
     committer_state state; /* the state after the call */
 } committer_reply;
@@ -348,6 +366,24 @@ committer_reply committer_drop(committer_state state,
     uint64_t *keys, size_t keys_len, uint64_t *links, size_t links_len,
     uint64_t *certs, size_t certs_len, uint64_t *order, size_t order_len,
     uint32_t round);
+
+/*
+ * Commits the anchors that a trigger yields, oldest first. Their number is in `anchors`, and their records stand in the buffer one after
+ * the other from its first byte on; the bytes beyond them stay as they are. The points of a history are marked as committed, the proof's
+ * round gets its used mark and is that of the last proof. A point that isn't marked as trigger yields no anchors, nor does one below the
+ * bottom, at genesis, or not above the last proof. The buffer may have any length, and may be null with the length 0.
+ * Refused by its walk, with 0 anchors: 2 not started; 5 author above 31; 6 round above the top; 5 author not a peer of its round; 9 not
+ * named or not resolved; 13 history conflict, its round in `conflict`; 14 point needed, not named or unresolved; 15 status neither usable
+ * nor certified; 16 no previous point, or the sought proof above the round walked, of another author than the used mark, or not marked as
+ * proof; 19 oldest link above the walk's lowest round.
+ * Refused by an anchor, with those before it finished: 22 anchor at genesis; 13, 14, 15 as above, of its history; 17 rounds of its history
+ * missing; 18 point of its history not certified; 20 gap question not put; 21 record larger than the buffer left. The records, marks and
+ * state of the finished anchors stay, and nothing else changes.
+ */
+committer_reply committer_commit(committer_state state,
+    const uint64_t *keys, size_t keys_len, const uint64_t *links, size_t links_len,
+    uint64_t *certs, size_t certs_len, const uint64_t *order, size_t order_len,
+    committer_point_id id, uint8_t *buffer, size_t buffer_len);
 
 #ifdef __cplusplus
 }

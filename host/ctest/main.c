@@ -181,6 +181,25 @@ static answer drop(board *b, uint32_t round)
     return keep(b, &reply);
 }
 
+/* What a commit answers besides. */
+typedef struct {
+    uint32_t anchors, conflict;
+} handed;
+
+static handed last_commit;
+
+static answer commit(board *b, committer_point_id id, uint8_t *buffer, size_t length)
+{
+    committer_reply reply = committer_commit(b->state, TABLES(b), id, buffer, length);
+    answer a = {reply.refused, reply.said};
+    CHECK(reply.said == 0 && reply.refused < COMMITTER_REMOVE_AHEAD);
+    CHECK(reply.refused == COMMITTER_CONFLICT || reply.conflict == 0);
+    last_commit.anchors = reply.anchors;
+    last_commit.conflict = reply.conflict;
+    b->state = reply.state;
+    return a;
+}
+
 /* The call is refused with the number, and the board stays as it is; `spare` is a board of the same size to compare with. */
 #define REFUSED(b, spare, number, call) \
     do { \
@@ -341,6 +360,10 @@ static void check_not_started(board *b, board *spare)
     REFUSED(b, spare, COMMITTER_WRONG_PHASE, resolve(b, point(11, 0), valid(1, 0), refs, COMMITTER_REF_WORDS));
     REFUSED(b, spare, COMMITTER_WRONG_PHASE, certify(b, point(11, 0)));
     REFUSED(b, spare, COMMITTER_WRONG_PHASE, drop(b, 11));
+    uint8_t bytes[4] = {1, 2, 3, 4};
+    REFUSED(b, spare, COMMITTER_WRONG_PHASE, commit(b, point(11, 0), bytes, 4));
+    REFUSED(b, spare, COMMITTER_WRONG_PHASE, commit(b, point(11, 0), NULL, 0));
+    CHECK(bytes[0] == 1 && bytes[3] == 4 && last_commit.anchors == 0);
 }
 
 static void check_round_refusals(void)
@@ -636,6 +659,213 @@ static void check_cases(void)
     free_board(&b);
 }
 
+/* ---- commits */
+
+/* Names a point and resolves it with up to two includes. */
+static void put(board *b, committer_point_id id, uint32_t status, uint32_t marks, committer_point_id top, size_t includes,
+    committer_point_id first, committer_point_id second)
+{
+    uint64_t refs[2 * COMMITTER_REF_WORDS];
+    committer_told told = valid(includes, 0);
+    told.status = status;
+    told.marks = marks;
+    told.top_proof = top;
+    put_link(refs, 0, first);
+    put_link(refs, 1, second);
+    DONE(name(b, id));
+    DONE(resolve(b, id, told, refs, includes * COMMITTER_REF_WORDS));
+}
+
+static void put_one(board *b, committer_point_id id, uint32_t marks, committer_point_id top, committer_point_id below)
+{
+    put(b, id, COMMITTER_VALID, marks, top, 1, below, below);
+}
+
+static size_t put_id(uint8_t *bytes, committer_point_id id)
+{
+    for (int i = 0; i < 4; i++) {
+        bytes[i] = (uint8_t)(id.round >> (24 - 8 * i));
+    }
+    bytes[4] = (uint8_t)id.author;
+    committer_digest_bytes(id.digest, bytes + 5);
+    return COMMITTER_ID_BYTES;
+}
+
+/* The record of an anchor, proved one round above it by the same author. */
+static size_t put_record(uint8_t *bytes, committer_point_id anchor, uint32_t previous, const committer_point_id *points, uint8_t count)
+{
+    uint8_t *end = bytes;
+    end += put_id(end, anchor);
+    end += put_id(end, point(anchor.round + 1, anchor.author));
+    const uint8_t middle[9] = {1, (uint8_t)(previous >> 24), (uint8_t)(previous >> 16), (uint8_t)(previous >> 8), (uint8_t)previous, 0, 0, 0, count};
+    memcpy(end, middle, sizeof middle);
+    end += sizeof middle;
+    for (int i = 0; i < count; i++) {
+        end += put_id(end, points[i]);
+    }
+    CHECK((size_t)(end - bytes) == COMMITTER_RECORD_BYTES(count));
+    return COMMITTER_RECORD_BYTES(count);
+}
+
+static committer_beginning used_beginning(uint32_t history_rounds)
+{
+    committer_beginning with = beginning(10);
+    with.history_rounds = history_rounds;
+    with.used = 0;
+    return with;
+}
+
+/* K13 of document 01. */
+static void check_k13(void)
+{
+    enum { LENGTH = 83 + 4 * 37, MORE = 50 };
+    board b = started(8, used_beginning(2), 15), spare = new_board(8);
+    committer_point_id low = point(11, 1), left = point(12, 0), right = point(12, 1), anchor = point(13, 0), proof = point(14, 0);
+    committer_point_id points[4] = {low, left, right, anchor};
+    put(&b, low, COMMITTER_VALID, 0, low, 0, low, low);
+    put_one(&b, left, 0, low, low);
+    put_one(&b, right, 0, low, low);
+    put(&b, anchor, COMMITTER_VALID, 0, point(10, 0), 2, left, right);
+    put_one(&b, proof, COMMITTER_PROOF, proof, anchor);
+    put_one(&b, point(15, 0), COMMITTER_TRIGGER, low, proof);
+    uint8_t bytes[LENGTH + MORE], record[LENGTH];
+    memset(bytes, 0xa5, sizeof bytes);
+    REFUSED(&b, &spare, COMMITTER_NOT_CERTIFIED, commit(&b, point(15, 0), bytes, sizeof bytes));
+    DONE(certify(&b, anchor));
+    REFUSED(&b, &spare, COMMITTER_NO_ROOM, commit(&b, point(15, 0), bytes, LENGTH - 1));
+    REFUSED(&b, &spare, COMMITTER_NO_ROOM, commit(&b, point(15, 0), NULL, 0));
+    CHECK(bytes[0] == 0xa5 && last_commit.anchors == 0);
+    DONE(commit(&b, point(15, 0), bytes, sizeof bytes));
+    CHECK(last_commit.anchors == 1);
+    put_record(record, anchor, 0, points, 4);
+    CHECK(memcmp(bytes, record, LENGTH) == 0);
+    for (int i = 0; i < MORE; i++) {
+        CHECK(bytes[LENGTH + i] == 0xa5);
+    }
+    for (size_t i = 0; i < 6; i++) {
+        CHECK(((cert_at(&b, i) & COMMITTER_CERT_COMMITTED) != 0) == (i < 4));
+    }
+    CHECK(b.state.last_proof == 15 && b.state.last_anchor == 14 && b.state.rounds[14].used == 1);
+    copy_board(&spare, &b);
+    DONE(commit(&b, point(15, 0), NULL, 0));
+    CHECK(last_commit.anchors == 0 && same_board(&b, &spare));
+    free_board(&b);
+    free_board(&spare);
+}
+
+/* Anchors 11 and 13 with H 1; the second includes 12.1 of the given status, 0 for not resolved. */
+static board two_anchors(uint32_t status)
+{
+    board b = started(8, used_beginning(1), 15);
+    committer_point_id side = point(12, 1);
+    put(&b, point(11, 0), COMMITTER_VALID, 0, point(10, 0), 0, side, side);
+    put_one(&b, point(12, 0), COMMITTER_PROOF, point(12, 0), point(11, 0));
+    if (status == 0) {
+        DONE(name(&b, side));
+    } else {
+        put(&b, side, status, 0, side, 0, side, side);
+    }
+    put(&b, point(13, 0), COMMITTER_VALID, 0, point(12, 0), 2, point(12, 0), side);
+    put_one(&b, point(14, 0), COMMITTER_PROOF, point(14, 0), point(13, 0));
+    put_one(&b, point(15, 0), COMMITTER_TRIGGER, point(14, 0), point(14, 0));
+    DONE(certify(&b, point(11, 0)));
+    return b;
+}
+
+/* The second anchor is refused: the first one's record and marks stay, and then nothing changes. */
+static void check_refused_after_one(board *b, uint32_t number, uint32_t conflict, size_t length)
+{
+    uint8_t bytes[400], record[120];
+    committer_point_id anchor = point(11, 0);
+    board spare = new_board(8);
+    memset(bytes, 0xa5, sizeof bytes);
+    CHECK(commit(b, point(15, 0), bytes, length).refused == number);
+    CHECK(last_commit.anchors == 1 && last_commit.conflict == conflict);
+    put_record(record, anchor, 0, &anchor, 1);
+    CHECK(memcmp(bytes, record, 120) == 0);
+    for (size_t i = 120; i < sizeof bytes; i++) {
+        CHECK(bytes[i] == 0xa5);
+    }
+    CHECK(b->state.last_proof == 13 && b->state.rounds[12].used == 1);
+    CHECK((cert_at(b, 0) & COMMITTER_CERT_COMMITTED) != 0 && (cert_at(b, 1) & COMMITTER_CERT_COMMITTED) == 0);
+    REFUSED(b, &spare, number, commit(b, point(15, 0), bytes + 120, length - 120));
+    CHECK(last_commit.anchors == 0 && last_commit.conflict == conflict && bytes[120] == 0xa5);
+    free_board(b);
+    free_board(&spare);
+}
+
+static void check_commit_refusals(void)
+{
+    board b = two_anchors(COMMITTER_VALID);
+    check_refused_after_one(&b, COMMITTER_NOT_CERTIFIED, 0, 400);
+    b = two_anchors(COMMITTER_INVALID);
+    check_refused_after_one(&b, COMMITTER_UNUSABLE, 0, 400);
+    for (uint32_t status = COMMITTER_INVALID; status <= COMMITTER_NOT_FOUND; status++) {
+        b = two_anchors(status);
+        DONE(certify(&b, point(13, 0)));
+        check_refused_after_one(&b, COMMITTER_CONFLICT, 12, 400);
+    }
+    b = two_anchors(0);
+    DONE(certify(&b, point(13, 0)));
+    check_refused_after_one(&b, COMMITTER_POINT_MISSING, 0, 400);
+    for (size_t length = 120; length < 120 + COMMITTER_RECORD_BYTES(3); length++) {
+        b = two_anchors(COMMITTER_VALID);
+        DONE(certify(&b, point(13, 0)));
+        check_refused_after_one(&b, COMMITTER_NO_ROOM, 0, length);
+    }
+    b = two_anchors(COMMITTER_VALID);
+    DONE(certify(&b, point(13, 0)));
+    uint8_t bytes[120 + 83 + 3 * 37], record[83 + 3 * 37];
+    committer_point_id points[3] = {point(12, 0), point(12, 1), point(13, 0)};
+    DONE(commit(&b, point(15, 0), bytes, sizeof bytes));
+    put_record(record, point(13, 0), 11, points, 3);
+    CHECK(last_commit.anchors == 2 && memcmp(bytes + 120, record, sizeof record) == 0);
+    free_board(&b);
+}
+
+/* Refusals of the walk and of the first anchor. */
+static void check_walk_refusals(void)
+{
+    board b = started(8, beginning(10), 12), spare = new_board(8);
+    committer_point_id low = point(10, 0), mid = point(11, 0), high = point(12, 0);
+    put(&b, low, COMMITTER_VALID, 0, point(9, 0), 0, low, low);
+    put_one(&b, mid, COMMITTER_PROOF, mid, low);
+    put_one(&b, high, COMMITTER_TRIGGER, low, mid);
+    REFUSED(&b, &spare, COMMITTER_AT_GENESIS, commit(&b, high, NULL, 0));
+    put(&b, point(12, 1), COMMITTER_VALID, COMMITTER_TRIGGER, low, 0, low, low);
+    REFUSED(&b, &spare, COMMITTER_BROKEN_CHAIN, commit(&b, point(12, 1), NULL, 0));
+    put(&b, point(12, 2), COMMITTER_INVALID, COMMITTER_TRIGGER, low, 0, low, low);
+    REFUSED(&b, &spare, COMMITTER_UNUSABLE, commit(&b, point(12, 2), NULL, 0));
+    DONE(certify(&b, point(12, 2)));
+    REFUSED(&b, &spare, COMMITTER_CONFLICT, commit(&b, point(12, 2), NULL, 0));
+    CHECK(last_commit.conflict == 12);
+    DONE(name(&b, point(12, 3)));
+    REFUSED(&b, &spare, COMMITTER_NOT_NAMED, commit(&b, point(12, 3), NULL, 0));
+    REFUSED(&b, &spare, COMMITTER_NOT_NAMED, commit(&b, point(12, 4), NULL, 0));
+    REFUSED(&b, &spare, COMMITTER_NOT_RETAINED, commit(&b, point(13, 0), NULL, 0));
+    REFUSED(&b, &spare, COMMITTER_NOT_A_PEER, commit(&b, point(13, 32), NULL, 0));
+    copy_board(&spare, &b);
+    DONE(commit(&b, point(9, 0), NULL, 0));
+    CHECK(last_commit.anchors == 0 && same_board(&b, &spare));
+    free_board(&b);
+
+    committer_beginning with = used_beginning(1);
+    with.after_gap = 1;
+    b = started(8, with, 13);
+    put(&b, point(11, 0), COMMITTER_VALID, 0, point(10, 0), 0, low, low);
+    put_one(&b, point(12, 0), COMMITTER_PROOF, point(12, 0), point(11, 0));
+    put_one(&b, point(13, 0), COMMITTER_TRIGGER, low, point(12, 0));
+    DONE(certify(&b, point(11, 0)));
+    REFUSED(&b, &spare, COMMITTER_GAP_QUESTION, commit(&b, point(13, 0), NULL, 0));
+    CHECK(ask(&b).said == 1);
+    REFUSED(&b, &spare, COMMITTER_NO_ROOM, commit(&b, point(13, 0), NULL, 0));
+    uint8_t bytes[120];
+    DONE(commit(&b, point(13, 0), bytes, sizeof bytes));
+    CHECK(last_commit.anchors == 1 && b.state.gap == 0);
+    free_board(&b);
+    free_board(&spare);
+}
+
 /* ---- noise */
 
 static uint64_t next_word(uint64_t *seed)
@@ -722,6 +952,9 @@ int main(void)
     check_links_below_zero();
     check_cases();
     check_memory();
+    check_k13();
+    check_commit_refusals();
+    check_walk_refusals();
     for (size_t places = 1; places <= 9; places++) {
         check_noise(places, 500);
     }

@@ -1,14 +1,16 @@
 //! The proved committer for hosts written in Rust, over the static library that `rt staticlib capi` writes.
 //!
 //! [`Committer`] owns the tables and the state. Every call on every input has an answer: a call that can't be done is
-//! refused with a number ([`Refusal`]) and changes nothing.
+//! refused with a number ([`Refusal`]) and changes nothing, but for the anchors that a commit finished before.
 
+mod anchor;
 pub mod record;
 mod refusal;
 mod state;
 pub mod sys;
 mod types;
 
+pub use anchor::{Anchor, RECORD_BYTES, anchors};
 pub use record::Call;
 pub use refusal::{Refusal, Refused};
 pub use state::STATE_BYTES;
@@ -25,6 +27,8 @@ pub const VERSIONS_MAX: usize = 4;
 /// Includes of a point, and witness.
 pub const LINKS_MAX: usize = 32;
 pub const ROUND_MAX: u32 = 4_000_000_000;
+/// A buffer of so many bytes has room for the records of any commit.
+pub const COMMIT_BYTES_MAX: usize = (ROUNDS_MAX - 1) * RECORD_BYTES + PLACES_MAX * anchor::ID_BYTES;
 
 /// Words of a place in each table.
 pub const KEY_WORDS: usize = 8;
@@ -60,12 +64,15 @@ pub struct Committer {
 }
 
 /// What [`Committer::call`] answers.
-#[derive(Clone, Copy, Debug, PartialEq, Eq)]
+#[derive(Clone, Debug, PartialEq, Eq)]
 pub enum Answer {
     Done,
     /// of the gap question and of a drop
     Said(bool),
-    Refused(Refused),
+    /// the anchors of a commit, oldest first
+    Handed(Vec<Anchor>),
+    /// with the anchors that were finished before; only a commit has any
+    Refused(Refused, Vec<Anchor>),
     /// the library doesn't have this call yet
     Unsupported,
 }
@@ -76,10 +83,17 @@ impl fmt::Display for Answer {
             Answer::Done => write!(f, "done"),
             Answer::Said(true) => write!(f, "yes"),
             Answer::Said(false) => write!(f, "no"),
-            Answer::Refused(why) => why.fmt(f),
+            Answer::Handed(anchors) => write!(f, "{} anchors", anchors.len()),
+            Answer::Refused(why, _) => why.fmt(f),
             Answer::Unsupported => write!(f, "unsupported"),
         }
     }
+}
+
+/// What a call that isn't refused says.
+struct Kept {
+    said: bool,
+    anchors: u32,
 }
 
 /// One C function called with the state, the tables and what else it takes; the state that it returns is kept.
@@ -146,7 +160,7 @@ impl Committer {
 
     /// Yes if the gap question is waited for, and then it is put. Refused with 2.
     pub fn gap_question(&mut self) -> Result<bool, Refused> {
-        run!(self, committer_gap)
+        run!(self, committer_gap).map(|kept| kept.said)
     }
 
     /// Names a point. Refused with 2, 5, 6, 5, 7, 8, 4.
@@ -167,10 +181,18 @@ impl Committer {
 
     /// Drops the rounds below, but for the top. Yes if the round isn't above the top. Refused with 2.
     pub fn drop_upto(&mut self, round: u32) -> Result<bool, Refused> {
-        run!(self, committer_drop, round)
+        run!(self, committer_drop, round).map(|kept| kept.said)
     }
 
-    /// Runs a recorded call.
+    /// Commits what a trigger yields: the records of the anchors, oldest first, stand at the beginning of the buffer
+    /// ([`anchors`] reads them), and their number is told. Refused with 2, 5, 6, 5, 9, 13 to 16, 19, then for each
+    /// anchor 22, 13 to 15, 17, 18, 20, 21. The records of the finished anchors ([`Refused::finished`]) then stand in
+    /// the buffer, and what these anchors changed stays.
+    pub fn commit(&mut self, trigger: &PointId, buffer: &mut [u8]) -> Result<u32, Refused> {
+        run!(self, committer_commit, trigger.into(), buffer.as_mut_ptr(), buffer.len()).map(|kept| kept.anchors)
+    }
+
+    /// Runs a recorded call. A commit gets a buffer that is large enough.
     pub fn call(&mut self, call: &Call) -> Answer {
         match call {
             Call::Start(with) => done(self.start(with)),
@@ -181,7 +203,16 @@ impl Committer {
             Call::Drop(round) => said(self.drop_upto(*round)),
             Call::Gap => said(self.gap_question()),
             Call::Reset => done(self.reset()),
-            Call::Commit(_) | Call::Remove { .. } | Call::Outlook(_) => Answer::Unsupported,
+            Call::Commit(trigger) => self.handed(trigger),
+            Call::Remove { .. } | Call::Outlook(_) => Answer::Unsupported,
+        }
+    }
+
+    fn handed(&mut self, trigger: &PointId) -> Answer {
+        let mut buffer = vec![0; COMMIT_BYTES_MAX];
+        match self.commit(trigger, &mut buffer) {
+            Ok(count) => Answer::Handed(anchors(&buffer, count)),
+            Err(why) => Answer::Refused(why, anchors(&buffer, why.finished)),
         }
     }
 
@@ -255,10 +286,10 @@ impl Committer {
     }
 
     /// Keeps the state that a call returned; what it said, or why it was refused.
-    fn keep(&mut self, reply: &sys::Reply) -> Result<bool, Refused> {
+    fn keep(&mut self, reply: &sys::Reply) -> Result<Kept, Refused> {
         *self.state = reply.state;
         if reply.refused == 0 {
-            return Ok(reply.said == 1);
+            return Ok(Kept { said: reply.said == 1, anchors: reply.anchors });
         }
         let refusal = Refusal::of(reply.refused, reply.conflict).expect("the library refuses with 1 to 23");
         Err(Refused { refusal, finished: reply.anchors })
@@ -266,9 +297,13 @@ impl Committer {
 }
 
 fn done(answer: Result<(), Refused>) -> Answer {
-    answer.map_or_else(Answer::Refused, |()| Answer::Done)
+    answer.map_or_else(refused, |()| Answer::Done)
 }
 
 fn said(answer: Result<bool, Refused>) -> Answer {
-    answer.map_or_else(Answer::Refused, Answer::Said)
+    answer.map_or_else(refused, Answer::Said)
+}
+
+fn refused(why: Refused) -> Answer {
+    Answer::Refused(why, Vec::new())
 }

@@ -124,7 +124,8 @@ const _: () = assert!(size_of::<Reply>() == 15448);
 const _: () = assert!(size_of::<Start>() == 28);
 const _: () = assert!(size_of::<Told>() == 72);
 
-// Safety, of all of them: each pointer is to as many words as its length says, and no two tables overlap.
+// Safety, of all of them: each pointer is to as many words (or bytes, of the buffer) as its length says, and no two of
+// what is lent overlap.
 unsafe extern "C" {
     pub fn committer_start(
         state: State,
@@ -230,5 +231,20 @@ unsafe extern "C" {
         order: *mut u64,
         order_len: usize,
         round: u32,
+    ) -> Reply;
+
+    pub fn committer_commit(
+        state: State,
+        keys: *const u64,
+        keys_len: usize,
+        links: *const u64,
+        links_len: usize,
+        certs: *mut u64,
+        certs_len: usize,
+        order: *const u64,
+        order_len: usize,
+        id: PointId,
+        buffer: *mut u8,
+        buffer_len: usize,
     ) -> Reply;
 }

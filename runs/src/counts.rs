@@ -21,8 +21,10 @@ pub struct Counts {
     /// pairs of points, and pairs of states, that were compared
     pub points: u64,
     pub states: u64,
-    /// anchor records compared
+    /// anchor records compared with the Rust's
     pub anchors: u64,
+    /// commits that handed out so many anchors, and that were refused after so many
+    pub commits: [BTreeMap<usize, u64>; 2],
 }
 
 impl Counts {
@@ -49,7 +51,15 @@ impl Counts {
     }
 
     pub fn met(&mut self, known: Known) {
-        *self.known.entry(known).or_default() += 1;
+        self.times_met(known, 1);
+    }
+
+    pub fn times_met(&mut self, known: Known, times: u64) {
+        *self.known.entry(known).or_default() += times;
+    }
+
+    pub fn handed(&mut self, anchors: usize, refused: bool) {
+        *self.commits[usize::from(refused)].entry(anchors).or_default() += 1;
     }
 
     pub fn add(&mut self, other: &Counts) {
@@ -73,6 +83,11 @@ impl Counts {
         self.points += other.points;
         self.states += other.states;
         self.anchors += other.anchors;
+        for (ours, others) in self.commits.iter_mut().zip(&other.commits) {
+            for (anchors, times) in others {
+                *ours.entry(*anchors).or_default() += times;
+            }
+        }
     }
 
     fn times(&self, known: Known) -> u64 {
@@ -107,6 +122,10 @@ impl fmt::Display for Counts {
             writeln!(f, "  {kind}: {calls}, of them refused {refused}")?;
         }
         writeln!(f, "compared: {} states, {} points, {} anchor records", self.states, self.points, self.anchors)?;
+        for (commits, what) in self.commits.iter().zip(["handed out", "finished before a refusal"]) {
+            let times: Vec<_> = commits.iter().map(|(anchors, times)| format!("{anchors}: {times}")).collect();
+            writeln!(f, "commits by anchors {what}: {}", times.join(", "))?;
+        }
         writeln!(f, "refusals:")?;
         for (number, times) in &self.refusals {
             write!(f, "  {number}: {times}, given to the Rust {}", self.tried_of(*number))?;

@@ -95,6 +95,9 @@ pub struct Tried<'a> {
 impl Tried<'_> {
     /// Which entry or row names what the Rust did, if one does.
     pub fn known(&self) -> Option<Known> {
+        if self.below_zero() {
+            return Some(Known::Entry(7));
+        }
         match self.refused.number {
             1 => self.bad_start(),
             2 => self.wrong_phase(),
@@ -108,6 +111,20 @@ impl Tried<'_> {
             12 => self.link_not_named(),
             number => self.commit_refused(number),
         }
+    }
+
+    /// A commit whose refusal the Rust doesn't come to: it panics at a trigger or a proof in round 0, where it looks for the previous point,
+    /// or at a finished anchor whose top proof is in round 0, which then has no previous anchor.
+    fn below_zero(&self) -> bool {
+        let Call::Commit(trigger) = self.call else {
+            return false;
+        };
+        let from_zero = self.before.state.as_ref().is_some_and(|state| state.bottom == 0);
+        let finished = &self.refused.finished;
+        let at_zero = trigger.round == 0
+            || from_zero && self.refused.number == 16 && finished.is_empty()
+            || finished.iter().any(|anchor| anchor.previous == 0);
+        at_zero && panics(self.told, UNDERFLOW)
     }
 
     fn when(&self, as_named: bool, known: Known) -> Option<Known> {

@@ -1,8 +1,8 @@
 //! The library's side: the proved committer behind a trait, so that tests can put a wrong one in its place.
 
-use committer::{Call, Committer, Status};
+use committer::{Anchor, Call, Committer, PointId, Status, anchors};
 
-use crate::view::{Answer, Point, Refused, Round, State, View};
+use crate::view::{self, Answer, Point, Refused, Round, State, View};
 
 /// The side that is tested.
 pub trait Side {
@@ -15,22 +15,38 @@ pub trait Side {
 
     /// A number that changes with any word of the tables and the state.
     fn fingerprint(&self) -> u64;
+
+    /// The last call, if it was a commit that wrote records, once more with buffers that are too small: how many, or what is wrong.
+    fn smaller_buffers(&self) -> Result<u64, String> {
+        Ok(0)
+    }
 }
 
 /// The library as it is.
-pub struct Library(Committer);
+pub struct Library {
+    committer: Committer,
+    /// the last call, if it was a commit that wrote records, and what was before it
+    commit: Option<(PointId, Committer)>,
+}
+
+/// Larger tables aren't copied before each commit.
+const COPIED: usize = 600;
 
 impl Side for Library {
     fn new(places: usize) -> Library {
-        Library(Committer::new(places))
+        Library { committer: Committer::new(places), commit: None }
     }
 
     fn call(&mut self, call: &Call) -> Answer {
-        answer(self.0.call(call))
+        self.commit = match call {
+            Call::Commit(id) if self.committer.parts().0.order.len() <= COPIED => Some((*id, self.committer.clone())),
+            _ => None,
+        };
+        answer(self.committer.call(call))
     }
 
     fn view(&self) -> View {
-        let Some(summary) = self.0.summary() else {
+        let Some(summary) = self.committer.summary() else {
             return View::default();
         };
         let state = State {
@@ -44,11 +60,11 @@ impl Side for Library {
                 .map(|round| Round { round: round.round, peers: round.peers, used: round.used })
                 .collect(),
         };
-        View { state: Some(state), points: self.0.points().iter().map(point).collect() }
+        View { state: Some(state), points: self.committer.points().iter().map(point).collect() }
     }
 
     fn fingerprint(&self) -> u64 {
-        let (tables, state) = self.0.parts();
+        let (tables, state) = self.committer.parts();
         let mut sum = Sum::new();
         for table in [&tables.keys, &tables.links, &tables.certs, &tables.order] {
             sum.words(table);
@@ -56,6 +72,77 @@ impl Side for Library {
         sum.bytes(&state.to_bytes());
         sum.total()
     }
+
+    fn smaller_buffers(&self) -> Result<u64, String> {
+        match &self.commit {
+            Some((trigger, before)) => smaller_buffers(trigger, before, &self.committer),
+            None => Ok(0),
+        }
+    }
+}
+
+const LARGE: usize = committer::COMMIT_BYTES_MAX;
+const UNTOUCHED: u8 = 0xa5;
+
+/// A commit into buffers that end inside each record: 21 with the records before, then the same commit writes the others and leaves what it
+/// left at once. Before a refusal it ends likewise.
+fn smaller_buffers(trigger: &PointId, before: &Committer, after: &Committer) -> Result<u64, String> {
+    let mut large = vec![UNTOUCHED; LARGE];
+    let whole = before.clone().commit(trigger, &mut large);
+    let records = anchors(&large, whole.map_or_else(|why| why.finished, |count| count));
+    let mut end = 0;
+    let mut tried = 0;
+    for (n, record) in (0..).zip(&records) {
+        let begin = end;
+        end += record.bytes();
+        for length in [begin, begin + 82, end - 1] {
+            let mut buffer = vec![UNTOUCHED; length];
+            let mut committer = before.clone();
+            let cut = committer.commit(trigger, &mut buffer);
+            let refused = committer::Refused { refusal: committer::Refusal::NoRoom, finished: n };
+            if cut != Err(refused) {
+                return Err(format!("a buffer of {length} bytes: {cut:?}, due {refused:?}"));
+            }
+            if buffer[..begin] != large[..begin] || buffer[begin..].iter().any(|byte| *byte != UNTOUCHED) {
+                return Err(format!("a buffer of {length} bytes holds other bytes than the records before"));
+            }
+            if n == 0 && committer != *before {
+                return Err(format!("a buffer of {length} bytes: refused with 0 anchors, and something changed"));
+            }
+            let mut rest = vec![UNTOUCHED; LARGE];
+            let again = committer.commit(trigger, &mut rest);
+            let due =
+                whole.map(|count| count - n).map_err(|why| committer::Refused { finished: why.finished - n, ..why });
+            if again != due || rest[..LARGE - begin] != large[begin..] || committer != *after {
+                return Err(format!(
+                    "after a buffer of {length} bytes: {again:?}, due {due:?}, or other records or tables"
+                ));
+            }
+            tried += 1;
+        }
+    }
+    exact_buffer(trigger, before, after, &large[..end], &whole)?;
+    Ok(tried)
+}
+
+/// A buffer of the records' length is enough.
+fn exact_buffer(
+    trigger: &PointId,
+    before: &Committer,
+    after: &Committer,
+    records: &[u8],
+    whole: &Result<u32, committer::Refused>,
+) -> Result<(), String> {
+    let mut buffer = vec![UNTOUCHED; records.len()];
+    let mut committer = before.clone();
+    let given = committer.commit(trigger, &mut buffer);
+    if given != *whole {
+        return Err(format!("a buffer of just {} bytes: {given:?}, due {whole:?}", records.len()));
+    }
+    if buffer != records || committer != *after {
+        return Err(format!("a buffer of just {} bytes: other records or tables", records.len()));
+    }
+    Ok(())
 }
 
 /// Whether the library has this call.
@@ -67,17 +154,29 @@ fn answer(answer: committer::Answer) -> Answer {
     match answer {
         committer::Answer::Done => Answer::Done,
         committer::Answer::Said(yes) => Answer::Said(yes),
-        committer::Answer::Refused(why) => Answer::Refused(refused(why)),
+        committer::Answer::Handed(anchors) => Answer::Anchors(anchors.into_iter().map(anchor).collect()),
+        committer::Answer::Refused(why, finished) => Answer::Refused(refused(why, finished)),
         committer::Answer::Unsupported => Answer::Unsupported,
     }
 }
 
-fn refused(why: committer::Refused) -> Refused {
+fn refused(why: committer::Refused, finished: Vec<Anchor>) -> Refused {
     let round = match why.refusal {
         committer::Refusal::Conflict { round } => round,
         _ => 0,
     };
-    Refused { number: why.number(), round, finished: Vec::new() }
+    assert_eq!(why.finished as usize, finished.len(), "the records stand in the buffer");
+    Refused { number: why.number(), round, finished: finished.into_iter().map(anchor).collect() }
+}
+
+fn anchor(anchor: Anchor) -> view::Anchor {
+    view::Anchor {
+        anchor: anchor.anchor,
+        proof: anchor.proof,
+        executable: anchor.executable,
+        previous: anchor.previous,
+        points: anchor.points,
+    }
 }
 
 fn point(point: &committer::Point) -> Point {

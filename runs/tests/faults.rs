@@ -6,7 +6,7 @@ use committer::Call;
 use runs::compare::{Kind, List, compare};
 use runs::counts::Counts;
 use runs::library::{Library, Side};
-use runs::lists::grown;
+use runs::lists::{chained, grown};
 use runs::notation;
 use runs::random::Random;
 use runs::shrink::shrink;
@@ -218,6 +218,82 @@ impl Fault for Twice {
 #[test]
 fn a_missing_refusal_is_caught() {
     assert_eq!(calls::<Twice>(), (4, Kind::Rule));
+}
+
+/// An anchor's record names another previous anchor.
+struct Previous;
+
+impl Fault for Previous {
+    fn answer(_: &Call, _: &View, mut answer: Answer) -> Answer {
+        if let Answer::Anchors(anchors) = &mut answer {
+            anchors.iter_mut().skip(1).for_each(|anchor| anchor.previous += 1);
+        }
+        answer
+    }
+}
+
+/// A point is left out of the second history.
+struct History;
+
+impl Fault for History {
+    fn answer(_: &Call, _: &View, mut answer: Answer) -> Answer {
+        if let Answer::Anchors(anchors) = &mut answer {
+            anchors.iter_mut().skip(1).for_each(|anchor| anchor.points.truncate(anchor.points.len() - 1));
+        }
+        answer
+    }
+}
+
+/// The round of a conflict is one too high.
+struct ConflictRound;
+
+impl Fault for ConflictRound {
+    fn answer(_: &Call, _: &View, mut answer: Answer) -> Answer {
+        if let Answer::Refused(why) = &mut answer
+            && why.number == 13
+        {
+            why.round += 1;
+        }
+        answer
+    }
+}
+
+/// 14 for 18.
+struct Number;
+
+impl Fault for Number {
+    fn answer(_: &Call, _: &View, mut answer: Answer) -> Answer {
+        if let Answer::Refused(why) = &mut answer
+            && why.number == 18
+        {
+            why.number = 14;
+        }
+        answer
+    }
+}
+
+/// The list and the kind of the first difference in lists that commit.
+fn found_in_chains<F: Fault>() -> Kind {
+    let lists = (0..400).map(|n| chained(Random::of(7, 5, n)));
+    let found = lists.into_iter().find_map(|list| compare::<Wrong<F>>(&list, &mut Counts::default()).err());
+    found.expect("the fault is caught").kind
+}
+
+#[test]
+fn faults_of_commits_are_caught() {
+    assert_eq!(found_in_chains::<Previous>(), Kind::Answer);
+    assert_eq!(found_in_chains::<History>(), Kind::Records);
+    assert_eq!(found_in_chains::<ConflictRound>(), Kind::Refused(13));
+    assert_eq!(found_in_chains::<Number>(), Kind::Refused(14));
+}
+
+#[test]
+fn the_library_passes_chains() {
+    let mut counts = Counts::default();
+    for list in (0..100).map(|n| chained(Random::of(7, 5, n))) {
+        compare::<Library>(&list, &mut counts).unwrap_or_else(|found| panic!("{found}\n{}", notation::written(&list)));
+    }
+    assert!(counts.anchors > 100, "{counts}");
 }
 
 /// A word is written where 9 is given.

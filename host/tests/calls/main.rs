@@ -1,6 +1,7 @@
 //! The calls through the static library, as document 01 defines them.
 
 mod cases;
+mod commits;
 mod common;
 mod full_size;
 mod model;

@@ -42,7 +42,7 @@ impl Model {
     pub fn call(&mut self, call: &Call) -> Answer {
         self.answer(call).unwrap_or_else(|number| {
             let refusal = Refusal::of(number, 0).expect("a number of the table");
-            Answer::Refused(Refused { refusal, finished: 0 })
+            Answer::Refused(Refused { refusal, finished: 0 }, Vec::new())
         })
     }
 

@@ -16,6 +16,7 @@ fn calls(noise: &mut Noise) -> Vec<Call> {
         Call::Name(id),
         Call::Resolve(id, info),
         Call::Certify(id),
+        Call::Commit(id),
         Call::Drop(round),
         Call::Gap,
         Call::Reset,
@@ -35,9 +36,9 @@ fn any_start(noise: &mut Noise) -> Start {
     }
 }
 
-fn number(answer: Answer) -> u32 {
+fn number(answer: &Answer) -> u32 {
     match answer {
-        Answer::Refused(why) => why.number(),
+        Answer::Refused(why, _) => why.number(),
         _ => 0,
     }
 }
@@ -47,7 +48,7 @@ fn assert_not_started(committer: &mut Committer, noise: &mut Noise) {
     let before = committer.clone();
     for call in calls(noise) {
         let answer = committer.call(&call);
-        assert_eq!(number(answer), 2, "{call:?}");
+        assert_eq!(number(&answer), 2, "{call:?}");
         assert_unchanged(committer, &before);
     }
     assert_eq!((committer.summary(), committer.points()), (None, vec![]));
@@ -217,8 +218,8 @@ fn one_changed_bit() {
         not_started += u32::from(!counts);
         for call in calls(noise) {
             let answer = committer.call(&call);
-            assert_eq!(number(answer) == 2, !counts, "{call:?}");
-            if number(answer) != 0 {
+            assert_eq!(number(&answer) == 2, !counts, "{call:?}");
+            if number(&answer) != 0 {
                 assert_unchanged(&committer, &before);
             }
             committer = before.clone();

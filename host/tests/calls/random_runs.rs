@@ -34,10 +34,10 @@ impl Run {
         let before = self.committer.clone();
         let answer = self.committer.call(call);
         assert_eq!(answer, expected, "{call:?}");
-        if let Answer::Refused(_) = answer {
+        if let Answer::Refused(..) = answer {
             crate::common::assert_unchanged(&self.committer, &before);
         }
-        *self.answers.entry((name(call), number(answer))).or_insert(0) += 1;
+        *self.answers.entry((name(call), number(&answer))).or_insert(0) += 1;
     }
 
     fn compare(&self) {
@@ -185,9 +185,9 @@ fn name(call: &Call) -> &'static str {
     }
 }
 
-fn number(answer: Answer) -> u32 {
+fn number(answer: &Answer) -> u32 {
     match answer {
-        Answer::Refused(why) => why.number(),
+        Answer::Refused(why, _) => why.number(),
         _ => 0,
     }
 }

@@ -45,6 +45,7 @@ fn main() {
     print_calls(&times);
     print_growth(&times);
     print_reads(&times);
+    print_commits();
 }
 
 // ---- what is timed
@@ -176,6 +177,90 @@ fn rust(points: u32) -> Calls {
         }
     }
     Calls::of(times)
+}
+
+// ---- commits
+
+/// New points of an anchor's history.
+const HISTORIES: [u32; 3] = [32, 128, 1024];
+
+/// The calls until an anchor with so many new points can be committed, a multiple of 32: rows of 32, one of 31, the anchor; its proof and
+/// the trigger.
+fn committable(points: u32) -> (Vec<Call>, PointId) {
+    let row = |round: u32, authors: u32| (0..authors).map(move |n| at(round, n)).collect::<Vec<_>>();
+    let anchor = at(BOTTOM + points / PEERS + 1, 0);
+    let mut rows: Vec<Vec<PointId>> = (1..points / PEERS).map(|n| row(BOTTOM + n, PEERS)).collect();
+    rows.push(row(anchor.round - 1, PEERS - 1));
+    rows.extend((0..3).map(|n| row(anchor.round + n, 1)));
+    let bottom = Start {
+        genesis: BOTTOM,
+        history_rounds: 255,
+        bottom: BOTTOM,
+        peers: u32::MAX,
+        used: Some(0),
+        ..Start::default()
+    };
+    let mut calls = vec![Call::Start(bottom)];
+    let mut below: Vec<Link> = Vec::new();
+    for row in rows {
+        calls.push(Call::Round { round: row[0].round, peers: u32::MAX });
+        for id in &row {
+            let proof = id.round == anchor.round + 1;
+            let top_proof = if proof { *id } else { at(BOTTOM, 0) };
+            let trigger = id.round == anchor.round + 2;
+            let info =
+                PointInfo { status: 1, proof, trigger, top_proof, includes: below.clone(), ..PointInfo::default() };
+            calls.extend([Call::Name(*id), Call::Resolve(*id, info)]);
+        }
+        below = row.iter().map(|id| Link { peer: id.author, digest: id.digest }).collect();
+    }
+    calls.push(Call::Certify(anchor));
+    (calls, at(anchor.round + 2, 0))
+}
+
+fn at(round: u32, author: u32) -> PointId {
+    PointId { round, author, digest: digest(round * PEERS + author) }
+}
+
+fn print_commits() {
+    println!("\n| new points of the anchor | commit, library | table test | library less the test | Rust |");
+    println!("|---|---|---|---|---|");
+    for points in HISTORIES {
+        let (calls, trigger) = committable(points);
+        let [ours, test, rest] = our_commit(points, &calls, &trigger);
+        let rust = rust_commit(points, &calls, &trigger);
+        println!("| {points} | {ours:.1} | {test:.1} | {rest:.1} | {rust:.1} |");
+    }
+}
+
+/// The commit, the table test, and the one less the other.
+fn our_commit(points: u32, calls: &[Call], trigger: &PointId) -> [f64; 3] {
+    let mut before = Committer::new(PLACES_MAX);
+    calls.iter().for_each(|call| take(&mut before, call));
+    let mut work = before.clone();
+    let mut buffer = vec![0; committer::COMMIT_BYTES_MAX];
+    let mut times: [Vec<f64>; 3] = Default::default();
+    for _ in 0..repetitions(points) {
+        restore(&mut work, &before, points + 2);
+        let test = clock(|| work.gap_question().expect("started"));
+        restore(&mut work, &before, points + 2);
+        let ours = clock(|| assert_eq!(work.commit(trigger, &mut buffer), Ok(1)));
+        assert_eq!(committer::anchors(&buffer, 1)[0].points.len(), points as usize);
+        for (times, time) in times.iter_mut().zip([ours, test, ours - test]) {
+            times.push(time);
+        }
+    }
+    times.map(median)
+}
+
+fn rust_commit(points: u32, calls: &[Call], trigger: &PointId) -> f64 {
+    let commit = Call::Commit(*trigger);
+    let mut times = Vec::new();
+    for _ in 0..(40_000 / points as usize).clamp(25, 200) {
+        let mut rust = Rust::after(calls);
+        times.push(clock(|| assert!(matches!(rust.call(&commit), Told::Answer(Answer::Anchors(_))))));
+    }
+    median(times)
 }
 
 /// The sum of every word of the used places.

@@ -9,7 +9,7 @@ use std::time::Instant;
 use runs::compare::{Difference, List, compare};
 use runs::counts::Counts;
 use runs::library::Library;
-use runs::lists::{damaged, grown, limits, shorts};
+use runs::lists::{chained, damaged, grown, limits, shorts};
 use runs::notation;
 use runs::random::Random;
 use runs::shrink::shrink;
@@ -17,11 +17,16 @@ use runs::shrink::shrink;
 const SEED: u64 = 1;
 const GROWN: u64 = 2_000;
 const DAMAGED: u64 = 1_200;
+const CHAINED: u64 = 2_000;
+const CHAINED_DAMAGED: u64 = 2_000;
 /// Every so many random lists run under both hash seeds.
 const TWICE: u64 = 4;
 /// Of each number that the calls at hand are refused with, the Rust is given at least so many.
 const TRIED_LEAST: u64 = 200;
 const CALLS_LEAST: u64 = 100_000;
+/// Anchor records that both handed out, and commits refused with 13, 14, 15, 16, 18, 20 that the Rust was given.
+const ANCHORS_LEAST: u64 = 5_000;
+const COMMITS_LEAST: u64 = 100;
 
 /// A list, its family, and whether it runs under both hash seeds.
 struct Task {
@@ -99,10 +104,18 @@ fn tasks(seed: u64) -> impl Iterator<Item = Task> {
         let list = damaged(grown(random(2, n)), random(3, n));
         Task { family: "damaged", twice: n % TWICE == 0, list }
     });
+    let chained_tasks =
+        (0..CHAINED).map(move |n| Task { family: "chains", twice: n % TWICE == 0, list: chained(random(5, n)) });
+    let damaged_chains = (0..CHAINED_DAMAGED).map(move |n| {
+        let list = damaged(chained(random(6, n)), random(7, n));
+        Task { family: "damaged chains", twice: n % TWICE == 0, list }
+    });
     // short lists first, so that a difference is shown by a short one; the long ones of the limits last
     (shorts().map(once("short")))
         .chain(grown_tasks)
         .chain(damaged_tasks)
+        .chain(chained_tasks)
+        .chain(damaged_chains)
         .chain(limits().into_iter().map(once("limits")))
 }
 
@@ -118,12 +131,17 @@ fn report((task, found): &Failure) -> ExitCode {
 /// Fails a run that compared too little.
 fn enough(counts: &Counts) -> ExitCode {
     let mut good = counts.calls() >= CALLS_LEAST;
-    for number in 1..=12 {
+    let commits = [13, 14, 15, 16, 18, 20].map(|number| (number, COMMITS_LEAST));
+    for (number, least) in (1..=12).map(|number| (number, TRIED_LEAST)).chain(commits) {
         let tried = counts.tried_of(number);
-        if tried < TRIED_LEAST {
-            println!("refusal {number} was given to the Rust {tried} times only, not {TRIED_LEAST}");
+        if tried < least {
+            println!("refusal {number} was given to the Rust {tried} times only, not {least}");
             good = false;
         }
+    }
+    if counts.anchors < ANCHORS_LEAST {
+        println!("{} anchor records were compared only, not {ANCHORS_LEAST}", counts.anchors);
+        good = false;
     }
     println!("{}", if good { "no other difference" } else { "too little was compared" });
     if good { ExitCode::SUCCESS } else { ExitCode::FAILURE }

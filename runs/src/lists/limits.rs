@@ -18,7 +18,64 @@ pub fn limits() -> Vec<List> {
     ];
     lists.extend([1, 2, 255].into_iter().flat_map(|h| [chain(h, 1), chain(h, 2), woven(h)]));
     lists.extend(starts());
+    lists.extend([many_anchors(1), many_anchors(2), large_history()]);
     lists
+}
+
+/// Every round's point is a proof and the anchor of the next, or every second one: the most anchors that one commit can have, H 1.
+fn many_anchors(step: u32) -> List {
+    let mut calls = Vec::new();
+    for round in 11..=521 {
+        let id = at(round, 0, 0);
+        let proof = if step == 1 { round > 11 && round < 521 } else { round % 2 == 0 };
+        let below = if step == 1 || round % 2 == 0 { round } else { round - 1 };
+        let top_proof = if proof { id } else { at(if round == 11 { 10 } else { below }, 0, 0) };
+        let includes = if round > 11 { vec![link(0, number(round - 1, 0, 0))] } else { vec![] };
+        calls.push(Call::Round { round, peers: 1 });
+        calls.push(Call::Name(id));
+        calls.push(Call::Resolve(id, PointInfo { proof, trigger: round == 521, top_proof, ..valid(includes, vec![]) }));
+        calls.push(Call::Certify(id));
+    }
+    calls.extend([
+        Call::Commit(at(521, 0, 0)),
+        Call::Commit(at(521, 0, 0)),
+        Call::Drop(300),
+        Call::Commit(at(521, 0, 0)),
+    ]);
+    list(511, start(1, 1), calls)
+}
+
+/// An anchor 255 rounds above genesis + 1, and 4,096 points in all: its history is as large as can be.
+fn large_history() -> List {
+    let authors = |round| match round {
+        11 => 14,
+        266.. => 1,
+        _ => 16,
+    };
+    let mut calls = Vec::new();
+    for round in 11..=268 {
+        calls.push(Call::Round { round, peers: ALL });
+        for author in 0..authors(round) {
+            let id = at(round, author, 0);
+            // each point includes its author's and the next one's, the first of a round all
+            let linked = |peer: &u32| author == 0 || *peer == author || *peer == (author + 1) % 16;
+            let includes = match round {
+                11 => vec![],
+                _ => {
+                    (0..authors(round - 1)).filter(linked).map(|peer| link(peer, number(round - 1, peer, 0))).collect()
+                }
+            };
+            let proof = round == 267;
+            let top_proof = if proof { id } else { at(10, 0, 0) };
+            calls.push(Call::Name(id));
+            calls.push(Call::Resolve(
+                id,
+                PointInfo { proof, trigger: round == 268, top_proof, ..valid(includes, vec![]) },
+            ));
+        }
+    }
+    calls.extend([Call::Commit(at(268, 0, 0)), Call::Certify(at(266, 0, 0)), Call::Commit(at(268, 0, 0))]);
+    list(PLACES_MAX, start(255, ALL), calls)
 }
 
 const ALL: u32 = u32::MAX;

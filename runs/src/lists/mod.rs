@@ -1,5 +1,6 @@
 //! The lists of calls.
 
+mod chains;
 mod damage;
 mod growth;
 mod limits;
@@ -7,6 +8,7 @@ mod short;
 
 use committer::{Link, PointId, PointInfo};
 
+pub use chains::chained;
 pub use damage::damaged;
 pub use growth::{Growth, Taste, grown};
 pub use limits::limits;

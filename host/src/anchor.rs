@@ -1,0 +1,55 @@
+//! Anchor records, as a commit writes them.
+
+use crate::types::PointId;
+
+/// Of a point id's bytes.
+pub(crate) const ID_BYTES: usize = 37;
+/// Of a record's bytes before the ids of its points.
+pub const RECORD_BYTES: usize = 2 * ID_BYTES + 9;
+
+/// What a commit hands out for an anchor.
+#[derive(Clone, Debug, PartialEq, Eq, Hash)]
+pub struct Anchor {
+    pub anchor: PointId,
+    pub proof: PointId,
+    pub executable: bool,
+    /// round of the previous anchor; 0 for none
+    pub previous: u32,
+    /// the history: by rising round, then by rising digest
+    pub points: Vec<PointId>,
+}
+
+impl Anchor {
+    /// The length of its record.
+    pub fn bytes(&self) -> usize {
+        RECORD_BYTES + ID_BYTES * self.points.len()
+    }
+}
+
+/// The anchors of so many records that stand one after the other from the first byte on. Fewer if the bytes end before.
+pub fn anchors(bytes: &[u8], count: u32) -> Vec<Anchor> {
+    let mut rest = bytes;
+    (0..count).map_while(|_| anchor(&mut rest)).collect()
+}
+
+fn anchor(rest: &mut &[u8]) -> Option<Anchor> {
+    let (anchor, proof) = (id(rest)?, id(rest)?);
+    let [executable] = taken(rest)?;
+    let previous = u32::from_be_bytes(taken(rest)?);
+    let count = u32::from_be_bytes(taken(rest)?);
+    let points = (0..count).map(|_| id(rest)).collect::<Option<_>>()?;
+    Some(Anchor { anchor, proof, executable: executable != 0, previous, points })
+}
+
+fn id(rest: &mut &[u8]) -> Option<PointId> {
+    let round = u32::from_be_bytes(taken(rest)?);
+    let [author] = taken(rest)?;
+    Some(PointId { round, author: author.into(), digest: taken(rest)? })
+}
+
+/// The next bytes.
+fn taken<const N: usize>(rest: &mut &[u8]) -> Option<[u8; N]> {
+    let (first, after) = rest.split_first_chunk()?;
+    *rest = after;
+    Some(*first)
+}
