@@ -87,30 +87,19 @@ struct Pair<'a, S> {
     rust: Rust,
     /// the calls that both took
     taken: Vec<&'a Call>,
-    /// ours after the last call; of large tables at times without the words
+    /// ours after the last call
     view: View,
-    /// none where the view may lack words
-    fingerprint: Option<u64>,
+    fingerprint: u64,
 }
-
-/// With more points than this, only every so many of the names and resolutions that are taken are followed by a look at all that is held.
-const MANY: usize = 1_024;
-const LOOK: usize = 32;
 
 impl<'a, S: Side> Pair<'a, S> {
     fn new(list: &List) -> Self {
         let ours = S::new(list.places);
-        let (view, fingerprint) = (ours.view(), Some(ours.fingerprint()));
+        let (view, fingerprint) = (ours.view(), ours.fingerprint());
         Pair { places: list.places, ours, rust: Rust::default(), taken: Vec::new(), view, fingerprint }
     }
 
     fn step(&mut self, call: &'a Call, counts: &mut Counts) -> Result<Next, Found> {
-        if self.passes(call) {
-            return self.pass(call, counts);
-        }
-        if self.fingerprint.is_none() {
-            (self.view, self.fingerprint) = (self.ours.view(), Some(self.ours.fingerprint()));
-        }
         let answer = self.ours.call(call);
         self.by_rule(call, &answer)?;
         let fingerprint = self.ours.fingerprint();
@@ -127,40 +116,9 @@ impl<'a, S: Side> Pair<'a, S> {
             counts.call(call, None);
             self.strictly(call, counts)?;
         }
-        self.fingerprint = Some(fingerprint);
+        self.fingerprint = fingerprint;
         let before = std::mem::replace(&mut self.view, view);
         self.both(call, &answer, &before, counts)
-    }
-
-    /// Whether only the answers to a call are compared.
-    fn passes(&self, call: &Call) -> bool {
-        self.view.points.len() > MANY
-            && !self.taken.len().is_multiple_of(LOOK)
-            && matches!(call, Call::Name(_) | Call::Resolve(..))
-            && due(call, &self.view, self.places) == Due::None
-    }
-
-    fn pass(&mut self, call: &'a Call, counts: &mut Counts) -> Result<Next, Found> {
-        let (answer, told) = (self.ours.call(call), self.rust.call(call));
-        if answer != Answer::Done || told != Told::Answer(Answer::Done) {
-            let text = format!("{}: {}; the Rust: {}", name(call), answer_text(&answer), told_text(&told));
-            return Err((Kind::Answer, text));
-        }
-        counts.call(call, None);
-        self.taken.push(call);
-        self.fingerprint = None;
-        match call {
-            Call::Name(id) => {
-                self.view.points.push(Point { id: *id, status: 0, word: 0 });
-                self.view.sort();
-            }
-            Call::Resolve(id, info) => {
-                let point = self.view.points.iter_mut().find(|point| point.id == *id);
-                point.expect("taken").status = info.status;
-            }
-            _ => unreachable!("no other call passes"),
-        }
-        Ok(Next::On)
     }
 
     /// 1 to 12 are given where document 01 asks for them and nowhere else.
@@ -204,7 +162,7 @@ impl<'a, S: Side> Pair<'a, S> {
 
     /// A refused call leaves every word as it was.
     fn unchanged(&self, call: &Call, why: &Refused, fingerprint: u64, view: &View) -> Result<(), Found> {
-        if self.fingerprint == Some(fingerprint) && *view == self.view {
+        if self.fingerprint == fingerprint && *view == self.view {
             return Ok(());
         }
         Err((Kind::Changed, format!("{} was refused with {} and changed something", name(call), why.number)))

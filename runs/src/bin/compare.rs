@@ -17,8 +17,8 @@ use runs::shrink::shrink;
 const SEED: u64 = 1;
 const GROWN: u64 = 2_000;
 const DAMAGED: u64 = 1_200;
-const CHAINED: u64 = 2_000;
-const CHAINED_DAMAGED: u64 = 2_000;
+const CHAINED: u64 = 1_500;
+const CHAINED_DAMAGED: u64 = 1_500;
 /// Every so many random lists run under both hash seeds.
 const TWICE: u64 = 4;
 /// Of each number that the calls at hand are refused with, the Rust is given at least so many.
