@@ -2,13 +2,16 @@
 
 use std::collections::BTreeSet;
 
-use committer::{Call, record};
+use committer::{Call, PointId, record};
 
-use crate::counts::kind;
-use crate::lists::{Growth, Taste};
+use crate::compare::{List, compare};
+use crate::counts::{Counts, kind};
+use crate::known::Known;
+use crate::library::Library;
+use crate::lists::{Growth, Taste, chained};
 use crate::random::Random;
 use crate::rust::Rust;
-use crate::view::{Answer, Told, View};
+use crate::view::{Anchor, Answer, Told, View};
 
 /// `replay` lends tables of so many places.
 const PLACES: usize = 20;
@@ -23,12 +26,13 @@ pub struct Sample {
     pub text: String,
 }
 
-/// Random lists, with a reset between any two, the last with points left.
+/// Lists of random growth and chains in turn, with a reset between any two, the last with points left.
 pub fn sample() -> Sample {
     let last = (1000..1200).map(list).max_by_key(|calls| words_left(calls)).expect("there are lists");
     let mut calls = Vec::new();
+    let mut chains = (0..1000).filter_map(chain);
     for n in 0.. {
-        let next = list(n);
+        let next = if n % 2 == 0 { list(n) } else { chains.next().expect("there are chains") };
         if encoded(&calls).len() + encoded(&next).len() + encoded(&last).len() > BYTES_MAX {
             break;
         }
@@ -64,6 +68,16 @@ fn list(n: u64) -> Vec<Call> {
     calls
 }
 
+/// A list that commits, small enough for the tables, that the Rust takes whole and answers as document 01.
+fn chain(n: u64) -> Option<Vec<Call>> {
+    let list = List { places: PLACES, ..chained(Random::of(2026, 5, n)) };
+    let mut counts = Counts::default();
+    compare::<Library>(&list, &mut counts).unwrap_or_else(|why| panic!("{why}"));
+    // commits are also made with smaller buffers there, which the Rust doesn't have
+    let alike = counts.known.keys().all(|known| *known == Known::Entry(14));
+    (alike && counts.refusals.is_empty() && counts.anchors > 0).then_some(list.calls)
+}
+
 /// How many different certificate words a list leaves, if it leaves enough points.
 fn words_left(calls: &[Call]) -> usize {
     let mut rust = Rust::strict();
@@ -86,16 +100,37 @@ fn played(calls: &[Call]) -> String {
     text + &held(&rust.view())
 }
 
-/// The line of one call.
+/// The lines of one call.
 pub fn line(call: &Call, answer: &Answer) -> String {
     let what = match (call, answer) {
         (Call::Gap, Answer::Said(yes)) => format!("gap {}", yes_or_no(*yes)),
         (Call::Drop(_), Answer::Said(yes)) => format!("drop {}", yes_or_no(*yes)),
         (_, Answer::Done) => "ok".into(),
-        (_, Answer::Refused(why)) => format!("refused {}", why.number),
+        (Call::Commit(_), Answer::Anchors(anchors)) => anchor_lines(anchors) + "ok",
+        (_, Answer::Refused(why)) if why.number == 13 => anchor_lines(&why.finished) + &format!("refused 13 {}", why.round),
+        (_, Answer::Refused(why)) => anchor_lines(&why.finished) + &format!("refused {}", why.number),
         _ => panic!("no line for the answer of a {}", kind(call)),
     };
     what + "\n"
+}
+
+/// A line for each anchor. The points of a round are a set in the Rust; a record has them by digest.
+fn anchor_lines(anchors: &[Anchor]) -> String {
+    let line = |a: &Anchor| {
+        let mut points = a.points.clone();
+        points.sort_unstable_by_key(|id| (id.round, id.digest));
+        let points: String = points.iter().map(|id| format!(" {}", id_text(id, "."))).collect();
+        let (anchor, proof) = (id_text(&a.anchor, " "), id_text(&a.proof, " "));
+        let (exec, prev, count) = (u32::from(a.executable), a.previous, a.points.len());
+        format!("anchor {anchor} proof {proof} exec {exec} prev {prev} points {count}:{points}\n")
+    };
+    anchors.iter().map(line).collect()
+}
+
+/// Round, author and digest with a mark between them.
+fn id_text(id: &PointId, mark: &str) -> String {
+    let digest: String = id.digest.iter().map(|byte| format!("{byte:02x}")).collect();
+    format!("{}{mark}{}{mark}{digest}", id.round, id.author)
 }
 
 fn yes_or_no(yes: bool) -> &'static str {
@@ -114,8 +149,7 @@ pub fn held(view: &View) -> String {
         state.bottom, state.top, state.full_history_bottom, state.first_executable,
     );
     for point in &view.points {
-        let digest: String = point.id.digest.iter().map(|byte| format!("{byte:02x}")).collect();
-        text += &format!("p {}.{}.{digest} {:04x}\n", point.id.round, point.id.author, point.word);
+        text += &format!("p {} {:04x}\n", id_text(&point.id, "."), point.word);
     }
     text
 }

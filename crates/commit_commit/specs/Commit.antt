@@ -31,9 +31,9 @@ use Rattle.commit_anchor.specs.All.{Left, stopOf, leftOf, finishedOf, allOf, al
 use Rattle.commit_answer.specs.declared.answer.Refusal.{Refusal}
 use Rattle.commit_answer.specs.declared.answer.Refusal.the-variants.{Number, Conflict}
 use Rattle.commit_answer.specs.declared.answer.Answer.{Answer}
-use Rattle.commit_answer.specs.declared.answer.Answer.the-variants.{Done, Said, Handed, Refused}
+use Rattle.commit_answer.specs.declared.answer.Answer.the-variants.{Handed, Refused}
 use Rattle.commit_answer.specs.declared.answer.Outcome.{Outcome}
-use Rattle.commit_answer.specs.Answer.{refusalOf, answerOf, Board, board, board-same, leavesIn, byTables, call-by}
+use Rattle.commit_answer.specs.Answer.{refusalOf, answerOf, anchorsIn, Board, board, board-same, leavesIn, byTables, call-by}
 
 -- ---- mirrors
 
@@ -72,16 +72,9 @@ committed s ks ls cs os i b = afterWalk ks ls os s cs b (walked (view s ks ls cs
 
 -- ---- answers
 
--- the number of finished anchors in an answer
-unfoldable pub anchorsIn : Answer → ℕ
-anchorsIn Done = 0
-anchorsIn (Said b) = 0
-anchorsIn (Handed n) = n
-anchorsIn (Refused r n) = n
-
 -- a call that finished no anchor leaves the board and the buffer as they were
 abbrev pub KeptIn : Answer → Board → List ℕ → Board → List ℕ → Type 0
-KeptIn a d b d′ b′ = anchorsIn a ≡ 0 → (d′ ≡ d) × (b′ ≡ b)
+KeptIn a d b d′ b′ = anchorsIn (answerOf a) ≡ 0 → (d′ ≡ d) × (b′ ≡ b)
 
 -- the code's refusal is 01's again
 why-is : (r : chain.Refusal) → refusalOf (whyFrom r) ≡ r
@@ -90,8 +83,8 @@ why-is (number n) = refl
 why-is (conflict r) = refl
 
 -- the number of anchors, whatever stopped them
-anchors-is : (o : Option chain.Refusal) (n : ℕ) → anchorsIn (answerFrom o n) ≡ n
-unfolding anchorsIn answerFrom
+anchors-is : (o : Option chain.Refusal) (n : ℕ) → anchorsIn (answerOf (answerFrom o n)) ≡ n
+unfolding anchorsIn answerOf answerFrom
 anchors-is none n = refl
 anchors-is (some r) n = refl
 
@@ -208,7 +201,7 @@ module _ (s : State) (ks ls cs os : List ℕ) (i : Id) (b : List ℕ) where
         (
           ap (λ (y : Left). y .buffer) is,
           λ z.
-              let (a, c, d) = k (sym (anchors-is (x .stopped) (x .finished)) ∙ (ap (λ (y : Outcome). anchorsIn (y .answer)) (sym f) ∙ z)) in
+              let (a, c, d) = k (sym (anchors-is (x .stopped) (x .finished)) ∙ (ap (λ (y : Outcome). anchorsIn (answerOf (y .answer))) (sym f) ∙ z)) in
               (board-same (ap (λ (y : Outcome). y .state) f ∙ a) refl refl c refl, d),
         ),
       ),

@@ -1,13 +1,14 @@
 -- What a record that is played answers and leaves.
 use Prim.Native.Nat.{ℕ}
-use mathlib.Core.Path.{_≡_, refl, sym, ap}
-use mathlib.Core.List.{List, []}
+use mathlib.Core.Path.{_≡_, refl, sym, ap, _∙_}
+use mathlib.Core.List.{List}
 use mathlib.Core.Bool.{Bool, true, false, cond}
-use Rattle.laws.specs.Test.{clash}
+use Rattle.laws.specs.Test.{clash, cond-yes, cond-no}
+use Rattle.spec.specs.Chain as chain
 use Rattle.spec.specs.Calls as calls
-use Rattle.spec.specs.Calls.{numberOf}
+use Rattle.models.specs.declared.parts.Round.{Round}
 use Rattle.dag_state.specs.declared.state.State.{State}
-use Rattle.commit_answer.specs.Answer.{Board, board, seen, leaves, answerOf, refusalOf}
+use Rattle.commit_answer.specs.Answer.{Board, board, seen, leaves, leavesIn, answerOf, refusalOf, anchorsIn}
 use Rattle.commit_answer.specs.declared.answer.Refusal.{Refusal}
 use Rattle.commit_answer.specs.declared.answer.Refusal.the-variants as why
 use Rattle.commit_answer.specs.declared.answer.Answer.{Answer}
@@ -21,16 +22,25 @@ use Rattle.play.specs.declared.line.Line.{Line}
 use Rattle.play.specs.declared.line.Line.the-variants as line
 use Rattle.play.specs.declared.line.Step.{Step}
 
+-- the line of a refusal of 01
+unfoldable pub refusedWith : chain.Refusal → Line
+refusedWith (chain.number n) = line.Refused n
+refusedWith (chain.conflict r) = line.Conflict r
+
 -- the line of an answer of 01; y and n are the lines of a call that says yes or no
 unfoldable pub lineSaid : Line → Line → calls.Answer → Line
 lineSaid y n calls.done = line.Ok
 lineSaid y n (calls.said b) = cond b y n
 lineSaid y n (calls.handed m) = line.Ok
-lineSaid y n (calls.refused r m) = line.Refused (numberOf r)
+lineSaid y n (calls.refused r m) = refusedWith r
 
 -- the kinds whose calls are made
 abbrev pub isMade : Kind → Bool
-isMade k = elim k [ kind.Start ↦ true | kind.Round ↦ true | kind.Name ↦ true | kind.Resolve ↦ true | kind.Certify ↦ true | kind.Commit ↦ false | kind.Remove ↦ false | kind.Drop ↦ true | kind.Gap ↦ true | kind.Reset ↦ true | kind.Outlook ↦ false | kind.Broken ↦ false ]
+isMade k = elim k [ kind.Start ↦ true | kind.Round ↦ true | kind.Name ↦ true | kind.Resolve ↦ true | kind.Certify ↦ true | kind.Commit ↦ true | kind.Remove ↦ false | kind.Drop ↦ true | kind.Gap ↦ true | kind.Reset ↦ true | kind.Outlook ↦ false | kind.Broken ↦ false ]
+
+-- those of them that take a buffer
+abbrev pub isLent : Kind → Bool
+isLent k = elim k [ kind.Start ↦ false | kind.Round ↦ false | kind.Name ↦ false | kind.Resolve ↦ false | kind.Certify ↦ false | kind.Commit ↦ true | kind.Remove ↦ false | kind.Drop ↦ false | kind.Gap ↦ false | kind.Reset ↦ false | kind.Outlook ↦ false | kind.Broken ↦ false ]
 
 -- the lines of yes and no
 abbrev pub yesOf : Kind → Line
@@ -43,26 +53,49 @@ noOf k = elim k [ kind.Start ↦ line.Ok | kind.Round ↦ line.Ok | kind.Name �
 abbrev pub idle : Kind → Line
 idle k = elim k [ kind.Start ↦ line.Unsupported | kind.Round ↦ line.Unsupported | kind.Name ↦ line.Unsupported | kind.Resolve ↦ line.Unsupported | kind.Certify ↦ line.Unsupported | kind.Commit ↦ line.Unsupported | kind.Remove ↦ line.Unsupported | kind.Drop ↦ line.Unsupported | kind.Gap ↦ line.Unsupported | kind.Reset ↦ line.Unsupported | kind.Outlook ↦ line.Unsupported | kind.Broken ↦ line.Broken ]
 
--- 01's outcome of the call of a kind and its fields
-abbrev pub outcomeOf : Kind → Board → List ℕ → calls.Outcome
-outcomeOf k b f = calls.call (seen b) (callBy k f [])
+-- 01's outcome of the call of a kind and its fields, with the buffer w
+abbrev pub outcomeOf : Kind → Board → List ℕ → List ℕ → calls.Outcome
+outcomeOf k b w f = calls.call (seen b) (callBy k f w)
 
--- a call that is made leaves the store of 01's outcome, and the line is that of its answer; else the board stays
-unfoldable pub Plays : Kind → Board → List ℕ → Line → Board → Type 0
-Plays k b f x c =
-    (isMade k ≡ true → (seen c ≡ outcomeOf k b f .store) × (x ≡ lineSaid (yesOf k) (noOf k) (outcomeOf k b f .answer)))
-    × (isMade k ≡ false → (c ≡ b) × (x ≡ idle k))
+-- a call that is made leaves the store of 01's outcome, and its buffer if it takes one; line and anchors are those of its answer. Else
+-- board and buffer stay
+unfoldable pub Plays : Kind → Board → List ℕ → List ℕ → Step → Board → List ℕ → Type 0
+Plays k b w f t c v =
+    let o = outcomeOf k b w f in
+    (isMade k ≡ true → (seen c ≡ o .store) × (t .line ≡ lineSaid (yesOf k) (noOf k) (o .answer)) × (t .anchors ≡ anchorsIn (o .answer)) × (v ≡ cond (isLent k) (o .buffer) w))
+    × (isMade k ≡ false → (c ≡ b) × (t .line ≡ idle k) × (t .anchors ≡ 0) × (v ≡ w))
+
+-- a call that takes no buffer, whatever buffer there is
+abbrev pub PlaysPlain : Kind → Board → List ℕ → Step → Board → Type 0
+PlaysPlain k b f t c = (w : List ℕ) → Plays k b w f t c w
 
 -- ---- laws
 
 -- by cases on the answer
-pub refused-number : (w : Refusal) (n : ℕ) → w ≡ why.Number n → line.Refused n ≡ line.Refused (numberOf (refusalOf w))
-unfolding numberOf refusalOf
+pub refused-number : (w : Refusal) (n : ℕ) → w ≡ why.Number n → line.Refused n ≡ refusedWith (refusalOf w)
+unfolding refusedWith refusalOf
 refused-number w n e = rw e refl
 
-pub refused-conflict : (w : Refusal) (r : _) → w ≡ why.Conflict r → line.Refused 13 ≡ line.Refused (numberOf (refusalOf w))
-unfolding numberOf refusalOf
+pub refused-conflict : (w : Refusal) (r : Round) → w ≡ why.Conflict r → line.Conflict (r .0) ≡ refusedWith (refusalOf w)
+unfolding refusedWith refusalOf
 refused-conflict w r e = rw e refl
+
+module _ (a : Answer) where
+  pub anchors-done : a ≡ answer.Done → 0 ≡ anchorsIn (answerOf a)
+  unfolding anchorsIn answerOf
+  anchors-done e = rw e refl
+
+  pub anchors-said : (b : Bool) → a ≡ answer.Said b → 0 ≡ anchorsIn (answerOf a)
+  unfolding anchorsIn answerOf
+  anchors-said b e = rw e refl
+
+  pub anchors-handed : (n : ℕ) → a ≡ answer.Handed n → n ≡ anchorsIn (answerOf a)
+  unfolding anchorsIn answerOf
+  anchors-handed n e = rw e refl
+
+  pub anchors-refused : (w : Refusal) (n : ℕ) → a ≡ answer.Refused w n → n ≡ anchorsIn (answerOf a)
+  unfolding anchorsIn answerOf
+  anchors-refused w n e = rw e refl
 
 module _ (a : Answer) (y n : Line) where
   pub line-done : a ≡ answer.Done → line.Ok ≡ lineSaid y n (answerOf a)
@@ -83,37 +116,50 @@ module _ (a : Answer) (y n : Line) where
   unfolding lineSaid answerOf
   line-handed m e = rw e refl
 
-  pub line-refused : (w : Refusal) (m : ℕ) (x : Line) → a ≡ answer.Refused w m → x ≡ line.Refused (numberOf (refusalOf w)) → x ≡ lineSaid y n (answerOf a)
+  pub line-refused : (w : Refusal) (m : ℕ) (x : Line) → a ≡ answer.Refused w m → x ≡ refusedWith (refusalOf w) → x ≡ lineSaid y n (answerOf a)
   unfolding lineSaid answerOf
   line-refused w m x e h = rw (e, h) refl
 
--- from its line
-pub step-is : (l m : Line) (s : State) → l ≡ m → _≡_ {A = Step} (record { line = l; state = s }) (record { line = m; state = s })
-step-is l m s e = rw e refl
+-- from its parts
+pub step-is : (l m : Line) (n k : ℕ) (s : State) → l ≡ m → n ≡ k → _≡_ {A = Step} (record { line = l; anchors = n; state = s }) (record { line = m; anchors = k; state = s })
+step-is l m n k s e h = rw (e, h) refl
+
+-- the step of an answer
+abbrev pub stepOf : Kind → Answer → State → Step
+stepOf j a s = record { line = lineSaid (yesOf j) (noOf j) (answerOf a); anchors = anchorsIn (answerOf a); state = s }
 
 -- a call that is made
-pub plays-made : (j : Kind) (b c : Board) (f : List ℕ) (a : Answer) (t : Step) → isMade j ≡ true → leaves a c ≡ outcomeOf j b f
-    → t ≡ record { line = lineSaid (yesOf j) (noOf j) (answerOf a); state = c .state }
-    → Plays j b f (t .line) (board (t .state) (c .keys) (c .links) (c .certs) (c .order))
-unfolding Plays leaves
-plays-made j b c f a t m h g =
-    rw g
-    (λ _. (ap (λ (o : calls.Outcome). o .store) h, ap (λ (o : calls.Outcome). lineSaid (yesOf j) (noOf j) (o .answer)) h), λ n. absurd (clash m n))
+module _ (j : Kind) (b c : Board) (f : List ℕ) (a : Answer) (t : Step) (m : isMade j ≡ true) (g : t ≡ stepOf j a (c .state)) where
+  abbrev left : Board
+  left = board (t .state) (c .keys) (c .links) (c .certs) (c .order)
+
+  said-is : (w v : List ℕ) → answerOf a ≡ outcomeOf j b w f .answer → seen c ≡ outcomeOf j b w f .store → v ≡ cond (isLent j) (outcomeOf j b w f .buffer) w → Plays j b w f t left v
+  unfolding Plays
+  said-is w v h s u =
+      rw g
+      (λ _. (s, ap (lineSaid (yesOf j) (noOf j)) h, ap anchorsIn h, u), λ n. absurd (clash m n))
+
+  -- without a buffer
+  pub plays-plain : (w : List ℕ) → isLent j ≡ false → leaves a c ≡ outcomeOf j b w f → Plays j b w f t left w
+  unfolding leaves
+  plays-plain w l h = said-is w w (ap (λ (o : calls.Outcome). o .answer) h) (ap (λ (o : calls.Outcome). o .store) h) (sym (cond-no _ _ _ l refl))
+
+  -- with one
+  pub plays-lent : (w v : List ℕ) → isLent j ≡ true → leavesIn a c v ≡ outcomeOf j b w f → Plays j b w f t left v
+  unfolding leavesIn
+  plays-lent w v l h = said-is w v (ap (λ (o : calls.Outcome). o .answer) h) (ap (λ (o : calls.Outcome). o .store) h) (ap (λ (o : calls.Outcome). o .buffer) h ∙ sym (cond-yes _ _ _ l refl))
 
 -- a record of that kind, its fields also others that make the same call
-pub plays-at : (k j : Kind) (b c : Board) (f g : List ℕ) (x : Line) → k ≡ j → callBy j g [] ≡ callBy j f [] → Plays j b g x c → Plays k b f x c
+pub plays-at : (k j : Kind) (b c : Board) (w v f g : List ℕ) (t : Step) → k ≡ j → callBy j g w ≡ callBy j f w → Plays j b w g t c v → Plays k b w f t c v
 unfolding Plays
-plays-at k j b c f g x e h p = rw (e, sym h) p
+plays-at k j b c w v f g t e h p = rw (e, sym h) p
 
 -- one that isn't
-pub plays-idle : (k j : Kind) (b : Board) (f : List ℕ) → k ≡ j → isMade j ≡ false → Plays k b f (idle j) b
+pub plays-unmade : (k j : Kind) (b : Board) (w f : List ℕ) (t : Step) → k ≡ j → isMade j ≡ false → t ≡ record { line = idle j; anchors = 0; state = b .state }
+    → Plays k b w f t (board (t .state) (b .keys) (b .links) (b .certs) (b .order)) w
 unfolding Plays
-plays-idle k j b f e m = rw e (λ n. absurd (clash n m), λ _. (refl, refl))
-
-pub plays-unmade : (k j : Kind) (b : Board) (f : List ℕ) (t : Step) → k ≡ j → isMade j ≡ false → t ≡ record { line = idle j; state = b .state }
-    → Plays k b f (t .line) (board (t .state) (b .keys) (b .links) (b .certs) (b .order))
-plays-unmade k j b f t e m g = rw g (plays-idle k j b f e m)
+plays-unmade k j b w f t e m g = rw (g, e) (λ n. absurd (clash n m), λ _. (refl, refl, refl, refl))
 
 -- the record that was found
-pub plays-head : (bs : List ℕ) (r h : Record) (b c : Board) (x : Line) → r ≡ h → Plays (r .kind) b (part bs (r .from) (r .end)) x c → Plays (h .kind) b (part bs (h .from) (h .end)) x c
-plays-head bs r h b c x e p = rw (sym e) p
+pub plays-head : (bs : List ℕ) (r h : Record) (b c : Board) (w v : List ℕ) (t : Step) → r ≡ h → Plays (r .kind) b w (part bs (r .from) (r .end)) t c v → Plays (h .kind) b w (part bs (h .from) (h .end)) t c v
+plays-head bs r h b c w v t e p = rw (sym e) p

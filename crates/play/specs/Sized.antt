@@ -8,7 +8,7 @@ use lib.ListN.{length}
 use Rattle.laws.specs.Test.{byTest, cond-yes, cond-no}
 use Rattle.trace.specs.Head.{known, fits, sizeOf, linksIn, part, headOk, headAt, restAt, whole-short, head-cut, head-known, fits-length, links-few}
 use Rattle.trace.specs.declared.head.Kind.{Kind}
-use Rattle.trace.specs.declared.head.Kind.the-variants.{Start, Round, Name, Resolve, Certify, Drop, Broken}
+use Rattle.trace.specs.declared.head.Kind.the-variants.{Start, Round, Name, Resolve, Certify, Commit, Drop, Broken}
 use Rattle.trace.specs.declared.head.Record.{Record}
 
 -- fields of a kind that is known have its length, at most 4,094
@@ -41,6 +41,10 @@ module _ (k : Kind) (f : List ℕ) (s : Sized k f) where
   pub certify-long : k ≡ Certify → 37 ≤ length f
   unfolding sizeOf
   certify-long e = long k Certify f s e refl
+
+  pub commit-long : k ≡ Commit → 37 ≤ length f
+  unfolding sizeOf
+  commit-long e = long k Commit f s e refl
 
   pub drop-long : k ≡ Drop → 4 ≤ length f
   unfolding sizeOf

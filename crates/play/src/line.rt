@@ -1,18 +1,17 @@
 // Origin: none. What one recorded call answered.
 ghost use mathlib.Core.Path.{_≡_};
-ghost use Rattle.spec.specs.Calls.{numberOf};
-ghost use Rattle.commit_answer.specs.Answer.{answerOf, refusalOf};
-ghost use Rattle.play.specs.Plays.{lineSaid};
-ghost use Rattle.play.specs.declared.line.Line.the-variants as lines;
+ghost use Rattle.commit_answer.specs.Answer.{answerOf, refusalOf, anchorsIn};
+ghost use Rattle.play.specs.Plays.{lineSaid, refusedWith};
 use commit_answer::answer::Answer;
 use commit_answer::answer::Outcome;
 use commit_answer::answer::Refusal;
 use dag_state::state::State;
 
-// What one recorded call answered. Refused holds document 01's number; Broken: no record could be read.
+// What one recorded call answered. Refused holds document 01's number; Conflict, its number 13, the round; Broken: no record could be read.
 pub enum Line {
     Ok,
     Refused(u32),
+    Conflict(u32),
     GapYes,
     GapNo,
     DropYes,
@@ -21,19 +20,19 @@ pub enum Line {
     Broken,
 }
 
-// What one call answered, and the state after it.
+// What one call answered, the anchors that it handed out or finished, and the state after it.
 pub struct Step {
     pub line: Line,
+    pub anchors: u32,
     pub state: State,
 }
 
-// The number of a refusal; 13 is the history conflict.
 fn refused_line(why: Refusal) -> Line
-    ensures { λ r. ⌜ r ≡ lines.Refused (numberOf (refusalOf why)) ⌝ }
+    ensures { λ r. ⌜ r ≡ refusedWith (refusalOf why) ⌝ }
 {
     match why {
         Refusal::Number(n) => Line::Refused(n),
-        Refusal::Conflict(_round) => Line::Refused(13),
+        Refusal::Conflict(round) => Line::Conflict(round.0),
     }
 }
 
@@ -49,19 +48,40 @@ fn line_of(answer: Answer, yes: Line, no: Line) -> Line
     }
 }
 
+// The anchors of an answer.
+fn anchors_of(answer: Answer) -> u32
+    ensures { λ r. ⌜ r ≡ anchorsIn (answerOf answer) ⌝ }
+{
+    match answer {
+        Answer::Done => 0,
+        Answer::Said(_said) => 0,
+        Answer::Handed(n) => n,
+        Answer::Refused(_why, finished) => finished,
+    }
+}
+
 // What a call left, with its answer as a line.
 pub fn step_of(o: Outcome, yes: Line, no: Line) -> Step
-    ensures { λ r. ⌜ r ≡ record { line = lineSaid yes no (answerOf (o .answer)); state = o .state } ⌝ }
+    ensures { λ r. ⌜ r ≡ record { line = lineSaid yes no (answerOf (o .answer)); anchors = anchorsIn (answerOf (o .answer)); state = o .state } ⌝ }
 {
     let answer = o.answer;
     let state = o.state;
     let line = line_of(answer, yes, no);
-    Step { line, state }
+    let anchors = anchors_of(answer);
+    Step {
+        line,
+        anchors,
+        state,
+    }
 }
 
 // The line of a call that isn't made; the state stays.
 pub fn unmade(line: Line, state: State) -> Step
-    ensures { λ r. ⌜ r ≡ record { line = line; state = state } ⌝ }
+    ensures { λ r. ⌜ r ≡ record { line = line; anchors = 0; state = state } ⌝ }
 {
-    Step { line, state }
+    Step {
+        line,
+        anchors: 0,
+        state,
+    }
 }

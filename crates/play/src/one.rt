@@ -11,6 +11,7 @@ use crate::line::Line;
 use crate::line::Step;
 use crate::line::unmade;
 use crate::points::play_certify;
+use crate::points::play_commit;
 use crate::points::play_name;
 use crate::points::play_resolve;
 use crate::rounds::play_drop;
@@ -22,14 +23,13 @@ use dag_state::state::State;
 use trace::head::Kind;
 use trace::head::record_at;
 
-// What a record answered, the state after it, and where the next record begins: for Broken, at the offset itself.
+// What a record answered and left, and where the next record begins: for Broken, at the offset itself.
 pub struct Played {
-    pub line: Line,
-    pub state: State,
+    pub step: Step,
     pub end: usize,
 }
 
-// Makes the call of a kind and its fields. A commit, a remove and an outlook are not made.
+// Makes the call of a kind and its fields; b: the buffer that is lent to a call that takes one. A remove and an outlook are not made.
 fn play_fields(
     kind: Kind,
     s: State,
@@ -37,10 +37,11 @@ fn play_fields(
     links: &mut [u64],
     certs: &mut [u64],
     order: &mut [u64],
+    b: &mut [u8],
     f: &[u8],
 ) -> Step
     requires { ⌜ Sized kind (now f) ⌝ }
-    ensures { λ r. ⌜ Plays kind (board s (now (keys .entry)) (now (links .entry)) (now (certs .entry)) (now (order .entry))) (now (f .entry)) (r .line) (board (r .state) (now (keys .exit)) (now (links .exit)) (now (certs .exit)) (now (order .exit))) ⌝ }
+    ensures { λ r. ⌜ Plays kind (board s (now (keys .entry)) (now (links .entry)) (now (certs .entry)) (now (order .entry))) (now (b .entry)) (now (f .entry)) r (board (r .state) (now (keys .exit)) (now (links .exit)) (now (certs .exit)) (now (order .exit))) (now (b .exit)) ⌝ }
 {
     match kind {
         Kind::Start => play_start(s, keys, links, certs, order, f),
@@ -48,7 +49,7 @@ fn play_fields(
         Kind::Name => play_name(s, keys, links, certs, order, f),
         Kind::Resolve => play_resolve(s, keys, links, certs, order, f),
         Kind::Certify => play_certify(s, keys, links, certs, order, f),
-        Kind::Commit => unmade(Line::Unsupported, s),
+        Kind::Commit => play_commit(s, keys, links, certs, order, b, f),
         Kind::Remove => unmade(Line::Unsupported, s),
         Kind::Drop => play_drop(s, keys, links, certs, order, f),
         Kind::Gap => play_gap(s, keys, links, certs, order),
@@ -58,24 +59,25 @@ fn play_fields(
     }
 }
 
-// Plays the record at the offset: its call is made on the state and the tables. An offset beyond the bytes has none, it is Broken.
+// Plays the record at the offset: its call is made on the state, the tables and the buffer b. An offset beyond the bytes has none, it is
+// Broken.
 pub fn play_one(
     s: State,
     keys: &mut [u64],
     links: &mut [u64],
     certs: &mut [u64],
     order: &mut [u64],
+    b: &mut [u8],
     bytes: &[u8],
     at: usize,
 ) -> Played
     ensures end { λ r. ⌜ (r .end ≡ headAt (now (bytes .entry)) at .end) × (at ≤ r .end) × (at ≤ length (now (bytes .entry)) → r .end ≤ length (now (bytes .entry))) ⌝ }
-    ensures plays { λ r. ⌜ Plays (headAt (now (bytes .entry)) at .kind) (board s (now (keys .entry)) (now (links .entry)) (now (certs .entry)) (now (order .entry))) (part (now (bytes .entry)) (headAt (now (bytes .entry)) at .from) (headAt (now (bytes .entry)) at .end)) (r .line) (board (r .state) (now (keys .exit)) (now (links .exit)) (now (certs .exit)) (now (order .exit))) ⌝ }
+    ensures plays { λ r. ⌜ Plays (headAt (now (bytes .entry)) at .kind) (board s (now (keys .entry)) (now (links .entry)) (now (certs .entry)) (now (order .entry))) (now (b .entry)) (part (now (bytes .entry)) (headAt (now (bytes .entry)) at .from) (headAt (now (bytes .entry)) at .end)) (r .step) (board (r .step .state) (now (keys .exit)) (now (links .exit)) (now (certs .exit)) (now (order .exit))) (now (b .exit)) ⌝ }
     ensures moves { λ r. ⌜ (known (headAt (now (bytes .entry)) at .kind) ≡ true → at < r .end) ⌝ }
 {
     if bytes.len() < at {
         return Played {
-            line: Line::Broken,
-            state: s,
+            step: unmade(Line::Broken, s),
             end: at,
         };
     }
@@ -83,8 +85,6 @@ pub fn play_one(
     let kind = found.kind;
     let from = found.from;
     let end = found.end;
-    let step = play_fields(kind, s, keys, links, certs, order, &bytes[from..end]);
-    let line = step.line;
-    let state = step.state;
-    Played { line, state, end }
+    let step = play_fields(kind, s, keys, links, certs, order, b, &bytes[from..end]);
+    Played { step, end }
 }

@@ -4,7 +4,7 @@ ghost use mathlib.Core.List.{[]};
 ghost use lib.ListN.{length};
 ghost use Rattle.commit_answer.specs.Answer.{board};
 ghost use Rattle.trace.specs.declared.head.Kind.the-variants as kinds;
-ghost use Rattle.play.specs.Plays.{Plays};
+ghost use Rattle.play.specs.Plays.{PlaysPlain};
 use crate::line::Line;
 use crate::line::Step;
 use crate::line::step_of;
@@ -29,7 +29,7 @@ pub fn play_start(
     f: &[u8],
 ) -> Step
     requires { ⌜ 22 ≤ length (now f) ⌝ }
-    ensures { λ r. ⌜ Plays kinds.Start (board s (now (keys .entry)) (now (links .entry)) (now (certs .entry)) (now (order .entry))) (now (f .entry)) (r .line) (board (r .state) (now (keys .exit)) (now (links .exit)) (now (certs .exit)) (now (order .exit))) ⌝ }
+    ensures { λ r. ⌜ PlaysPlain kinds.Start (board s (now (keys .entry)) (now (links .entry)) (now (certs .entry)) (now (order .entry))) (now (f .entry)) r (board (r .state) (now (keys .exit)) (now (links .exit)) (now (certs .exit)) (now (order .exit))) ⌝ }
 {
     let with = start_of(f);
     let o = init(s, keys, links, certs, order, with);
@@ -46,7 +46,7 @@ pub fn play_round(
     f: &[u8],
 ) -> Step
     requires { ⌜ 8 ≤ length (now f) ⌝ }
-    ensures { λ r. ⌜ Plays kinds.Round (board s (now (keys .entry)) (now (links .entry)) (now (certs .entry)) (now (order .entry))) (now (f .entry)) (r .line) (board (r .state) (now (keys .entry)) (now (links .entry)) (now (certs .entry)) (now (order .entry))) ⌝ }
+    ensures { λ r. ⌜ PlaysPlain kinds.Round (board s (now (keys .entry)) (now (links .entry)) (now (certs .entry)) (now (order .entry))) (now (f .entry)) r (board (r .state) (now (keys .entry)) (now (links .entry)) (now (certs .entry)) (now (order .entry))) ⌝ }
 {
     let fields = round_of(f);
     let round = fields.round;
@@ -65,7 +65,7 @@ pub fn play_drop(
     f: &[u8],
 ) -> Step
     requires { ⌜ 4 ≤ length (now f) ⌝ }
-    ensures { λ r. ⌜ Plays kinds.Drop (board s (now (keys .entry)) (now (links .entry)) (now (certs .entry)) (now (order .entry))) (now (f .entry)) (r .line) (board (r .state) (now (keys .exit)) (now (links .exit)) (now (certs .exit)) (now (order .exit))) ⌝ }
+    ensures { λ r. ⌜ PlaysPlain kinds.Drop (board s (now (keys .entry)) (now (links .entry)) (now (certs .entry)) (now (order .entry))) (now (f .entry)) r (board (r .state) (now (keys .exit)) (now (links .exit)) (now (certs .exit)) (now (order .exit))) ⌝ }
 {
     let round = number_of(f, 0);
     let o = drop_upto(s, keys, links, certs, order, Round(round));
@@ -74,7 +74,7 @@ pub fn play_drop(
 
 // Puts the gap question; its record has no fields.
 pub fn play_gap(s: State, keys: &[u64], links: &[u64], certs: &[u64], order: &[u64]) -> Step
-    ensures { λ r. ⌜ Plays kinds.Gap (board s (now (keys .entry)) (now (links .entry)) (now (certs .entry)) (now (order .entry))) [] (r .line) (board (r .state) (now (keys .entry)) (now (links .entry)) (now (certs .entry)) (now (order .entry))) ⌝ }
+    ensures { λ r. ⌜ PlaysPlain kinds.Gap (board s (now (keys .entry)) (now (links .entry)) (now (certs .entry)) (now (order .entry))) [] r (board (r .state) (now (keys .entry)) (now (links .entry)) (now (certs .entry)) (now (order .entry))) ⌝ }
 {
     let o = is_once_after_gap(s, keys, links, certs, order);
     step_of(o, Line::GapYes, Line::GapNo)
@@ -88,7 +88,7 @@ pub fn play_reset(
     certs: &mut [u64],
     order: &mut [u64],
 ) -> Step
-    ensures { λ r. ⌜ Plays kinds.Reset (board s (now (keys .entry)) (now (links .entry)) (now (certs .entry)) (now (order .entry))) [] (r .line) (board (r .state) (now (keys .exit)) (now (links .exit)) (now (certs .exit)) (now (order .exit))) ⌝ }
+    ensures { λ r. ⌜ PlaysPlain kinds.Reset (board s (now (keys .entry)) (now (links .entry)) (now (certs .entry)) (now (order .entry))) [] r (board (r .state) (now (keys .exit)) (now (links .exit)) (now (certs .exit)) (now (order .exit))) ⌝ }
 {
     let o = reset(s, keys, links, certs, order);
     step_of(o, Line::Ok, Line::Ok)

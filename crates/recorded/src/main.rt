@@ -1,5 +1,5 @@
-// Plays recorded runs from standard input, each on tables of zeros with 20 places. A run is its length (4 bytes, at most 65,536) and that
-// many bytes of recorded calls.
+// Plays recorded runs from standard input, each on tables of zeros with 20 places and an answer buffer of 4,096 bytes. A run is its
+// length (4 bytes, at most 65,536) and that many bytes of recorded calls.
 ghost use Prim.Native.Nat.{_≤_};
 ghost use lib.ListN.{length};
 use show::lines::write;
@@ -68,12 +68,14 @@ fn play_run(bytes: &[u8]) {
     let mut links = [0u64; 6560];
     let mut certs = [0u64; 20];
     let mut order = [0u64; 20];
+    let mut answer = [0u8; 4096];
     let part = play_part(
         unstarted(),
         &mut keys,
         &mut links,
         &mut certs,
         &mut order,
+        &mut answer,
         bytes,
         0,
         true,

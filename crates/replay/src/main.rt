@@ -76,13 +76,14 @@ fn move_down(input: &mut [u8], from: usize, n: usize)
     }
 }
 
-// Fills the buffer, plays the records in it and keeps the rest. A buffer that isn't full holds the end of the input.
+// Fills the input buffer, plays the records in it and keeps the rest. A buffer that isn't full holds the end of the input.
 fn play_some(
     s: State,
     keys: &mut [u64],
     links: &mut [u64],
     certs: &mut [u64],
     order: &mut [u64],
+    answer: &mut [u8],
     input: &mut [u8],
     base: u64,
     held: usize,
@@ -92,7 +93,17 @@ fn play_some(
 {
     let n = refill(input, held);
     let last = n < input.len();
-    let part = play_part(s, keys, links, certs, order, &input[..n], base, last);
+    let part = play_part(
+        s,
+        keys,
+        links,
+        certs,
+        order,
+        answer,
+        &input[..n],
+        base,
+        last,
+    );
     let state = part.state;
     let at = part.at;
     let broken = part.broken;
@@ -111,6 +122,7 @@ fn play_input(
     links: &mut [u64],
     certs: &mut [u64],
     order: &mut [u64],
+    answer: &mut [u8],
     input: &mut [u8],
 ) -> State {
     let mut now = unstarted();
@@ -118,7 +130,7 @@ fn play_input(
     let mut held: usize = 0;
     let mut turns = u64::MAX;
     while turns > 0 {
-        let turn = play_some(now, keys, links, certs, order, input, base, held);
+        let turn = play_some(now, keys, links, certs, order, answer, input, base, held);
         let state = turn.state;
         now = state;
         base = turn.base;
@@ -131,10 +143,11 @@ fn play_input(
     now
 }
 
-// Plays the input on the tables lent, and writes what is left.
+// Plays the input on the tables lent, with 4,096 bytes for anchor records, and writes what is left.
 fn play_on(keys: &mut [u64], links: &mut [u64], certs: &mut [u64], order: &mut [u64]) {
+    let mut answer = [0u8; 4096];
     let mut input = io::large_buffer();
-    let s = play_input(keys, links, certs, order, &mut input);
+    let s = play_input(keys, links, certs, order, &mut answer, &mut input);
     write_state(s, keys, links, certs, order);
 }
 

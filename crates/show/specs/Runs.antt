@@ -11,16 +11,16 @@ use Rattle.trace.specs.Head.{part, headOk, headAt, restAt}
 use Rattle.trace.specs.declared.head.Kind.the-variants.{Broken}
 use Rattle.trace.specs.declared.head.Record.{Record}
 use Rattle.play.specs.Plays.{Plays, isMade}
-use Rattle.play.specs.declared.line.Line.{Line}
+use Rattle.play.specs.declared.line.Step.{Step}
 
--- the record of bs at p makes d of the board c
-abbrev pub PlaysAt : List ℕ → ℕ → Board → Line → Board → Type 0
-PlaysAt bs p c x d = Plays (headAt bs p .kind) c (part bs (headAt bs p .from) (headAt bs p .end)) x d
+-- the record of bs at p makes d of the board c, and v of the buffer u
+abbrev pub PlaysAt : List ℕ → ℕ → Board → List ℕ → Step → Board → List ℕ → Type 0
+PlaysAt bs p c u t d v = Plays (headAt bs p .kind) c u (part bs (headAt bs p .from) (headAt bs p .end)) t d v
 
--- the records of bs before p, one after another, make c of the board b
-pub data Runs (bs : List ℕ) (b : Board) : ℕ → Board → Type 0 where
-  none-yet : Runs bs b 0 b
-  one-more : {p : ℕ} {c : Board} (x : Line) (d : Board) → Runs bs b p c → p < headAt bs p .end → PlaysAt bs p c x d → Runs bs b (headAt bs p .end) d
+-- the records of bs before p, one after another, make c of the board b, and u of the buffer w
+pub data Runs (bs : List ℕ) (b : Board) (w : List ℕ) : ℕ → Board → List ℕ → Type 0 where
+  none-yet : Runs bs b w 0 b w
+  one-more : {p : ℕ} {c : Board} {u : List ℕ} (t : Step) (d : Board) (v : List ℕ) → Runs bs b w p c u → p < headAt bs p .end → PlaysAt bs p c u t d v → Runs bs b w (headAt bs p .end) d v
 
 -- as many bytes must be left for a record to be played
 abbrev pub leastLeft : Bool → ℕ
@@ -40,15 +40,15 @@ stays bs p l =
     (λ t. let g : headAt bs p .end ≡ p + 4 + restAt bs p = ap (λ (x : Record). x .end) (cond-yes _ _ _ t refl) in absurd (omega (arith, g)))
     (λ t. ap (λ (x : Record). x .kind) (cond-no _ _ _ t refl))
 
-module _ (bs : List ℕ) (b c d : Board) (p e : ℕ) (x : Line) (r : Runs bs b p c) (g : e ≡ headAt bs p .end) (q : PlaysAt bs p c x d) where
+module _ (bs : List ℕ) (b c d : Board) (w u v : List ℕ) (p e : ℕ) (t : Step) (r : Runs bs b w p c u) (g : e ≡ headAt bs p .end) (q : PlaysAt bs p c u t d v) where
   -- a record more
-  pub runs-more : p < e → Runs bs b e d
-  runs-more l = rw g (one-more x d r (rw g at l) q)
+  pub runs-more : p < e → Runs bs b w e d v
+  runs-more l = rw g (one-more t d v r (rw g at l) q)
 
   -- a broken one changes nothing
-  pub runs-stays : e ≤ p → Runs bs b p d
+  pub runs-stays : e ≤ p → Runs bs b w p d v
   unfolding Plays
-  runs-stays l = let h : d ≡ c = q .1 (ap isMade (stays bs p (rw g at l))) .0 in rw h r
+  runs-stays l = let (h, x, n, k) = q .1 (ap isMade (stays bs p (rw g at l))) in rw (h, k) r
 
   pub ends-broken : (last : Bool) → e ≤ p → Ends bs last p true
   ends-broken last l = (λ _. stays bs p (rw g at l), λ h. absurd (true≢false h))

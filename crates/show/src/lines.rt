@@ -17,6 +17,14 @@ fn write_numbered(name: &[u8], n: u64) {
     write(b"\n");
 }
 
+// The digest in four words, 64 digits.
+pub fn write_digest(a: u64, b: u64, c: u64, d: u64) {
+    let _all = io::print_hex(1, a, 16);
+    let _all = io::print_hex(1, b, 16);
+    let _all = io::print_hex(1, c, 16);
+    let _all = io::print_hex(1, d, 16);
+}
+
 // The line of the record at an offset.
 pub fn write_line(line: Line, at: u64) {
     match line {
@@ -25,6 +33,9 @@ pub fn write_line(line: Line, at: u64) {
         }
         Line::Refused(n) => {
             write_numbered(b"refused ", n as u64);
+        }
+        Line::Conflict(round) => {
+            write_numbered(b"refused 13 ", round as u64);
         }
         Line::GapYes => {
             write(b"gap yes\n");

@@ -4,6 +4,7 @@ ghost use Prim.Native.Nat.{_≤_};
 ghost use lib.ListN.{length};
 ghost use Rattle.commit_answer.specs.Answer.{board};
 ghost use Rattle.show.specs.Runs.{Runs, Ends, leastLeft};
+use crate::anchors::write_anchors;
 use crate::lines::write_line;
 use dag_state::state::State;
 use play::one::play_one;
@@ -22,19 +23,20 @@ fn least_left(last: bool) -> usize
     if last { 1 } else { 4100 }
 }
 
-// Plays the records of the bytes and writes their lines, until one is broken or too few bytes are left. The bytes begin at the offset
-// base of the input; last: nothing follows them.
+// Plays the records of the bytes and writes their lines, until one is broken or too few bytes are left. b: the buffer that is lent to
+// their calls. The bytes begin at the offset base of the input; last: nothing follows them.
 pub fn play_part(
     s: State,
     keys: &mut [u64],
     links: &mut [u64],
     certs: &mut [u64],
     order: &mut [u64],
+    b: &mut [u8],
     bytes: &[u8],
     base: u64,
     last: bool,
 ) -> Part
-    ensures runs { λ r. ⌜ Runs (now (bytes .entry)) (board s (now (keys .entry)) (now (links .entry)) (now (certs .entry)) (now (order .entry))) (r .at) (board (r .state) (now (keys .exit)) (now (links .exit)) (now (certs .exit)) (now (order .exit))) ⌝ }
+    ensures runs { λ r. ⌜ Runs (now (bytes .entry)) (board s (now (keys .entry)) (now (links .entry)) (now (certs .entry)) (now (order .entry))) (now (b .entry)) (r .at) (board (r .state) (now (keys .exit)) (now (links .exit)) (now (certs .exit)) (now (order .exit))) (now (b .exit)) ⌝ }
     ensures ends { λ r. ⌜ (r .at ≤ length (now (bytes .entry))) × Ends (now (bytes .entry)) last (r .at) (r .broken) ⌝ }
 {
     let mut now = s;
@@ -43,11 +45,13 @@ pub fn play_part(
     let n = bytes.len();
     let least = least_left(last);
     while least <= n - at {
-        let played = play_one(now, keys, links, certs, order, bytes, at);
-        let line = played.line;
-        let next = played.state;
+        let played = play_one(now, keys, links, certs, order, b, bytes, at);
+        let step = played.step;
+        let line = step.line;
+        let next = step.state;
         let end = played.end;
         now = next;
+        write_anchors(b, step.anchors);
         write_line(line, std::num::wrapping_add_u64(base, at as u64));
         if end <= at {
             broken = true;

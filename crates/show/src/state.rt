@@ -3,6 +3,7 @@ ghost use Prim.Native.Nat.{_+_, _*_, _≤_};
 ghost use lib.ListN.{length};
 ghost use Rattle.show.specs.Points.{Readable};
 use crate::lines::write;
+use crate::lines::write_digest;
 use crate::lines::write_number;
 use dag_state::state::RoundRecord;
 use dag_state::state::State;
@@ -66,16 +67,6 @@ fn write_rounds(s: State) {
     write_emit(s.gap);
 }
 
-// The digest of place q, 64 digits.
-fn write_digest(keys: &[u64], q: usize)
-    requires { ⌜ q * 8 + 8 ≤ length (now keys) ⌝ }
-{
-    let _all = io::print_hex(1, keys[q * 8 + 2], 16);
-    let _all = io::print_hex(1, keys[q * 8 + 3], 16);
-    let _all = io::print_hex(1, keys[q * 8 + 4], 16);
-    let _all = io::print_hex(1, keys[q * 8 + 5], 16);
-}
-
 // The line of the point at place q with its certificate word.
 fn write_point(keys: &[u64], q: usize, word: u64)
     requires { ⌜ q * 8 + 8 ≤ length (now keys) ⌝ }
@@ -83,7 +74,12 @@ fn write_point(keys: &[u64], q: usize, word: u64)
     write_number(b"p ", keys[q * 8 + 0]);
     write_number(b".", keys[q * 8 + 1]);
     write(b".");
-    write_digest(keys, q);
+    write_digest(
+        keys[q * 8 + 2],
+        keys[q * 8 + 3],
+        keys[q * 8 + 4],
+        keys[q * 8 + 5],
+    );
     write(b" ");
     let _all = io::print_hex(1, word, 4);
     write(b"\n");

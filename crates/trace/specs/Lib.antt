@@ -2,3 +2,4 @@ pub mod Numbers
 pub mod Head
 pub mod Fields
 pub mod Links
+pub mod Anchors

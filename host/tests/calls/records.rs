@@ -1,7 +1,7 @@
 //! Calls as records, and the recording that the repository's `replay` is run on.
 
 use committer::record::{self, Broken, calls, decode, encode};
-use committer::{Answer, Call, Committer, Link, PointId, PointInfo, Start};
+use committer::{Anchor, Answer, Call, Committer, Link, PointId, PointInfo, Refusal, Start};
 
 use crate::common::{beginning, point, started, valid};
 
@@ -138,20 +138,41 @@ fn calls_that_are_not_made_yet() {
     }
 }
 
-/// The line that `replay` writes for a call.
-fn line(call: &Call, answer: Answer) -> String {
+/// The lines that `replay` writes for a call.
+fn lines_of(call: &Call, answer: Answer) -> Vec<String> {
     let question = match call {
         Call::Gap => "gap ",
         Call::Drop(_) => "drop ",
         _ => "",
     };
-    match answer {
-        Answer::Done => "ok".into(),
-        Answer::Said(yes) => format!("{question}{}", if yes { "yes" } else { "no" }),
-        Answer::Handed(anchors) => format!("commit {}", anchors.len()),
-        Answer::Refused(why, _) => format!("refused {}", why.number()),
-        Answer::Unsupported => "unsupported".into(),
+    let (anchors, last) = match answer {
+        Answer::Done => (vec![], "ok".into()),
+        Answer::Said(yes) => (vec![], format!("{question}{}", if yes { "yes" } else { "no" })),
+        Answer::Handed(anchors) => (anchors, "ok".into()),
+        Answer::Refused(why, finished) => (finished, refused(why.refusal)),
+        Answer::Unsupported => (vec![], "unsupported".into()),
+    };
+    anchors.iter().map(anchor_line).chain([last]).collect()
+}
+
+fn refused(why: Refusal) -> String {
+    match why {
+        Refusal::Conflict { round } => format!("refused 13 {round}"),
+        _ => format!("refused {}", why.number()),
     }
+}
+
+fn anchor_line(a: &Anchor) -> String {
+    let points: String = a.points.iter().map(|id| format!(" {}", id_text(id, "."))).collect();
+    let (anchor, proof) = (id_text(&a.anchor, " "), id_text(&a.proof, " "));
+    let (exec, prev, count) = (u32::from(a.executable), a.previous, a.points.len());
+    format!("anchor {anchor} proof {proof} exec {exec} prev {prev} points {count}:{points}")
+}
+
+/// Round, author and digest with a mark between them.
+fn id_text(id: &PointId, mark: &str) -> String {
+    let digest: String = id.digest.iter().map(|byte| format!("{byte:02x}")).collect();
+    format!("{}{mark}{}{mark}{digest}", id.round, id.author)
 }
 
 /// The lines of the state and of the points.
@@ -163,10 +184,7 @@ fn last_lines(committer: &Committer) -> Vec<String> {
         "state bottom {} top {} lastproof {proof} fullbottom {} first {} emit {emit}",
         s.bottom, s.top, s.full_history_bottom, s.first_executable
     );
-    let points = committer.points().into_iter().map(|p| {
-        let digest: String = p.id.digest.iter().map(|byte| format!("{byte:02x}")).collect();
-        format!("p {}.{}.{digest} {:04x}", p.id.round, p.id.author, p.cert)
-    });
+    let points = committer.points().into_iter().map(|p| format!("p {} {:04x}", id_text(&p.id, "."), p.cert));
     std::iter::once(state).chain(points).collect()
 }
 
@@ -175,12 +193,10 @@ fn played(recording: &[u8]) -> Vec<String> {
     let mut committer = Committer::new(20);
     let mut lines = Vec::new();
     for call in record::calls(recording) {
-        lines.push(match call {
-            // `replay` doesn't make commits yet
-            Ok(Call::Commit(_)) => "unsupported".into(),
-            Ok(call) => line(&call, committer.call(&call)),
-            Err(broken) => broken.to_string(),
-        });
+        match call {
+            Ok(call) => lines.extend(lines_of(&call, committer.call(&call))),
+            Err(broken) => lines.push(broken.to_string()),
+        }
     }
     lines.extend(last_lines(&committer));
     lines

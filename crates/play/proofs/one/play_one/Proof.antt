@@ -2,30 +2,32 @@ use mathlib.Core.Path.{refl, ap}
 use Rattle.trace.specs.declared.head.Record.{Record}
 use Rattle.trace.specs.declared.head.Kind.the-variants as kind
 use Rattle.trace.specs.Head.{head-inside}
-use Rattle.play.specs.Plays.{plays-head, plays-idle}
+use Rattle.play.specs.Plays.{plays-head, plays-unmade}
 use Rattle.play.specs.Sized.{sized-head, head-beyond, head-after, head-moves}
 use borrow.Author.Needs.{needs}
 use Rattle.play.proofs.one.play_one.Statement.{statement}
 use Rattle.play.proofs.one.play_one.Tie as tie
 
+unmade-requires : tie.Need-unmade-requires
+unmade-requires c κs = search needs
+
 returns : tie.Need-returns
-returns c = let e = head-beyond _ _ (c .if1 .taken) in
-    ((ap (λ (x : Record). x .end) e, head-after _ _ _ e, λ l. l), (plays-head _ _ _ _ _ _ e (plays-idle _ kind.Broken _ _ refl refl), head-moves _ _ _ e))
+returns c = let e = head-beyond _ _ (c .before .if1 .taken) in ((ap (λ (x : Record). x .end) e, head-after _ _ _ e, λ l. l), (plays-head _ _ _ _ _ _ _ _ e (plays-unmade _ kind.Broken _ _ _ (c .unmade .result) refl refl (c .unmade .ensures)), head-moves _ _ _ e))
 
 record-at-requires : tie.Need-record-at-requires
 record-at-requires c κs = search needs
 
 sub-play-fields : tie.Need-sub-play-fields
-sub-play-fields c = head-inside _ _ _ (c .before .before .before .before .record-at .ensures) (c .before .before .before .before .before .if1 .left) .0
+sub-play-fields c = head-inside _ _ _ (c .before .before .before .before .before .record-at .ensures) (c .before .before .before .before .before .before .if1 .left) .0
 
 part-play-fields-start : tie.Need-part-play-fields-start
-part-play-fields-start c = head-inside _ _ _ (c .before .before .before .before .record-at .ensures) (c .before .before .before .before .before .if1 .left) .0
+part-play-fields-start c = head-inside _ _ _ (c .before .before .before .before .before .record-at .ensures) (c .before .before .before .before .before .before .if1 .left) .0
 
 part-play-fields-end : tie.Need-part-play-fields-end
-part-play-fields-end c = head-inside _ _ _ (c .before .before .before .before .record-at .ensures) (c .before .before .before .before .before .if1 .left) .1
+part-play-fields-end c = head-inside _ _ _ (c .before .before .before .before .before .record-at .ensures) (c .before .before .before .before .before .before .if1 .left) .1
 
 play-fields-requires : tie.Need-play-fields-requires
-play-fields-requires c κs = sized-head _ _ _ (c .before .before .before .before .before .record-at .ensures)
+play-fields-requires c κs = sized-head _ _ _ (c .before .before .before .before .before .before .record-at .ensures)
 
 same-length : tie.Need-same-length
 same-length c = search needs
@@ -39,16 +41,17 @@ same-length-3 c = search needs
 same-length-4 : tie.Need-same-length-4
 same-length-4 c = search needs
 
+same-length-5 : tie.Need-same-length-5
+same-length-5 c = search needs
+
 returns-2 : tie.Need-returns-2
-returns-2 c = (
-  (ap (λ (x : Record). x .end) (c .before .before .before .before .before .before .before .before .before .before .before .before .before .before .before .record-at .ensures), head-after _ _ _ (c .before .before .before .before .before .before .before .before .before .before .before .before .before .before .before .record-at .ensures), λ _. head-inside _ _ _ (c .before .before .before .before .before .before .before .before .before .before .before .before .before .before .before .record-at .ensures) (c .before .before .before .before .before .before .before .before .before .before .before .before .before .before .before .before .if1 .left) .1),
-  (plays-head _ _ _ _ _ _ (c .before .before .before .before .before .before .before .before .before .before .before .before .before .before .before .record-at .ensures) (c .before .before .before .before .before .before .before .before .before .play-fields .ensures), head-moves _ _ _ (c .before .before .before .before .before .before .before .before .before .before .before .before .before .before .before .record-at .ensures)),
-)
+returns-2 c = let e = c .before .before .before .before .before .before .before .before .before .before .before .before .before .before .before .before .before .record-at .ensures in ((ap (λ (x : Record). x .end) e, head-after _ _ _ e, λ _. head-inside _ _ _ e (c .before .before .before .before .before .before .before .before .before .before .before .before .before .before .before .before .before .before .if1 .left) .1), (plays-head _ _ _ _ _ _ _ _ e (c .before .before .before .before .before .before .before .before .before .before .play-fields .ensures), head-moves _ _ _ e))
 
 pub play-one-spec : {M : Type 1} → statement M
 play-one-spec =
     tie.close
     (tie.spec
+    unmade-requires
     returns
     record-at-requires
     sub-play-fields
@@ -59,4 +62,5 @@ play-one-spec =
     same-length-2
     same-length-3
     same-length-4
+    same-length-5
     returns-2)

@@ -3,7 +3,7 @@ use Rattle.spec.specs.Calls as calls
 use Rattle.trace.specs.Fields.{callBy}
 use Rattle.trace.specs.declared.head.Kind.the-variants as kind
 use Rattle.play.specs.Made.{made}
-use Rattle.play.specs.Plays.{plays-made}
+use Rattle.play.specs.Plays.{plays-plain}
 use borrow.Author.Needs.{needs}
 use Rattle.play.proofs.points.play_certify.Statement.{statement}
 use Rattle.play.proofs.points.play_certify.Tie as tie
@@ -22,7 +22,7 @@ same-length c = search needs
 
 returns : tie.Need-returns
 unfolding callBy
-returns c = plays-made kind.Certify _ _ _ _ (c .step-of .result) refl (made calls.certify _ _ _ _ (c .before .before .before .certify .ensures .0) (c .before .before .before .before .before .id-of .ensures)) (c .step-of .ensures)
+returns c w = plays-plain kind.Certify _ _ _ _ (c .step-of .result) refl (c .step-of .ensures) w refl (made calls.certify _ _ _ _ (c .before .before .before .certify .ensures .0) (c .before .before .before .before .before .id-of .ensures))
 
 pub play-certify-spec : {M : Type 1} → statement M
 play-certify-spec =

@@ -3,7 +3,7 @@ use Rattle.spec.specs.Calls as calls
 use Rattle.trace.specs.Fields.{callBy}
 use Rattle.trace.specs.declared.head.Kind.the-variants as kind
 use Rattle.play.specs.Made.{made-two, refs-count, refs-told}
-use Rattle.play.specs.Plays.{plays-made}
+use Rattle.play.specs.Plays.{plays-plain}
 use borrow.Author.Needs.{needs}
 use Rattle.play.proofs.points.play_resolve.Statement.{statement}
 use Rattle.play.proofs.points.play_resolve.Tie as tie
@@ -49,7 +49,7 @@ same-length-3 c = search needs
 
 returns : tie.Need-returns
 unfolding callBy
-returns c = plays-made kind.Resolve _ _ _ _ (c .step-of .result) refl (made-two calls.resolve _ _ _ _ _ _ (c .before .before .before .before .before .before .before .resolve .ensures .0) (c .before .before .before .before .before .before .before .before .before .before .before .before .before .before .before .before .before .id-of .ensures) (refs-told _ _ _ (c .before .before .before .before .before .before .before .before .before .before .before .before .before .before .before .before .info-of .result) (c .before .before .before .before .before .before .before .before .before .before .before .before .before .refs-of .ensures) refl (c .before .before .before .before .before .before .before .before .before .before .before .before .before .before .before .before .info-of .ensures .1) (c .before .before .before .before .before .before .before .before .before .before .before .before .before .before .before .before .before .before .before .before .before .before .before .pre .1) (c .before .before .before .before .before .before .before .before .before .before .before .before .before .before .before .before .info-of .ensures .0))) (c .step-of .ensures)
+returns c w = plays-plain kind.Resolve _ _ _ _ (c .step-of .result) refl (c .step-of .ensures) w refl (made-two calls.resolve _ _ _ _ _ _ (c .before .before .before .before .before .before .before .resolve .ensures .0) (c .before .before .before .before .before .before .before .before .before .before .before .before .before .before .before .before .before .id-of .ensures) (refs-told _ _ _ (c .before .before .before .before .before .before .before .before .before .before .before .before .before .before .before .before .info-of .result) (c .before .before .before .before .before .before .before .before .before .before .before .before .before .refs-of .ensures) refl (c .before .before .before .before .before .before .before .before .before .before .before .before .before .before .before .before .info-of .ensures .1) (c .before .before .before .before .before .before .before .before .before .before .before .before .before .before .before .before .before .before .before .before .before .before .before .pre .1) (c .before .before .before .before .before .before .before .before .before .before .before .before .before .before .before .before .info-of .ensures .0)))
 
 pub play-resolve-spec : {M : Type 1} → statement M
 play-resolve-spec =

@@ -3,7 +3,7 @@ use Rattle.spec.specs.Calls as calls
 use Rattle.trace.specs.Fields.{callBy}
 use Rattle.trace.specs.declared.head.Kind.the-variants as kind
 use Rattle.play.specs.Made.{made}
-use Rattle.play.specs.Plays.{plays-made}
+use Rattle.play.specs.Plays.{plays-plain}
 use borrow.Author.Needs.{needs}
 use Rattle.play.proofs.rounds.play_drop.Statement.{statement}
 use Rattle.play.proofs.rounds.play_drop.Tie as tie
@@ -31,7 +31,7 @@ same-length-4 c = search needs
 
 returns : tie.Need-returns
 unfolding callBy
-returns c = plays-made kind.Drop _ _ _ _ (c .step-of .result) refl (made calls.drop _ _ _ _ (c .before .before .before .before .before .before .before .before .before .drop-upto .ensures .0) (c .before .before .before .before .before .before .before .before .before .before .before .before .before .before .number-of .ensures)) (c .step-of .ensures)
+returns c w = plays-plain kind.Drop _ _ _ _ (c .step-of .result) refl (c .step-of .ensures) w refl (made calls.drop _ _ _ _ (c .before .before .before .before .before .before .before .before .before .drop-upto .ensures .0) (c .before .before .before .before .before .before .before .before .before .before .before .before .before .before .number-of .ensures))
 
 pub play-drop-spec : {M : Type 1} → statement M
 play-drop-spec =

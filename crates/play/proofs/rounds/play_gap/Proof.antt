@@ -1,7 +1,7 @@
 use mathlib.Core.Path.{refl}
 use Rattle.trace.specs.Fields.{callBy}
 use Rattle.trace.specs.declared.head.Kind.the-variants as kind
-use Rattle.play.specs.Plays.{plays-made}
+use Rattle.play.specs.Plays.{plays-plain}
 use borrow.Author.Needs.{needs}
 use Rattle.play.proofs.rounds.play_gap.Statement.{statement}
 use Rattle.play.proofs.rounds.play_gap.Tie as tie
@@ -14,7 +14,7 @@ step-of-requires c κs = search needs
 
 returns : tie.Need-returns
 unfolding callBy
-returns c = plays-made kind.Gap _ _ _ _ (c .step-of .result) refl (c .before .is-once-after-gap .ensures .0) (c .step-of .ensures)
+returns c w = plays-plain kind.Gap _ _ _ _ (c .step-of .result) refl (c .step-of .ensures) w refl (c .before .is-once-after-gap .ensures .0)
 
 pub play-gap-spec : {M : Type 1} → statement M
 play-gap-spec = tie.close (tie.spec is-once-after-gap-requires step-of-requires returns)

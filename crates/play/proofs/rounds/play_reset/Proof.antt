@@ -1,7 +1,7 @@
 use mathlib.Core.Path.{refl}
 use Rattle.trace.specs.Fields.{callBy}
 use Rattle.trace.specs.declared.head.Kind.the-variants as kind
-use Rattle.play.specs.Plays.{plays-made}
+use Rattle.play.specs.Plays.{plays-plain}
 use borrow.Author.Needs.{needs}
 use Rattle.play.proofs.rounds.play_reset.Statement.{statement}
 use Rattle.play.proofs.rounds.play_reset.Tie as tie
@@ -26,7 +26,7 @@ same-length-4 c = search needs
 
 returns : tie.Need-returns
 unfolding callBy
-returns c = plays-made kind.Reset _ _ _ _ (c .step-of .result) refl (c .before .before .before .before .before .before .before .before .before .reset .ensures .0) (c .step-of .ensures)
+returns c w = plays-plain kind.Reset _ _ _ _ (c .step-of .result) refl (c .step-of .ensures) w refl (c .before .before .before .before .before .before .before .before .before .reset .ensures .0)
 
 pub play-reset-spec : {M : Type 1} → statement M
 play-reset-spec =

@@ -3,7 +3,7 @@ use Rattle.spec.specs.Calls as calls
 use Rattle.trace.specs.Fields.{callBy}
 use Rattle.trace.specs.declared.head.Kind.the-variants as kind
 use Rattle.play.specs.Made.{made-two}
-use Rattle.play.specs.Plays.{plays-made}
+use Rattle.play.specs.Plays.{plays-plain}
 use borrow.Author.Needs.{needs}
 use Rattle.play.proofs.rounds.play_round.Statement.{statement}
 use Rattle.play.proofs.rounds.play_round.Tie as tie
@@ -19,7 +19,7 @@ step-of-requires c κs = search needs
 
 returns : tie.Need-returns
 unfolding callBy
-returns c = plays-made kind.Round _ _ _ _ (c .step-of .result) refl (made-two calls.round _ _ _ _ _ _ (c .before .extend-from-ahead .ensures .0) (c .before .before .before .round-of .ensures .0) (c .before .before .before .round-of .ensures .1)) (c .step-of .ensures)
+returns c w = plays-plain kind.Round _ _ _ _ (c .step-of .result) refl (c .step-of .ensures) w refl (made-two calls.round _ _ _ _ _ _ (c .before .extend-from-ahead .ensures .0) (c .before .before .before .round-of .ensures .0) (c .before .before .before .round-of .ensures .1))
 
 pub play-round-spec : {M : Type 1} → statement M
 play-round-spec =

@@ -1,0 +1,41 @@
+use Rattle.play.specs.Plays.{anchors-done, anchors-said, anchors-handed, anchors-refused}
+use borrow.Author.Needs.{needs}
+use Rattle.play.proofs.line.anchors_of.Statement.{statement}
+use Rattle.play.proofs.line.anchors_of.Tie as tie
+
+enum-told : tie.Need-enum-told
+enum-told c = search needs
+
+enum-known-answer : tie.Need-enum-known-answer
+enum-known-answer c = search needs
+
+enum-known-answer-2 : tie.Need-enum-known-answer-2
+enum-known-answer-2 c = search needs
+
+enum-known-answer-3 : tie.Need-enum-known-answer-3
+enum-known-answer-3 c = search needs
+
+returns : tie.Need-returns
+returns c = anchors-done _ (c .enum-told .given .1)
+
+returns-2 : tie.Need-returns-2
+returns-2 c = anchors-said _ _ (c .before .answer .given .1)
+
+returns-3 : tie.Need-returns-3
+returns-3 c = anchors-handed _ _ (c .before .answer2 .given .1)
+
+returns-4 : tie.Need-returns-4
+returns-4 c = anchors-refused _ _ _ (c .before .answer3 .given .1)
+
+pub anchors-of-spec : {M : Type 1} → statement M
+anchors-of-spec =
+    tie.close
+    (tie.spec
+    enum-told
+    enum-known-answer
+    enum-known-answer-2
+    enum-known-answer-3
+    returns
+    returns-2
+    returns-3
+    returns-4)

@@ -1,0 +1,72 @@
+// Origin: none. The lines of committed anchors, from the records in an answer buffer.
+ghost use Prim.Native.Nat.{_+_, _*_, _≤_};
+ghost use lib.ListN.{length};
+use crate::lines::write;
+use crate::lines::write_digest;
+use crate::lines::write_number;
+use models::parts::PointId;
+use trace::anchors::AnchorHead;
+use trace::anchors::anchor_head;
+use trace::bytes::id_of;
+
+// An id after its name, with a mark between its parts.
+fn write_id(name: &[u8], id: PointId, mark: &[u8]) {
+    let round = id.round;
+    let digest = id.digest;
+    let words = digest.0;
+    write_number(name, round.0 as u64);
+    write_number(mark, id.author as u64);
+    write(mark);
+    write_digest(words[0], words[1], words[2], words[3]);
+}
+
+fn write_head(head: AnchorHead) {
+    write_id(b"anchor ", head.anchor, b" ");
+    write_id(b" proof ", head.proof, b" ");
+    write_number(b" exec ", head.executable as u64);
+    write_number(b" prev ", head.previous as u64);
+    write_number(b" points ", head.points as u64);
+    write(b":");
+}
+
+// The n ids from the offset on.
+fn write_ids(b: &[u8], at: usize, n: usize)
+    requires { ⌜ at + n * 37 ≤ length (now b) ⌝ }
+{
+    let mut i: usize = 0;
+    while i < n {
+        let id = id_of(b, at + i * 37);
+        write_id(b" ", id, b".");
+        i += 1;
+    }
+}
+
+// The line of the record at the offset. Says where the next one begins: the end of the bytes, if no whole record stands there.
+fn write_anchor(b: &[u8], at: usize) -> usize
+    requires { ⌜ at ≤ length (now b) ⌝ }
+    ensures { λ r. ⌜ r ≤ length (now (b .entry)) ⌝ }
+{
+    let left = b.len() - at;
+    if left < 83 {
+        return b.len();
+    }
+    let head = anchor_head(b, at);
+    let n = head.points as usize;
+    if (left - 83) / 37 < n {
+        return b.len();
+    }
+    write_head(head);
+    write_ids(b, at + 83, n);
+    write(b"\n");
+    at + 83 + n * 37
+}
+
+// The lines of the first n records.
+pub fn write_anchors(b: &[u8], n: u32) {
+    let mut at: usize = 0;
+    let mut i: u32 = 0;
+    while i < n {
+        at = write_anchor(b, at);
+        i += 1;
+    }
+}

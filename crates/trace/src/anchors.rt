@@ -1,0 +1,37 @@
+// Origin: models/output.rs (AnchorData). The record of a committed anchor, read from the bytes of an answer buffer.
+ghost use mathlib.Core.Path.{_≡_};
+ghost use Prim.Native.Nat.{_+_, _≤_};
+ghost use lib.ListN.{length};
+ghost use Rattle.trace.specs.Anchors.{anchorOf, anchorIn};
+use crate::bytes::byte_of;
+use crate::bytes::id_of;
+use crate::bytes::number_of;
+use models::parts::PointId;
+
+// What stands before the points of a record.
+pub struct AnchorHead {
+    pub anchor: PointId,
+    pub proof: PointId,
+    pub executable: u32,
+    pub previous: u32,
+    pub points: u32,
+}
+
+// The first 83 bytes of the record at the offset.
+pub fn anchor_head(b: &[u8], at: usize) -> AnchorHead
+    requires { ⌜ at + 83 ≤ length (now b) ⌝ }
+    ensures { λ r. ⌜ anchorOf r ≡ anchorIn (now (b .entry)) at ⌝ }
+{
+    let anchor = id_of(b, at);
+    let proof = id_of(b, at + 37);
+    let executable = byte_of(b, at + 74);
+    let previous = number_of(b, at + 75);
+    let points = number_of(b, at + 79);
+    AnchorHead {
+        anchor,
+        proof,
+        executable,
+        previous,
+        points,
+    }
+}
