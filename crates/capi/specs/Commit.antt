@@ -3,7 +3,8 @@ use Prim.Native.Nat.{ℕ}
 use mathlib.Core.Path.{_≡_, refl, sym, ap, _∙_}
 use mathlib.Core.List.{List}
 use Rattle.spec.specs.Calls as calls
-use Rattle.commit_answer.specs.Answer.{Board, board, seen, leavesIn, answerOf, anchorsIn}
+use Rattle.spec.specs.Demand.{finished}
+use Rattle.commit_answer.specs.Answer.{Board, board, seen, leavesIn, answerOf}
 use Rattle.commit_answer.specs.declared.answer.Outcome.{Outcome}
 use Rattle.commit_commit.specs.Commit.{KeptIn}
 use Rattle.capi.specs.declared.reply.Reply.{Reply}
@@ -15,8 +16,8 @@ RepliesIn r d b d′ b′ x =
     (numbersIn r ≡ numbersOf (calls.call (seen d) x .answer)) × ((seen d′ ≡ calls.call (seen d) x .store) × ((b′ ≡ calls.call (seen d) x .buffer) × (r .anchors ≡ 0 → (d′ ≡ d) × (b′ ≡ b))))
 
 -- the anchors of an answer
-anchors-in : (a : calls.Answer) → numbersOf a .anchors ≡ anchorsIn a
-unfolding numbersOf anchorsIn
+anchors-in : (a : calls.Answer) → numbersOf a .anchors ≡ finished a
+unfolding numbersOf finished
 anchors-in calls.done = refl
 anchors-in (calls.said b) = refl
 anchors-in (calls.handed n) = refl

@@ -33,13 +33,6 @@ answerOf (Said b) = said b
 answerOf (Handed n) = handed n
 answerOf (Refused r n) = calls.refused (refusalOf r) n
 
--- the anchors handed out, or finished before a refusal
-unfoldable pub anchorsIn : calls.Answer → ℕ
-anchorsIn done = 0
-anchorsIn (said b) = 0
-anchorsIn (handed n) = n
-anchorsIn (calls.refused r n) = n
-
 -- the state and the lent tables
 pub record Board : Type 0 where
   pub state : State

@@ -18,6 +18,7 @@ use Rattle.spec.specs.Started.{Wf, counts-elim}
 use Rattle.spec.specs.Kept.{anchors-rising}
 use Rattle.spec.specs.Calls as calls
 use Rattle.spec.specs.Calls.{call, act, isStart, lent, doCommit, commitEnd}
+use Rattle.spec.specs.Demand.{finished}
 use Rattle.models.specs.Digest.{Fit}
 use Rattle.dag_state.specs.declared.state.State.{State}
 use Rattle.dag_test.specs.View.{view}
@@ -33,7 +34,7 @@ use Rattle.commit_answer.specs.declared.answer.Refusal.the-variants.{Number, Co
 use Rattle.commit_answer.specs.declared.answer.Answer.{Answer}
 use Rattle.commit_answer.specs.declared.answer.Answer.the-variants.{Handed, Refused}
 use Rattle.commit_answer.specs.declared.answer.Outcome.{Outcome}
-use Rattle.commit_answer.specs.Answer.{refusalOf, answerOf, anchorsIn, Board, board, board-same, leavesIn, byTables, call-by}
+use Rattle.commit_answer.specs.Answer.{refusalOf, answerOf, Board, board, board-same, leavesIn, byTables, call-by}
 
 -- ---- mirrors
 
@@ -74,7 +75,7 @@ committed s ks ls cs os i b = afterWalk ks ls os s cs b (walked (view s ks ls cs
 
 -- a call that finished no anchor leaves the board and the buffer as they were
 abbrev pub KeptIn : Answer → Board → List ℕ → Board → List ℕ → Type 0
-KeptIn a d b d′ b′ = anchorsIn (answerOf a) ≡ 0 → (d′ ≡ d) × (b′ ≡ b)
+KeptIn a d b d′ b′ = finished (answerOf a) ≡ 0 → (d′ ≡ d) × (b′ ≡ b)
 
 -- the code's refusal is 01's again
 why-is : (r : chain.Refusal) → refusalOf (whyFrom r) ≡ r
@@ -83,8 +84,8 @@ why-is (number n) = refl
 why-is (conflict r) = refl
 
 -- the number of anchors, whatever stopped them
-anchors-is : (o : Option chain.Refusal) (n : ℕ) → anchorsIn (answerOf (answerFrom o n)) ≡ n
-unfolding anchorsIn answerOf answerFrom
+anchors-is : (o : Option chain.Refusal) (n : ℕ) → finished (answerOf (answerFrom o n)) ≡ n
+unfolding finished answerOf answerFrom
 anchors-is none n = refl
 anchors-is (some r) n = refl
 
@@ -201,7 +202,7 @@ module _ (s : State) (ks ls cs os : List ℕ) (i : Id) (b : List ℕ) where
         (
           ap (λ (y : Left). y .buffer) is,
           λ z.
-              let (a, c, d) = k (sym (anchors-is (x .stopped) (x .finished)) ∙ (ap (λ (y : Outcome). anchorsIn (answerOf (y .answer))) (sym f) ∙ z)) in
+              let (a, c, d) = k (sym (anchors-is (x .stopped) (x .finished)) ∙ (ap (λ (y : Outcome). finished (answerOf (y .answer))) (sym f) ∙ z)) in
               (board-same (ap (λ (y : Outcome). y .state) f ∙ a) refl refl c refl, d),
         ),
       ),

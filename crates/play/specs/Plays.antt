@@ -6,9 +6,10 @@ use mathlib.Core.Bool.{Bool, true, false, cond}
 use Rattle.laws.specs.Test.{clash, cond-yes, cond-no}
 use Rattle.spec.specs.Chain as chain
 use Rattle.spec.specs.Calls as calls
+use Rattle.spec.specs.Demand.{finished}
 use Rattle.models.specs.declared.parts.Round.{Round}
 use Rattle.dag_state.specs.declared.state.State.{State}
-use Rattle.commit_answer.specs.Answer.{Board, board, seen, leaves, leavesIn, answerOf, refusalOf, anchorsIn}
+use Rattle.commit_answer.specs.Answer.{Board, board, seen, leaves, leavesIn, answerOf, refusalOf}
 use Rattle.commit_answer.specs.declared.answer.Refusal.{Refusal}
 use Rattle.commit_answer.specs.declared.answer.Refusal.the-variants as why
 use Rattle.commit_answer.specs.declared.answer.Answer.{Answer}
@@ -62,7 +63,7 @@ outcomeOf k b w f = calls.call (seen b) (callBy k f w)
 unfoldable pub Plays : Kind → Board → List ℕ → List ℕ → Step → Board → List ℕ → Type 0
 Plays k b w f t c v =
     let o = outcomeOf k b w f in
-    (isMade k ≡ true → (seen c ≡ o .store) × (t .line ≡ lineSaid (yesOf k) (noOf k) (o .answer)) × (t .anchors ≡ anchorsIn (o .answer)) × (v ≡ cond (isLent k) (o .buffer) w))
+    (isMade k ≡ true → (seen c ≡ o .store) × (t .line ≡ lineSaid (yesOf k) (noOf k) (o .answer)) × (t .anchors ≡ finished (o .answer)) × (v ≡ cond (isLent k) (o .buffer) w))
     × (isMade k ≡ false → (c ≡ b) × (t .line ≡ idle k) × (t .anchors ≡ 0) × (v ≡ w))
 
 -- a call that takes no buffer, whatever buffer there is
@@ -81,20 +82,20 @@ unfolding refusedWith refusalOf
 refused-conflict w r e = rw e refl
 
 module _ (a : Answer) where
-  pub anchors-done : a ≡ answer.Done → 0 ≡ anchorsIn (answerOf a)
-  unfolding anchorsIn answerOf
+  pub anchors-done : a ≡ answer.Done → 0 ≡ finished (answerOf a)
+  unfolding finished answerOf
   anchors-done e = rw e refl
 
-  pub anchors-said : (b : Bool) → a ≡ answer.Said b → 0 ≡ anchorsIn (answerOf a)
-  unfolding anchorsIn answerOf
+  pub anchors-said : (b : Bool) → a ≡ answer.Said b → 0 ≡ finished (answerOf a)
+  unfolding finished answerOf
   anchors-said b e = rw e refl
 
-  pub anchors-handed : (n : ℕ) → a ≡ answer.Handed n → n ≡ anchorsIn (answerOf a)
-  unfolding anchorsIn answerOf
+  pub anchors-handed : (n : ℕ) → a ≡ answer.Handed n → n ≡ finished (answerOf a)
+  unfolding finished answerOf
   anchors-handed n e = rw e refl
 
-  pub anchors-refused : (w : Refusal) (n : ℕ) → a ≡ answer.Refused w n → n ≡ anchorsIn (answerOf a)
-  unfolding anchorsIn answerOf
+  pub anchors-refused : (w : Refusal) (n : ℕ) → a ≡ answer.Refused w n → n ≡ finished (answerOf a)
+  unfolding finished answerOf
   anchors-refused w n e = rw e refl
 
 module _ (a : Answer) (y n : Line) where
@@ -126,7 +127,7 @@ step-is l m n k s e h = rw (e, h) refl
 
 -- the step of an answer
 abbrev pub stepOf : Kind → Answer → State → Step
-stepOf j a s = record { line = lineSaid (yesOf j) (noOf j) (answerOf a); anchors = anchorsIn (answerOf a); state = s }
+stepOf j a s = record { line = lineSaid (yesOf j) (noOf j) (answerOf a); anchors = finished (answerOf a); state = s }
 
 -- a call that is made
 module _ (j : Kind) (b c : Board) (f : List ℕ) (a : Answer) (t : Step) (m : isMade j ≡ true) (g : t ≡ stepOf j a (c .state)) where
@@ -137,7 +138,7 @@ module _ (j : Kind) (b c : Board) (f : List ℕ) (a : Answer) (t : Step) (m : is
   unfolding Plays
   said-is w v h s u =
       rw g
-      (λ _. (s, ap (lineSaid (yesOf j) (noOf j)) h, ap anchorsIn h, u), λ n. absurd (clash m n))
+      (λ _. (s, ap (lineSaid (yesOf j) (noOf j)) h, ap finished h, u), λ n. absurd (clash m n))
 
   -- without a buffer
   pub plays-plain : (w : List ℕ) → isLent j ≡ false → leaves a c ≡ outcomeOf j b w f → Plays j b w f t left w

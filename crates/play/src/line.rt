@@ -1,6 +1,7 @@
 // Origin: none. What one recorded call answered.
 ghost use mathlib.Core.Path.{_≡_};
-ghost use Rattle.commit_answer.specs.Answer.{answerOf, refusalOf, anchorsIn};
+ghost use Rattle.spec.specs.Demand.{finished};
+ghost use Rattle.commit_answer.specs.Answer.{answerOf, refusalOf};
 ghost use Rattle.play.specs.Plays.{lineSaid, refusedWith};
 use commit_answer::answer::Answer;
 use commit_answer::answer::Outcome;
@@ -50,7 +51,7 @@ fn line_of(answer: Answer, yes: Line, no: Line) -> Line
 
 // The anchors of an answer.
 fn anchors_of(answer: Answer) -> u32
-    ensures { λ r. ⌜ r ≡ anchorsIn (answerOf answer) ⌝ }
+    ensures { λ r. ⌜ r ≡ finished (answerOf answer) ⌝ }
 {
     match answer {
         Answer::Done => 0,
@@ -62,7 +63,7 @@ fn anchors_of(answer: Answer) -> u32
 
 // What a call left, with its answer as a line.
 pub fn step_of(o: Outcome, yes: Line, no: Line) -> Step
-    ensures { λ r. ⌜ r ≡ record { line = lineSaid yes no (answerOf (o .answer)); anchors = anchorsIn (answerOf (o .answer)); state = o .state } ⌝ }
+    ensures { λ r. ⌜ r ≡ record { line = lineSaid yes no (answerOf (o .answer)); anchors = finished (answerOf (o .answer)); state = o .state } ⌝ }
 {
     let answer = o.answer;
     let state = o.state;

@@ -28,7 +28,7 @@ use Rattle.spec.specs.Started.{Wf}
 use Rattle.spec.specs.Order.{history-elim, history-named, history-once}
 use Rattle.spec.specs.Ways.{finish-store, ask-way, remove-way, drop-way, round-way, name-way, resolve-way, certify-way}
 use Rattle.spec.specs.Demand.{InList, AllInList, History, readRecords, finished, wrote, histories, Given, accepted, gave, resolutions, Edge, Exact, AllExact, FirstHalf, Demand3}
-use Rattle.spec.specs.Second.{second-half}
+use Rattle.spec.specs.Second.{commit-is, second-half}
 use Rattle.spec.specs.Records.{Fits, Event, passed, bytesOf, commit-buffer, Readable, read-all, readAs}
 use Rattle.spec.specs.Kept.{begun-kept, call-act, start-begun, start-same, new-bottom}
 use Rattle.spec.specs.Inv.{Inv, hist-paths, history-is}
@@ -257,6 +257,28 @@ wrote-is s (commit i b) hs r = wrote-commit s hs i b r
 wrote-is s (outlook i b) hs r = refl
 wrote-is s (remove x from b) hs r = refl
 wrote-is s (dropTo x) hs r = refl
+
+-- ---- one commit, by paths
+
+-- the history of a finished anchor holds exactly what paths of links reach, down to the lowest round, and no history before it held
+abbrev pub ByPaths : List Id → Event → Type 0
+ByPaths hs e = (x : Id) → List·Memᴰ x (ids e) ↔ ((q : ℕ) × (idAt (e .from) q ≡ x) × Path (E (e .from)) (e .enq .anchor) q × (lowest (e .from) (e .enq .anchor) ≤ x .round) × (List·Memᴰ x hs → ⊥))
+
+abbrev pub AllByPaths : List Id → List Event → Type 0
+AllByPaths hs [] = Unit {0}
+AllByPaths hs (e ∷ es) = ByPaths hs e × AllByPaths (hs ++ ids e) es
+
+right-paths : (hs : List Id) (es : List Event) → AllRight hs es → AllByPaths hs es
+right-paths hs [] r = tt
+right-paths hs (e ∷ es) (x, r) = (history-is (e .from) hs (x .inv) (e .enq .anchor) (x .next), right-paths (hs ++ ids e) es r)
+
+-- the ids read from the records that a commit wrote are so, and the store after it meets the invariant again
+pub commit-paths : (s : Store) (hs : List Id) (i : Id) (b : List ℕ) → Inv s hs
+    → (readRecords s (finished (call s (commit i b) .answer)) (call s (commit i b) .buffer) ≡ asHistories s (finishes s i b)) × AllByPaths hs (finishes s i b) × Inv (call s (commit i b) .store) (hs ++ allIds (finishes s i b))
+unfolding eventsOf act
+commit-paths s hs i b v =
+    let k = call-keeps s (commit i b) hs v tt in
+    rw (commit-is s (v .wf) i b) (wrote-commit s hs i b (k .right), right-paths hs (finishes s i b) (k .right), k .inv)
 
 -- ---- the log of one call
 
