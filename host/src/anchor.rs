@@ -1,5 +1,7 @@
 //! Anchor records, as a commit writes them.
 
+use std::fmt;
+
 use crate::types::PointId;
 
 /// Of a point id's bytes.
@@ -17,6 +19,16 @@ pub struct Anchor {
     pub previous: u32,
     /// the history: by rising round, then by rising digest
     pub points: Vec<PointId>,
+}
+
+/// The line that `replay` writes for it (docs/FORMATS.md).
+impl fmt::Display for Anchor {
+    fn fmt(&self, f: &mut fmt::Formatter<'_>) -> fmt::Result {
+        let (anchor, proof) = (self.anchor.text(" "), self.proof.text(" "));
+        write!(f, "anchor {anchor} proof {proof} exec {} prev {}", u32::from(self.executable), self.previous)?;
+        write!(f, " points {}:", self.points.len())?;
+        self.points.iter().try_for_each(|id| write!(f, " {}", id.text(".")))
+    }
 }
 
 impl Anchor {

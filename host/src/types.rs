@@ -9,6 +9,14 @@ pub struct PointId {
     pub digest: [u8; 32],
 }
 
+impl PointId {
+    /// Round, author and the digest's 64 hexadecimal digits, with a mark between them.
+    pub fn text(&self, mark: &str) -> String {
+        let digest: String = self.digest.iter().map(|byte| format!("{byte:02x}")).collect();
+        format!("{}{mark}{}{mark}{digest}", self.round, self.author)
+    }
+}
+
 /// A link one round down (includes) or two (witness).
 #[derive(Clone, Copy, Debug, Default, PartialEq, Eq, Hash)]
 pub struct Link {

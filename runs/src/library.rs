@@ -2,7 +2,7 @@
 
 use committer::{Anchor, Call, Committer, PointId, Status, anchors};
 
-use crate::view::{self, Answer, Point, Refused, Round, State, View};
+use crate::view::{Answer, Point, Refused, Round, State, View};
 
 /// The side that is tested.
 pub trait Side {
@@ -89,7 +89,7 @@ const UNTOUCHED: u8 = 0xa5;
 fn smaller_buffers(trigger: &PointId, before: &Committer, after: &Committer) -> Result<u64, String> {
     let mut large = vec![UNTOUCHED; LARGE];
     let whole = before.clone().commit(trigger, &mut large);
-    let records = anchors(&large, whole.map_or_else(|why| why.finished, |count| count));
+    let records = anchors(&large, whole.unwrap_or_else(|why| why.finished));
     let mut end = 0;
     let mut tried = 0;
     for (n, record) in (0..).zip(&records) {
@@ -154,7 +154,7 @@ fn answer(answer: committer::Answer) -> Answer {
     match answer {
         committer::Answer::Done => Answer::Done,
         committer::Answer::Said(yes) => Answer::Said(yes),
-        committer::Answer::Handed(anchors) => Answer::Anchors(anchors.into_iter().map(anchor).collect()),
+        committer::Answer::Handed(anchors) => Answer::Anchors(anchors),
         committer::Answer::Refused(why, finished) => Answer::Refused(refused(why, finished)),
         committer::Answer::Unsupported => Answer::Unsupported,
     }
@@ -166,17 +166,7 @@ fn refused(why: committer::Refused, finished: Vec<Anchor>) -> Refused {
         _ => 0,
     };
     assert_eq!(why.finished as usize, finished.len(), "the records stand in the buffer");
-    Refused { number: why.number(), round, finished: finished.into_iter().map(anchor).collect() }
-}
-
-fn anchor(anchor: Anchor) -> view::Anchor {
-    view::Anchor {
-        anchor: anchor.anchor,
-        proof: anchor.proof,
-        executable: anchor.executable,
-        previous: anchor.previous,
-        points: anchor.points,
-    }
+    Refused { number: why.number(), round, finished }
 }
 
 fn point(point: &committer::Point) -> Point {

@@ -1,9 +1,9 @@
 //! The Rust's side: the oracle, driven by the same calls.
 
-use committer::{Call, Link, PointId, PointInfo, Start};
+use committer::{Anchor, Call, Link, PointId, PointInfo, Start};
 use oracle::{CommitAnswer, Id, Info, Oracle, Outcome};
 
-use crate::view::{Anchor, Answer, Point, Refused, Round, State, Told, View};
+use crate::view::{Answer, Point, Refused, Round, State, Told, View};
 
 pub struct Rust(Oracle);
 

@@ -2,7 +2,7 @@
 
 use std::collections::BTreeSet;
 
-use committer::{Call, PointId, record};
+use committer::{Anchor, Call, record};
 
 use crate::compare::{List, compare};
 use crate::counts::{Counts, kind};
@@ -11,7 +11,7 @@ use crate::library::Library;
 use crate::lists::{Growth, Taste, chained};
 use crate::random::Random;
 use crate::rust::Rust;
-use crate::view::{Anchor, Answer, Told, View};
+use crate::view::{Answer, Told, View};
 
 /// `replay` lends tables of so many places.
 const PLACES: usize = 20;
@@ -107,7 +107,9 @@ pub fn line(call: &Call, answer: &Answer) -> String {
         (Call::Drop(_), Answer::Said(yes)) => format!("drop {}", yes_or_no(*yes)),
         (_, Answer::Done) => "ok".into(),
         (Call::Commit(_), Answer::Anchors(anchors)) => anchor_lines(anchors) + "ok",
-        (_, Answer::Refused(why)) if why.number == 13 => anchor_lines(&why.finished) + &format!("refused 13 {}", why.round),
+        (_, Answer::Refused(why)) if why.number == 13 => {
+            anchor_lines(&why.finished) + &format!("refused 13 {}", why.round)
+        }
         (_, Answer::Refused(why)) => anchor_lines(&why.finished) + &format!("refused {}", why.number),
         _ => panic!("no line for the answer of a {}", kind(call)),
     };
@@ -116,21 +118,12 @@ pub fn line(call: &Call, answer: &Answer) -> String {
 
 /// A line for each anchor. The points of a round are a set in the Rust; a record has them by digest.
 fn anchor_lines(anchors: &[Anchor]) -> String {
-    let line = |a: &Anchor| {
-        let mut points = a.points.clone();
-        points.sort_unstable_by_key(|id| (id.round, id.digest));
-        let points: String = points.iter().map(|id| format!(" {}", id_text(id, "."))).collect();
-        let (anchor, proof) = (id_text(&a.anchor, " "), id_text(&a.proof, " "));
-        let (exec, prev, count) = (u32::from(a.executable), a.previous, a.points.len());
-        format!("anchor {anchor} proof {proof} exec {exec} prev {prev} points {count}:{points}\n")
+    let line = |anchor: &Anchor| {
+        let mut sorted = anchor.clone();
+        sorted.points.sort_unstable_by_key(|id| (id.round, id.digest));
+        format!("{sorted}\n")
     };
     anchors.iter().map(line).collect()
-}
-
-/// Round, author and digest with a mark between them.
-fn id_text(id: &PointId, mark: &str) -> String {
-    let digest: String = id.digest.iter().map(|byte| format!("{byte:02x}")).collect();
-    format!("{}{mark}{}{mark}{digest}", id.round, id.author)
 }
 
 fn yes_or_no(yes: bool) -> &'static str {
@@ -149,7 +142,7 @@ pub fn held(view: &View) -> String {
         state.bottom, state.top, state.full_history_bottom, state.first_executable,
     );
     for point in &view.points {
-        text += &format!("p {} {:04x}\n", id_text(&point.id, "."), point.word);
+        text += &format!("p {} {:04x}\n", point.id.text("."), point.word);
     }
     text
 }

@@ -1,6 +1,6 @@
 //! What both sides are read as, and what they answer.
 
-use committer::PointId;
+use committer::{Anchor, PointId};
 
 /// What a side holds.
 #[derive(Clone, Debug, Default, PartialEq, Eq)]
@@ -75,17 +75,6 @@ pub struct Refused {
     pub round: u32,
     /// the anchors finished before the refusal
     pub finished: Vec<Anchor>,
-}
-
-/// An anchor record.
-#[derive(Clone, Debug, PartialEq, Eq)]
-pub struct Anchor {
-    pub anchor: PointId,
-    pub proof: PointId,
-    pub executable: bool,
-    /// 0 for none
-    pub previous: u32,
-    pub points: Vec<PointId>,
 }
 
 /// What the Rust does with a call.

@@ -33,7 +33,7 @@ fn trigger(includes: &[PointId]) -> PointInfo {
 fn commit(committer: &mut Committer, id: &PointId) -> Result<Vec<Anchor>, (Refused, Vec<Anchor>)> {
     let mut bytes = buffer(LARGE);
     let given = committer.commit(id, &mut bytes);
-    let count = given.map_or_else(|why| why.finished, |count| count);
+    let count = given.unwrap_or_else(|why| why.finished);
     let records = anchors(&bytes, count);
     assert_eq!(records.len(), count as usize);
     let end = records.iter().map(Anchor::bytes).sum();

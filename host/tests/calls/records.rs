@@ -152,7 +152,7 @@ fn lines_of(call: &Call, answer: Answer) -> Vec<String> {
         Answer::Refused(why, finished) => (finished, refused(why.refusal)),
         Answer::Unsupported => (vec![], "unsupported".into()),
     };
-    anchors.iter().map(anchor_line).chain([last]).collect()
+    anchors.iter().map(Anchor::to_string).chain([last]).collect()
 }
 
 fn refused(why: Refusal) -> String {
@@ -160,19 +160,6 @@ fn refused(why: Refusal) -> String {
         Refusal::Conflict { round } => format!("refused 13 {round}"),
         _ => format!("refused {}", why.number()),
     }
-}
-
-fn anchor_line(a: &Anchor) -> String {
-    let points: String = a.points.iter().map(|id| format!(" {}", id_text(id, "."))).collect();
-    let (anchor, proof) = (id_text(&a.anchor, " "), id_text(&a.proof, " "));
-    let (exec, prev, count) = (u32::from(a.executable), a.previous, a.points.len());
-    format!("anchor {anchor} proof {proof} exec {exec} prev {prev} points {count}:{points}")
-}
-
-/// Round, author and digest with a mark between them.
-fn id_text(id: &PointId, mark: &str) -> String {
-    let digest: String = id.digest.iter().map(|byte| format!("{byte:02x}")).collect();
-    format!("{}{mark}{}{mark}{digest}", id.round, id.author)
 }
 
 /// The lines of the state and of the points.
@@ -184,7 +171,7 @@ fn last_lines(committer: &Committer) -> Vec<String> {
         "state bottom {} top {} lastproof {proof} fullbottom {} first {} emit {emit}",
         s.bottom, s.top, s.full_history_bottom, s.first_executable
     );
-    let points = committer.points().into_iter().map(|p| format!("p {} {:04x}", id_text(&p.id, "."), p.cert));
+    let points = committer.points().into_iter().map(|p| format!("p {} {:04x}", p.id.text("."), p.cert));
     std::iter::once(state).chain(points).collect()
 }
 
