@@ -9,19 +9,15 @@ use lib.ListN.{getD}
 use borrow.Author.Tests.{eq-eqb, ne-eqb, le-ltb, lt-ltb}
 use Rattle.laws.specs.Test.{and-no, and-yes}
 use Rattle.spec.specs.Chain.{Refusal, number, conflict, Out, bad, good}
-use Rattle.models.specs.Cert.{flagsOf, heightOf}
+use Rattle.models.specs.Cert.{heightOf, hasProof}
 use Rattle.models.specs.Tables.{roundAt, statusAt, placeAt}
 use Rattle.models.specs.declared.parts.Round.{Round}
 use Rattle.back_points.specs.declared.fault.Fault.{Fault}
 use Rattle.back_points.specs.Scan.{scanned}
 
--- 01, cert.rs: "Certified: height above 0. Proved: top bit as well."
-unfoldable pub proofOf : ℕ → Bool
-proofOf c = ltb 0 (heightOf c) && flagsOf c .top
-
 -- 14, usable, 13 or 15, by the status and the certificate word
 unfoldable pub faultOf : ℕ → ℕ → ℕ
-faultOf st c = cond (eqb st 0) 14 (cond (eqb st 1) 0 (cond (eqb st 2) (cond (proofOf c) 13 0) (cond (ltb 0 (heightOf c)) 13 15)))
+faultOf st c = cond (eqb st 0) 14 (cond (eqb st 1) 0 (cond (eqb st 2) (cond (hasProof c) 13 0) (cond (ltb 0 (heightOf c)) 13 15)))
 
 -- the same of place q
 unfoldable pub faultAt : List ℕ → List ℕ → ℕ → ℕ
@@ -69,16 +65,6 @@ Rounds ks os n = (p : ℕ) → p < n → roundAt ks (placeAt os p) ≤ 4_000_000
 
 -- ---- the steps of the code
 
--- certified: the top bit decides
-pub proof-by : (c : ℕ) (h : Bool) → h ≡ ltb 0 (heightOf c) → h ≡ true → flagsOf c .top ≡ proofOf c
-unfolding proofOf
-proof-by c h e t = sym (and-yes (sym e ∙ t) refl)
-
--- not certified
-pub proof-not : (c : ℕ) (h : Bool) → h ≡ ltb 0 (heightOf c) → h ≡ false → false ≡ proofOf c
-unfolding proofOf
-proof-not c h e t = sym (and-no _ (sym e ∙ t))
-
 module _ (ks cs : List ℕ) (q : ℕ) where
   -- unresolved
   pub fault-none : statusAt ks q ≡ 0 → 14 ≡ faultAt ks cs q
@@ -91,16 +77,16 @@ module _ (ks cs : List ℕ) (q : ℕ) where
   fault-valid e = rw e refl
 
   -- trans-invalid
-  fault-trans : statusAt ks q ≡ 2 → faultAt ks cs q ≡ cond (proofOf (getD cs q 0)) 13 0
+  fault-trans : statusAt ks q ≡ 2 → faultAt ks cs q ≡ cond (hasProof (getD cs q 0)) 13 0
   unfolding faultAt faultOf
   fault-trans e = rw e refl
 
   -- and proved
-  pub fault-proved : statusAt ks q ≡ 2 → (h : Bool) → h ≡ proofOf (getD cs q 0) → h ≡ true → 13 ≡ faultAt ks cs q
+  pub fault-proved : statusAt ks q ≡ 2 → (h : Bool) → h ≡ hasProof (getD cs q 0) → h ≡ true → 13 ≡ faultAt ks cs q
   fault-proved e h d t = sym (fault-trans e ∙ rw (sym d ∙ t) refl)
 
   -- or not
-  pub fault-unproved : statusAt ks q ≡ 2 → (h : Bool) → h ≡ proofOf (getD cs q 0) → h ≡ false → 0 ≡ faultAt ks cs q
+  pub fault-unproved : statusAt ks q ≡ 2 → (h : Bool) → h ≡ hasProof (getD cs q 0) → h ≡ false → 0 ≡ faultAt ks cs q
   fault-unproved e h d t = sym (fault-trans e ∙ rw (sym d ∙ t) refl)
 
   -- another status

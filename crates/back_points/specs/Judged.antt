@@ -20,7 +20,7 @@ use Rattle.spec.specs.Chain.{Out, bad, good, then, verdict, judged, usableInHis
 use Rattle.spec.specs.History as history
 use Rattle.spec.specs.History.{needed, faults}
 use Rattle.spec.specs.Order.{falls-total, falls-trans}
-use Rattle.models.specs.Cert.{flagsOf, heightOf}
+use Rattle.models.specs.Cert.{flagsOf, heightOf, hasProof}
 use Rattle.models.specs.Digest.{Fit}
 use Rattle.models.specs.Tables.{roundAt, statusAt, placeAt, Used}
 use Rattle.dag_keys.specs.Sorted.{rounds-rise}
@@ -35,7 +35,7 @@ use Rattle.back_history.specs.Marks.{On}
 use Rattle.back_history.specs.Need.{lowOf, highOf, marksOf, used-point, used-round, used-height, low-high, needed-elim, needed-intro}
 use Rattle.back_history.specs.History.{ids-rise}
 use Rattle.back_points.specs.Scan.{First, Earlier, first-is}
-use Rattle.back_points.specs.Fault.{proofOf, faultOf, faultAt, faulty, faultyAt, roundOf, firstFault, faultHere, foundFault, refusalOf, outOf}
+use Rattle.back_points.specs.Fault.{faultOf, faultAt, faulty, faultyAt, roundOf, firstFault, faultHere, foundFault, refusalOf, outOf}
 
 -- ---- one point
 
@@ -125,7 +125,7 @@ module _ (s : State) (ks ls cs os : List ℕ) (fk : Fit ks) (fl : Fit ls) (t : S
 
   -- what 01 says of a used place is what the code says
   judged-is : (q : ℕ) → Used os n q → judged v usableInHistory q ≡ outOf (faultAt ks cs q) (roundAt ks q) q
-  unfolding judged usableInHistory certified proved pointAt faultAt faultOf proofOf
+  unfolding judged usableInHistory certified proved pointAt faultAt faultOf hasProof
   judged-is q u =
       let told = status-is q u in
       let high : height v q ≡ heightOf (getD cs q 0) = sym (used-height s ks ls cs os fk fl t q u) in

@@ -1,4 +1,4 @@
-// Origin: dag/commit/back.rs (committable_point, and the order of points in gather_uncommitted), models/cert.rs (has_proof).
+// Origin: dag/commit/back.rs (committable_point, and the order of points in gather_uncommitted).
 // The first point of a history that isn't usable: rounds downwards, inside a round by rising digest.
 ghost use mathlib.Core.Path.{_≡_};
 ghost use Prim.Native.Nat.{_+_, _*_, _<_, _≤_};
@@ -6,7 +6,7 @@ ghost use lib.ListN.{length};
 ghost use Rattle.models.specs.Tables.{roundAt, Inside};
 ghost use Rattle.back_history.specs.Sweep.{Range};
 ghost use Rattle.back_points.specs.Scan.{soonerOf};
-ghost use Rattle.back_points.specs.Fault.{proofOf, faultAt, faulty, roundOf, firstFault, foundFault, Rounds};
+ghost use Rattle.back_points.specs.Fault.{faultAt, faulty, roundOf, firstFault, foundFault, Rounds};
 use models::cert::Cert;
 use models::parts::Round;
 
@@ -24,17 +24,6 @@ pub fn round_at(keys: &[u64], q: usize) -> Round
     Round(keys[q * 8 + 0] as u32)
 }
 
-// Whether the point with this certificate word is proved: certified, and that directly.
-fn has_proof(word: u64) -> bool
-    ensures { λ r. ⌜ r ≡ proofOf word ⌝ }
-{
-    let cert = Cert(word);
-    if cert.is_certified() {
-        return word / 32768 % 2 == 1;
-    }
-    false
-}
-
 // What the point at place q of a history is refused with: 14 unresolved, 13 conflict, 15 neither usable nor certified, 0 if it is usable.
 pub fn fault_at(keys: &[u64], certs: &[u64], q: usize) -> u32
     requires { ⌜ (q * 8 + 8 ≤ length (now keys)) × (q < length (now certs)) ⌝ }
@@ -48,13 +37,13 @@ pub fn fault_at(keys: &[u64], certs: &[u64], q: usize) -> u32
         return 0;
     }
     let word = certs[q];
+    let cert = Cert(word);
     if status == 2 {
-        if has_proof(word) {
+        if cert.has_proof() {
             return 13;
         }
         return 0;
     }
-    let cert = Cert(word);
     if cert.is_certified() {
         return 13;
     }

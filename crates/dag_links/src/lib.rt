@@ -7,18 +7,8 @@ ghost use Rattle.dag_links.specs.Links.{sameWords, fits, linkRight, link
 ghost use Rattle.dag_links.specs.Bare.{quiet, shut, emptyFrom, bareAt, bareHold};
 ghost use Rattle.dag_links.specs.Words.{namedRight, toldRight, wordsAt, wordsHold};
 ghost use Rattle.models.specs.Tables.{roundAt, Inside, dist};
-
-fn and(a: bool, b: bool) -> bool
-    ensures { λ r. ⌜ r ≡ (a && b) ⌝ }
-{
-    if a { b } else { false }
-}
-
-fn or(a: bool, b: bool) -> bool
-    ensures { λ r. ⌜ r ≡ (a || b) ⌝ }
-{
-    if a { true } else { b }
-}
+use laws::and;
+use laws::or;
 
 // Whether the four words of a from i are those of b from j.
 fn same_words(a: &[u64], i: usize, b: &[u64], j: usize) -> bool

@@ -1,8 +1,8 @@
 -- The certificate word read as flags and height (01: 'Forms of the Rust').
 use Prim.Native.Nat.{ℕ, zero, suc, _+_, _*_, _/_, _%_, _^_, _<_}
 use mathlib.Core.Path.{_≡_, refl, sym, _∙_, ap, ap₂}
-use mathlib.Core.Bool.{Bool, true, _||_}
-use lib.Dec.{eqb}
+use mathlib.Core.Bool.{Bool, true, _&&_, _||_}
+use lib.Dec.{eqb, ltb}
 use lib.Bits.{bitOr, or-mod, or-zero-r, or-lt}
 use native.Mathlib.Omega.{arith}
 use native.Mathlib.Nat.{mod-eq-of-lt, div-div-eq-div-mul}
@@ -18,6 +18,10 @@ flagsOf c = record { top = bitOf 0x8000 c; started = bitOf 0x4000 c; completed =
 
 unfoldable pub heightOf : ℕ → ℕ
 heightOf c = c % 4096
+
+-- 01, cert.rs: "Certified: height above 0. Proved: top bit as well."
+unfoldable pub hasProof : ℕ → Bool
+hasProof c = ltb 0 (heightOf c) && flagsOf c .top
 
 -- the flags of either
 unfoldable pub joined : Flags → Flags → Flags

@@ -3,7 +3,7 @@ ghost use Prim.Native.Nat.{_<_};
 ghost use mathlib.Core.Path.{_≡_};
 ghost use lib.Dec.{ltb};
 ghost use Rattle.spec.specs.Store.{word};
-ghost use Rattle.models.specs.Cert.{flagsOf, heightOf, topped, linked, marked};
+ghost use Rattle.models.specs.Cert.{flagsOf, heightOf, hasProof, topped, linked, marked};
 use crate::parts::Height;
 
 const TOP: u64 = 32768;
@@ -31,6 +31,13 @@ impl Cert {
         ensures { λ r. ⌜ r ≡ ltb 0 (heightOf (self .0)) ⌝ }
     {
         0 < self.0 % 4096
+    }
+
+    // Certified, and that directly.
+    pub fn has_proof(self) -> bool
+        ensures { λ r. ⌜ r ≡ hasProof (self .0) ⌝ }
+    {
+        laws::and(0 < self.0 % 4096, self.0 / TOP % 2 == 1)
     }
 
     // The word with another height.

@@ -83,7 +83,7 @@ unfolding falls
 falls-trans = by-trans (λ m n. ltb n m) (λ a b c h k. less-chain c b a k h) more-total
 
 -- pairs in a list without repeats
-strict : {A : Type 0} (R S : A → A → Type 0) (l : List A) → Pairs R l → NoDup l → ((x y : A) → List·Memᴰ x l → List·Memᴰ y l → R x y → (x ≡ y → ⊥) → S x y) → Pairs S l
+pub strict : {A : Type 0} (R S : A → A → Type 0) (l : List A) → Pairs R l → NoDup l → ((x y : A) → List·Memᴰ x l → List·Memᴰ y l → R x y → (x ≡ y → ⊥) → S x y) → Pairs S l
 strict R S [] p n f = tt
 strict R S (x ∷ xs) p n f = (
   (λ y m. f x y (List·Memᴰ·head refl) (List·Memᴰ·tail m) (p .0 y m) (λ e. n .0 (Memᴰ·cast e m))),

@@ -256,7 +256,7 @@ tests-now s w low (e ∷ es) (u, x, r) = then-same (tested s (e .anchor)) _ _ (�
 
 -- ---- the outlook's tests
 
-outlook-length : (s : Store) (a : ℕ) → length (outlookBytes s a) ≡ 41
+pub outlook-length : (s : Store) (a : ℕ) → length (outlookBytes s a) ≡ 41
 unfolding outlookBytes idBytes
 outlook-length s a =
     length-append (be 4 (idAt s a .round) ++ (be 1 (idAt s a .author) ++ be 32 (idAt s a .digest))) (be 4 (length (history s a)))

@@ -1,0 +1,99 @@
+use mathlib.Core.Path.{refl}
+use native.Mathlib.Omega.{arith}
+use Rattle.models.specs.Digest.{Fit}
+use Rattle.dag_test.specs.View.{view}
+use Rattle.commit_outlook.specs.Look.{look-room}
+use Rattle.commit_outlook.specs.Chain.{Looking, looking-first, looking-taken, looking-anchored, looked-refused, looked-all}
+use borrow.Author.Needs.{needs}
+use Rattle.commit_outlook.proofs.chain.look_all.Statement.{statement}
+use Rattle.commit_outlook.proofs.chain.look_all.Tie as tie
+
+abbrev Inv-loop : tie.InvT-loop
+Inv-loop s keys links certs order count room list counts₀ left₀ k₀ counts left k = Looking (view s keys links certs order) list count room counts left k
+
+abbrev μ-loop : tie.MeasureT-loop
+μ-loop s keys links certs order count room list counts₀ left₀ k₀ counts left k = k
+
+loop-holds : tie.Need-loop-holds Inv-loop μ-loop
+loop-holds c = let a = c .before .before .before .before .args in looking-first (view (a .s) (a .keys .now) (a .links .now) (a .certs .now) (a .order .now)) _ (a .count) (a .room) _ refl
+
+sub-k : tie.Need-sub-k Inv-loop μ-loop
+sub-k c = search needs
+
+mul-e : tie.Need-mul-e Inv-loop μ-loop
+mul-e c = search needs
+
+array-copy-out-e : tie.Need-array-copy-out-e Inv-loop μ-loop
+array-copy-out-e c = let h = c .before .loop .inv .most in let m = c .before .before .before .before .before .before .pre .1 .1 in search needs
+
+look-one-requires : tie.Need-look-one-requires Inv-loop μ-loop
+look-one-requires c κs =
+    let a = c .before .before .before .before .before .before .before .args in
+    let p = c .before .before .before .before .before .before .before .pre in
+    let l = c .before .before .loop in
+    let fk : Fit (a .keys .now) = λ q. c .before .before .before .before .before .before .shared-slice-known .given q .fits in
+    let fl : Fit (a .links .now) = λ q. c .before .before .before .before .before .shared-slice-known2 .given q .fits in
+    (p .0, looking-anchored (a .s) (a .keys .now) (a .links .now) (a .certs .now) (a .order .now) fk fl (p .0) _ (a .count) (p .1 .0) (a .room) (l .counts) (l .left) (l .k) (l .inv) (c .before .loop-test .taken))
+
+returns : tie.Need-returns Inv-loop μ-loop
+returns c =
+    let a = c .before .before .before .before .before .before .before .before .before .before .before .args in
+    let p = c .before .before .before .before .before .before .before .before .before .before .before .pre in
+    let l = c .before .before .before .before .before .before .loop in
+    let fk : Fit (a .keys .now) = λ q. c .before .before .before .before .before .before .before .before .before .before .shared-slice-known .given q .fits in
+    let fl : Fit (a .links .now) = λ q. c .before .before .before .before .before .before .before .before .before .shared-slice-known2 .given q .fits in
+    looked-refused (a .s) (a .keys .now) (a .links .now) (a .certs .now) (a .order .now) fk fl (p .0) _ (a .count) (p .1 .0) (a .room) (l .counts) (l .left) (l .k) (l .inv) (c .before .before .before .before .before .loop-test .taken) _ _ (c .before .before .before .look-one .ensures .0) (c .if1 .taken)
+
+mul-counts : tie.Need-mul-counts Inv-loop μ-loop
+mul-counts c = search needs
+
+array-write-counts : tie.Need-array-write-counts Inv-loop μ-loop
+array-write-counts c =
+    let h = c .before .before .before .before .before .before .loop .inv .most in
+    let m = c .before .before .before .before .before .before .before .before .before .before .before .pre .1 .1 in
+    search needs
+
+sub-left : tie.Need-sub-left Inv-loop μ-loop
+sub-left c =
+    let a = c .before .before .before .before .before .before .before .before .before .before .before .args in
+    let l = c .before .before .before .before .before .before .loop in
+    let h = look-room (view (a .s) (a .keys .now) (a .links .now) (a .certs .now) (a .order .now)) (l .left) _ _ _ (c .before .before .before .look-one .ensures .0) (c .if1 .left) in
+    search needs
+
+loop-less : tie.Need-loop-less Inv-loop μ-loop
+loop-less c = search needs
+
+loop-again : tie.Need-loop-again Inv-loop μ-loop
+loop-again c =
+    let a = c .before .before .before .before .before .before .before .before .before .before .before .args in
+    let p = c .before .before .before .before .before .before .before .before .before .before .before .pre in
+    let l = c .before .before .before .before .before .before .loop in
+    looking-taken (view (a .s) (a .keys .now) (a .links .now) (a .certs .now) (a .order .now)) _ (a .count) (a .room) (l .counts) (l .left) (l .k) (l .inv) (c .before .before .before .before .before .loop-test .taken) _ _ (c .before .before .before .look-one .ensures .0) (c .if1 .left) (p .1 .1) _ (c .before .before .before .look-one .ensures .1)
+
+returns-2 : tie.Need-returns-2 Inv-loop μ-loop
+returns-2 c =
+    let a = c .before .before .before .before .before .before .args in
+    let p = c .before .before .before .before .before .before .pre in
+    let l = c .before .loop in
+    let fk : Fit (a .keys .now) = λ q. c .before .before .before .before .before .shared-slice-known .given q .fits in
+    let fl : Fit (a .links .now) = λ q. c .before .before .before .before .shared-slice-known2 .given q .fits in
+    looked-all (a .s) (a .keys .now) (a .links .now) (a .certs .now) (a .order .now) fk fl (p .0) _ (a .count) (p .1 .0) (a .room) (l .counts) (l .left) (l .k) (l .inv) (omega (arith, c .loop-test .left))
+
+pub look-all-spec : {M : Type 1} → statement M
+look-all-spec =
+    tie.close
+    (tie.spec
+    Inv-loop
+    μ-loop
+    loop-holds
+    sub-k
+    mul-e
+    array-copy-out-e
+    look-one-requires
+    returns
+    mul-counts
+    array-write-counts
+    sub-left
+    loop-less
+    loop-again
+    returns-2)

@@ -1,0 +1,124 @@
+// Added by document 01, 'Outlook': the anchors of a chain, oldest first. Nothing is written unless all of them pass.
+ghost use mathlib.Core.Path.{_≡_};
+ghost use mathlib.Core.Bool.{true};
+ghost use Prim.Native.Nat.{_*_, _≤_};
+ghost use lib.ListN.{length};
+ghost use Rattle.laws.specs.Bytes.{written};
+ghost use Rattle.spec.specs.Rules.{counts};
+ghost use Rattle.spec.specs.Walk.{Rising};
+ghost use Rattle.dag_test.specs.View.{view};
+ghost use Rattle.back_chain.specs.Chain.{chainOf};
+ghost use Rattle.commit_outlook.specs.Chain.{looksIn, Placed, Looked, Told};
+use crate::look::look_one;
+use back_walk::Enqueued;
+use commit_record::bytes::put_id;
+use commit_record::bytes::put_u32;
+use dag_state::state::State;
+use models::parts::Round;
+
+// What stopped the anchors, 0 if nothing did, with the round of a history conflict; the number of points of each, in the list's order.
+pub struct Looks {
+    pub code: u32,
+    pub round: Round,
+    pub counts: [u32; 512],
+}
+
+// What an outlook was refused with, 0 if it wasn't, with the round of a history conflict.
+pub struct End {
+    pub code: u32,
+    pub round: Round,
+}
+
+// The `count` anchors of the list, which has the newest first, with `room` bytes for them; up to the first that is refused.
+pub fn look_all(
+    s: State,
+    keys: &[u64],
+    links: &[u64],
+    certs: &[u64],
+    order: &[u64],
+    list: [Enqueued; 512],
+    count: usize,
+    room: usize,
+) -> Looks
+    requires { ⌜ counts (view s (now keys) (now links) (now certs) (now order)) ≡ true ⌝ }
+    requires { ⌜ Rising (view s (now keys) (now links) (now certs) (now order)) 0 (chainOf list count) ⌝ }
+    requires { ⌜ count ≤ 512 ⌝ }
+    ensures { λ r. ⌜ Looked (view s (now (keys .entry)) (now (links .entry)) (now (certs .entry)) (now (order .entry))) (now (keys .entry)) room list count (r .code) (r .round .0) (r .counts) ⌝ }
+{
+    let mut counts: [u32; 512] = [0; 512];
+    let mut left = room;
+    let mut k = count;
+    while 0 < k {
+        k -= 1;
+        let e = list[k];
+        let o = look_one(s, keys, links, certs, order, e, left);
+        let round = o.round;
+        if o.code != 0 {
+            return Looks {
+                code: o.code,
+                round,
+                counts,
+            };
+        }
+        counts[k] = o.count;
+        left -= 41;
+    }
+    Looks {
+        code: 0,
+        round: Round(0),
+        counts,
+    }
+}
+
+// The id and the number of each anchor, oldest first, from the buffer's first byte on.
+pub fn put_looks(
+    keys: &[u64],
+    b: &mut [u8],
+    list: [Enqueued; 512],
+    count: usize,
+    counts: [u32; 512],
+)
+    requires { ⌜ count ≤ 512 ⌝ }
+    requires { ⌜ count * 41 ≤ length (now b) ⌝ }
+    requires { ⌜ Placed (now keys) list count ⌝ }
+    ensures { λ r. ⌜ now (b .exit) ≡ written (now (b .entry)) 0 (looksIn (now (keys .entry)) list counts count) ⌝ }
+{
+    let mut at: usize = 0;
+    let mut k = count;
+    while 0 < k {
+        k -= 1;
+        let e = list[k];
+        let n = counts[k];
+        let m = put_id(b, at, keys, e.anchor);
+        at = put_u32(b, m, n as u64);
+    }
+}
+
+// The anchors of a chain told into the buffer; a refusal leaves it as it was.
+pub fn look_chain(
+    s: State,
+    keys: &[u64],
+    links: &[u64],
+    certs: &[u64],
+    order: &[u64],
+    b: &mut [u8],
+    list: [Enqueued; 512],
+    count: usize,
+) -> End
+    requires { ⌜ counts (view s (now keys) (now links) (now certs) (now order)) ≡ true ⌝ }
+    requires { ⌜ Rising (view s (now keys) (now links) (now certs) (now order)) 0 (chainOf list count) ⌝ }
+    requires { ⌜ count ≤ 512 ⌝ }
+    ensures { λ r. ⌜ Told (view s (now (keys .entry)) (now (links .entry)) (now (certs .entry)) (now (order .entry))) (now (b .entry)) (chainOf list count) (r .code) (r .round .0) (now (b .exit)) ⌝ }
+{
+    let looks = look_all(s, keys, links, certs, order, list, count, b.len());
+    let round = looks.round;
+    if looks.code != 0 {
+        return End {
+            code: looks.code,
+            round,
+        };
+    }
+    let counts = looks.counts;
+    put_looks(keys, b, list, count, counts);
+    End { code: 0, round }
+}

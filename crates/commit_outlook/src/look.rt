@@ -1,0 +1,61 @@
+// Added by document 01, 'Outlook': one anchor is tested as for a commit, but for the gap question, and its history's points are counted.
+ghost use mathlib.Core.Path.{_≡_};
+ghost use mathlib.Core.Bool.{true};
+ghost use lib.ListN.{length};
+ghost use Rattle.spec.specs.Rules.{counts};
+ghost use Rattle.spec.specs.History.{history};
+ghost use Rattle.spec.specs.Walk.{Anchored};
+ghost use Rattle.dag_test.specs.View.{view};
+ghost use Rattle.back_walk.specs.Visit.{enqueuedOf};
+ghost use Rattle.back_points.specs.Fault.{outOf};
+ghost use Rattle.commit_outlook.specs.Look.{lookAt};
+use back_points::anchor::test_anchor;
+use back_walk::Enqueued;
+use dag_state::state::State;
+use models::parts::Round;
+
+// What one anchor is refused with, 0 if it isn't, and the round of a history conflict; the number of points in its history.
+pub struct Look {
+    pub code: u32,
+    pub round: Round,
+    pub count: u32,
+}
+
+// One anchor, with `left` bytes of the buffer left.
+pub fn look_one(
+    s: State,
+    keys: &[u64],
+    links: &[u64],
+    certs: &[u64],
+    order: &[u64],
+    e: Enqueued,
+    left: usize,
+) -> Look
+    requires { ⌜ counts (view s (now keys) (now links) (now certs) (now order)) ≡ true ⌝ }
+    requires { ⌜ Anchored (view s (now keys) (now links) (now certs) (now order)) (enqueuedOf e) ⌝ }
+    ensures outcome { λ r. ⌜ outOf (r .code) (r .round .0) (e .anchor) ≡ lookAt (view s (now (keys .entry)) (now (links .entry)) (now (certs .entry)) (now (order .entry))) left (e .anchor) ⌝ }
+    ensures points { λ r. ⌜ r .count ≡ length (history (view s (now (keys .entry)) (now (links .entry)) (now (certs .entry)) (now (order .entry))) (e .anchor)) ⌝ }
+{
+    let t = test_anchor(s, keys, links, certs, order, e.anchor);
+    let round = t.round;
+    let count = t.count as u32;
+    if t.code != 0 {
+        return Look {
+            code: t.code,
+            round,
+            count,
+        };
+    }
+    if left < 41 {
+        return Look {
+            code: 21,
+            round,
+            count,
+        };
+    }
+    Look {
+        code: 0,
+        round,
+        count,
+    }
+}

@@ -1,0 +1,28 @@
+use mathlib.Core.Path.{refl}
+use Rattle.laws.specs.Bytes.{be-length}
+use Rattle.inspect_bytes.specs.Sent.{sent-wrote, sent-counted}
+use borrow.Author.Needs.{needs}
+use Rattle.inspect_bytes.proofs.emit_number.Statement.{statement}
+use Rattle.inspect_bytes.proofs.emit_number.Tie as tie
+
+put-number-requires : tie.Need-put-number-requires
+put-number-requires c κs = c .before .before .before .pre .0 .0 (c .before .if1 .taken)
+
+add-result : tie.Need-add-result
+add-result c = search needs
+
+same-length : tie.Need-same-length
+same-length c = search needs
+
+returns : tie.Need-returns
+returns c = sent-wrote _ _ _ _ _ _ _ (be-length _ _) refl (c .before .before .put-number .ensures) (c .before .before .before .before .if1 .taken)
+
+add-result-2 : tie.Need-add-result-2
+add-result-2 c = search needs
+
+returns-2 : tie.Need-returns-2
+returns-2 c = sent-counted _ _ _ _ _ _ (be-length _ _) refl (c .if1 .left)
+
+pub emit-number-spec : {M : Type 1} → statement M
+emit-number-spec =
+    tie.close (tie.spec put-number-requires add-result same-length returns add-result-2 returns-2)

@@ -1,0 +1,4 @@
+pub mod Places
+pub mod Tests
+pub mod Count
+pub mod Tally
