@@ -32,7 +32,7 @@ pub fn span_at(keys: &[u64], order: &[u64], n: usize, round: u32) -> Span
 }
 
 // Whether the point at place q is by this author and passes the test of this number.
-fn passes(keys: &[u64], certs: &[u64], q: usize, author: u32, which: u32) -> bool
+pub fn passes(keys: &[u64], certs: &[u64], q: usize, author: u32, which: u32) -> bool
     requires { ⌜ (q * 8 + 8 ≤ length (now keys)) × (q < length (now certs)) ⌝ }
     ensures { λ r. ⌜ r ≡ passes (now (keys .entry)) (now (certs .entry)) author which q ⌝ }
 {
