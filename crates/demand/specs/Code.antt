@@ -4,14 +4,15 @@ use Prim.Native.Nat.{ℕ, suc}
 use mathlib.Core.Path.{_≡_, refl, sym, _∙_, subst, ap, ap₂}
 use mathlib.Core.Bool.{true}
 use mathlib.Core.List.{List, [], _∷_, _++_, map}
+use lib.Dec.{eqb}
 use Rattle.laws.specs.Lists.{NoDup, joined}
 use Rattle.spec.specs.Ids.{Id}
-use Rattle.spec.specs.Store.{Store}
+use Rattle.spec.specs.Store.{Store, retained}
 use Rattle.spec.specs.Rules.{counts}
 use Rattle.spec.specs.Calls as calls
 use Rattle.spec.specs.Chain.{number, conflict}
 use Rattle.spec.specs.Calls.{Call, Beginning, start, commit, call, done, said, handed, refused}
-use Rattle.spec.specs.Demand.{AllInList, after, History, wrote, histories, Given, gave, resolutions, AllExact, AllArrive}
+use Rattle.spec.specs.Demand.{AllInList, after, History, wrote, histories, Given, gave, resolutions, AllExact, AsSaid, AllAsSaid, AllArrive}
 use Rattle.spec.specs.Level.{Sized}
 use Rattle.spec.specs.Proof.{demand-3}
 use Rattle.models.specs.Digest.{Fit}
@@ -61,11 +62,16 @@ unfoldable pub resolutionsIn : List Made → List Given
 resolutionsIn [] = []
 resolutionsIn (m ∷ ms) = gave (m .what) (answerOf (m .answer)) ++ resolutionsIn ms
 
+-- what each call writes, that a start inside is refused, and which rounds are retained
+abbrev pub AllSaid : List Made → Type 0
+AllSaid [] = Unit {0}
+AllSaid (m ∷ ms) = AsSaid (seen (m .before)) (m .what) (outcome m) × AllSaid ms
+
 -- "no point stands in two histories or twice in one, and each history holds exactly the points .. that any path from the anchor reaches and
--- no earlier history held": after a start of the code that answers done
+-- no earlier history held": after a start of the code that answers done. Each call does as said, and the start adds its bottom, no other round
 abbrev pub FirstHalf : Type 0
 FirstHalf = (s : Made) (b : Beginning) (ms : List Made) → s .what ≡ start b → Meets s → answerOf (s .answer) ≡ done → Runs (s .left) ms → AllInList (callsOf ms)
-    → NoDup (joined (λ (h : History). h .ids) (historiesIn ms)) × AllExact (resolutionsIn ms) [] (historiesIn ms)
+    → NoDup (joined (λ (h : History). h .ids) (historiesIn ms)) × AllExact (resolutionsIn ms) [] (historiesIn ms) × AllSaid ms × ((r : ℕ) → retained (seen (s .left)) r ≡ eqb r (b .bottom))
 
 -- "The second list begins at any tables that count as started", of 64-bit words. "The commit after it is compared with the same one made
 -- there at once: the whole answer, every byte of the buffer."
@@ -108,6 +114,13 @@ resolutions-is s d (m ∷ ms) e (b, h, r) =
     let k : seen (m .before) ≡ s = ap seen b ∙ e in
     ap₂ _++_ (ap (gave (m .what)) (sym (answer-is m) ∙ (ap (λ (o : calls.Outcome). o .answer) h ∙ ap (λ t. call t (m .what) .answer) k))) (resolutions-is (call s (m .what) .store) (m .left) ms (store-is m s k h) r)
 
+said-is : (s : Store) (d : Board) (ms : List Made) → seen d ≡ s → Runs d ms → AllAsSaid s (callsOf ms) → AllSaid ms
+said-is s d [] e r a = tt
+said-is s d (m ∷ ms) e (b, h, r) (a, rest) =
+    let k : seen (m .before) ≡ s = ap seen b ∙ e in
+    let o : outcome m ≡ call s (m .what) = h ∙ ap (λ t. call t (m .what)) k in
+    (subst (λ t. AsSaid t (m .what) (outcome m)) (sym k) (subst (AsSaid s (m .what)) (sym o) a), said-is (call s (m .what) .store) (m .left) ms (store-is m s k h) r rest)
+
 last-is : (s : Store) (d : Board) (ms : List Made) → seen d ≡ s → Runs d ms → seen (lastBoard d ms) ≡ after s (callsOf ms)
 unfolding lastBoard after
 last-is s d [] e r = e
@@ -148,8 +161,13 @@ first-half s b ms f h a r i =
     let o : outcome s ≡ call (seen (s .before)) (start b) = made-is s (seen (s .before)) (start b) refl f h in
     let t : call (seen (s .before)) (start b) .store ≡ seen (s .left) = ap (λ (x : calls.Outcome). x .store) (sym o) ∙ left-is s in
     let e : seen (s .left) ≡ call (seen (s .before)) (start b) .store = sym t in
-    let k = demand-3 .0 (seen (s .before)) b (callsOf ms) (ap (λ (x : calls.Outcome). x .answer) (sym o) ∙ (answer-is s ∙ a)) i in
-    rw (histories-is (call (seen (s .before)) (start b) .store) (s .left) ms e r, resolutions-is (call (seen (s .before)) (start b) .store) (s .left) ms e r) k
+    let (x, y, z, w) = demand-3 .0 (seen (s .before)) b (callsOf ms) (ap (λ (x : calls.Outcome). x .answer) (sym o) ∙ (answer-is s ∙ a)) i in
+    let hs : historiesIn ms ≡ histories (call (seen (s .before)) (start b) .store) (callsOf ms) = histories-is (call (seen (s .before)) (start b) .store) (s .left) ms e r in (
+      rw hs x,
+      rw (hs, resolutions-is (call (seen (s .before)) (start b) .store) (s .left) ms e r) y,
+      said-is (call (seen (s .before)) (start b) .store) (s .left) ms e r z,
+      λ q. subst (λ u. retained u q ≡ eqb q (b .bottom)) t (w q),
+    )
 
 second-half : SecondHalf
 second-half d fk fl c i b n m l ms m0 m1 m2 a r v l0 l1 l2 =

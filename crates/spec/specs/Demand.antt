@@ -1,19 +1,21 @@
 -- Demand 3, the statement (01: 'Demand 3'). Its proof is in Proof.antt.
-use Prim.Native.Nat.{ℕ, zero, suc, _+_, _*_, _^_, _<_, _≤_}
+use Prim.Native.Nat.{ℕ, zero, suc, _+_, _-_, _*_, _^_, _<_, _≤_}
 use mathlib.Core.Path.{_≡_}
-use mathlib.Core.Logic.{_≢_, _↔_}
-use mathlib.Core.Bool.{true}
-use mathlib.Core.List.{List, [], _∷_, _++_, List·Memᴰ}
+use mathlib.Core.Logic.{_⊎_, _≢_, _↔_}
+use mathlib.Core.Bool.{Bool, true, false, not, _&&_, _||_}
+use mathlib.Core.List.{List, [], _∷_, _++_, map, List·Memᴰ}
 use mathlib.Core.Option.{some}
-use lib.ListN.{take, drop}
+use lib.Dec.{eqb, ltb}
+use lib.ListN.{length, take, drop}
 use Rattle.laws.specs.Lists.{NoDup, joined}
 use Rattle.laws.specs.Bytes.{value}
 use Rattle.spec.specs.Ids.{Id, Link, linksOf, fits}
-use Rattle.spec.specs.Store.{Told, Store, find, statusAt, retained}
+use Rattle.spec.specs.Store.{Told, Store, idAt, find, statusAt, retained}
 use Rattle.spec.specs.Paths.{Path}
 use Rattle.spec.specs.Rules.{counts}
-use Rattle.spec.specs.History.{limit}
-use Rattle.spec.specs.Calls.{Answer, done, said, handed, refused, Outcome, Beginning, Call, start, resetAll, round, name, resolve, certify, ask, commit, outlook, remove, drop as dropTo, call}
+use Rattle.spec.specs.Chain.{Refusal, number, Out, bad, good, Enqueued, anchorsOf}
+use Rattle.spec.specs.History.{limit, recordBytes, testAnchor, committedAt}
+use Rattle.spec.specs.Calls.{Answer, done, said, handed, refused, Outcome, quiet, Beginning, Call, start, resetAll, round, name, resolve, certify, ask, commit, outlook, remove, drop as dropTo, call}
 use Rattle.spec.specs.Level.{Sized}
 
 -- ---- lists of calls
@@ -92,6 +94,62 @@ pub record Edge (G : List Given) (x y : Id) : Type 0 where
   pub of : List·Memᴰ link (given .links)
   pub leads : fits (x .round) y link ≡ true
 
+-- ---- what each call of the list does
+
+-- "each anchor, oldest first, is tested for 22, for 13 to 15 over its history downwards, then 17, 18, 20, 21 .. Finished anchors keep their
+-- records and marks": the tests of the anchor e, on the store and with the bytes of the buffer that the anchors before it leave
+unfoldable pub testAfter : Store → ℕ → List Enqueued → Enqueued → Out ℕ
+testAfter s left [] e = testAnchor s left (length (recordBytes s e)) (e .anchor)
+testAfter s left (x ∷ before) e = testAfter (committedAt s x) (left - length (recordBytes s x)) before e
+
+-- "stopping before one that the tests above refuse", with just that refusal; where none is refused, all anchors of the chain are finished
+abbrev pub Stops : Store → ℕ → List Enqueued → List Enqueued → Answer → Type 0
+Stops s left first [] a = a ≡ handed (length first)
+Stops s left first (e ∷ more) a = (r : Refusal) × (testAfter s left first e ≡ bad r) × (a ≡ refused r (length first))
+
+-- "one for each anchor of its chain, oldest first": the records in the buffer are those of the chain's first anchors, and these pass the tests
+pub record OneForEach (s : Store) (b : List ℕ) (chain : List Enqueued) (o : Outcome) : Type 0 where
+  pub first : List Enqueued
+  pub others : List Enqueued
+  pub oldest : chain ≡ first ++ others
+  pub one : map (λ (h : History). h .anchor) (readRecords s (finished (o .answer)) (o .buffer)) ≡ map (λ (e : Enqueued). idAt s (e .anchor)) first
+  pub pass : (before more : List Enqueued) (e : Enqueued) → first ≡ before ++ (e ∷ more) → (n : ℕ) × (testAfter s (length b) before e ≡ good n)
+  pub stop : Stops s (length b) first others (o .answer)
+
+-- "A commit turned away, or refused by the end of its walk, writes none; any other writes one for each anchor of its chain, oldest first,
+-- stopping before one that the tests above refuse."
+abbrev pub Writes : Store → List ℕ → Out (List Enqueued) → Outcome → Type 0
+Writes s b (good []) o = o ≡ record { answer = handed 0; store = s; buffer = b }
+Writes s b (bad r) o = o ≡ record { answer = refused r 0; store = s; buffer = b }
+Writes s b (good (e ∷ es)) o = OneForEach s b (e ∷ es) o
+
+-- "a start inside it is refused": by 1, or by 2 as "start twice"
+abbrev pub StartRefused : Store → Outcome → Type 0
+StartRefused s o = (o ≡ quiet s (refused (number 1) 0)) ⊎ (o ≡ quiet s (refused (number 2) 0))
+
+unfoldable pub isDone : Answer → Bool
+isDone a = elim a [ done ↦ true | said b ↦ false | handed n ↦ false | refused r n ↦ false ]
+
+-- the call adds the round r: "Adding a round at or below the top does nothing."
+unfoldable pub adds : Store → Call → Answer → ℕ → Bool
+adds s c a r = elim c [ start b ↦ false | resetAll ↦ false | round x peers ↦ isDone a && (eqb r x && ltb (s .top) x) | name i ↦ false | resolve i t ↦ false | certify i ↦ false | ask ↦ false | commit i b ↦ false | outlook i b ↦ false | remove x from b ↦ false | dropTo x ↦ false ]
+
+-- the call drains the round r: a drop what is below its round, a remove, unless refused, what is more than H below its own; never the top
+unfoldable pub drains : Store → Call → Answer → ℕ → Bool
+drains s c a r = elim c [ start b ↦ false | resetAll ↦ false | round x peers ↦ false | name i ↦ false | resolve i t ↦ false | certify i ↦ false | ask ↦ false | commit i b ↦ false | outlook i b ↦ false | remove x from b ↦ isDone a && (ltb r (x - s .conf .historyRounds) && ltb r (s .top)) | dropTo x ↦ ltb r x && ltb r (s .top) ]
+
+-- "A round is retained from the start or call that adds it until a drop or remove drains it"
+abbrev pub Retains : Store → Call → Outcome → Type 0
+Retains s c o = (r : ℕ) → retained (o .store) r ≡ ((retained s r || adds s c (o .answer) r) && not (drains s c (o .answer) r))
+
+-- a call that finds the store s and leaves o
+abbrev pub AsSaid : Store → Call → Outcome → Type 0
+AsSaid s c o = ((i : Id) (b : List ℕ) → c ≡ commit i b → Writes s b (anchorsOf s i) o) × ((b : Beginning) → c ≡ start b → StartRefused s o) × Retains s c o
+
+abbrev pub AllAsSaid : Store → List Call → Type 0
+AllAsSaid s [] = Unit {0}
+AllAsSaid s (c ∷ cs) = AsSaid s c (call s c) × AllAsSaid (call s c .store) cs
+
 -- ---- the first half
 
 -- "each history holds exactly the points of the retained rounds, from limit to anchor, that any path from the anchor reaches and no earlier
@@ -104,10 +162,11 @@ abbrev pub AllExact : List Given → List Id → List History → Type 0
 AllExact G earlier [] = Unit {0}
 AllExact G earlier (h ∷ hs) = Exact G earlier h × AllExact G (earlier ++ h .ids) hs
 
--- "After a start that isn't refused, for ANY list of the ten calls": "no point stands in two histories or twice in one", and each is exact
+-- "After a start that isn't refused, for ANY list of the ten calls": "no point stands in two histories or twice in one", and each is exact;
+-- each call does as said, and the start adds its bottom, no other round
 abbrev pub FirstHalf : Type 0
 FirstHalf = (s : Store) (b : Beginning) (cs : List Call) → call s (start b) .answer ≡ done → AllInList cs
-    → let t = call s (start b) .store in NoDup (joined (λ (h : History). h .ids) (histories t cs)) × AllExact (resolutions t cs) [] (histories t cs)
+    → let t = call s (start b) .store in NoDup (joined (λ (h : History). h .ids) (histories t cs)) × AllExact (resolutions t cs) [] (histories t cs) × AllAsSaid t cs × ((r : ℕ) → retained t r ≡ eqb r (b .bottom))
 
 -- ---- the second half
 

@@ -25,7 +25,7 @@ use Rattle.spec.specs.Order.{history-named}
 use Rattle.spec.specs.Walk.{find-some, Anchored, Rising, rising-less, Tested, test-good}
 use Rattle.spec.specs.Ways.{finish-store, ask-way, remove-way, drop-way, round-way, Naming, name-way, Resolving, resolve-way, certify-way}
 use Rattle.spec.specs.Demand.{InList}
-use Rattle.spec.specs.Records.{Event, passed}
+use Rattle.spec.specs.Records.{Event, passed, room-left}
 use Rattle.spec.specs.Kept.{name-at, name-off, name-link, name-kept, round-kept, res-kept, cert-kept, drain-kept, numbers-kept, rising-mark, anchors-rising, start-same, new-bottom}
 use Rattle.spec.specs.Inv.{Inv, floor, Next, mark-inv}
 
@@ -226,9 +226,6 @@ rest-rising s e es (l, o, r) = rising-less (committedAt s e) _ (suc (roundAt s (
   where
     fit : (p b a w : ℕ) → p ≡ suc a → max w b ≤ a → max p b ≤ suc a
     fit p b a w e h = omega arith
-
-room-left : (b at n size : ℕ) → n ≡ b → b - at - size ≡ n - (at + size)
-room-left b at n size e = omega arith
 
 -- the anchors of a chain are committed rightly
 pub commit-right : (s : Store) (hs : List Id) (b : List ℕ) (at n : ℕ) (es : List Enqueued) → Inv s hs → Rising s (lowestWalked s) es

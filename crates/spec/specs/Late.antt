@@ -1,9 +1,9 @@
 -- Late arrivals: what rounds, names, resolutions and certificates leave as it was, and that a commit reads only that.
 use Prim.Native.Nat.{ℕ, zero, suc, _+_, _-_, _≤_, _<_}
-use mathlib.Core.Path.{_≡_, refl, sym, _∙_, subst, subst₂, ap, ap₂}
+use mathlib.Core.Path.{_≡_, refl, sym, _∙_, subst, subst₂, ap}
 use mathlib.Core.Logic.{_⊎_, inl, inr}
 use mathlib.Core.Bool.{Bool, true, false, not, _&&_, _||_, cond}
-use mathlib.Core.List.{List, [], _∷_, _++_, map, List·Memᴰ, List·Memᴰ·head, List·Memᴰ·tail}
+use mathlib.Core.List.{List, [], _∷_, _++_, map, List·Memᴰ}
 use mathlib.Core.Option.{none, some}
 use lib.Dec.{eqb, leb, ltb}
 use lib.ListN.{length}
@@ -11,7 +11,7 @@ use borrow.Author.Tests.{eqb-true, lt-ltb, le-ltb}
 use native.Mathlib.Omega.{arith}
 use Rattle.laws.specs.Test.{byTest, both, and-l, and-r, or-l, or-r, or-cases, same-test}
 use Rattle.laws.specs.Scan.{lowest-finds, those, those-elim, those-same}
-use Rattle.laws.specs.Lists.{joined}
+use Rattle.laws.specs.Lists.{map-same, joined}
 use Rattle.laws.specs.Sort.{sort}
 use Rattle.laws.specs.Bytes.{be, written}
 use Rattle.spec.specs.Ids.{Id, sameId, idBytes, rises, prev}
@@ -297,10 +297,6 @@ module _ (s t : Store) (ws : Wf s) (wt : Wf t) (la : Late s t) where
 pub fits-in : (s : Store) → Wf s → (a : ℕ) → s .pt a .named ≡ true → lowest s a ≤ suc (roundAt s a)
 unfolding limit
 fits-in s w a n = omega (arith, w .low, w .kept a n .0)
-
-map-same : {A : Type 0} (f g : ℕ → A) (l : List ℕ) → ((i : ℕ) → List·Memᴰ i l → f i ≡ g i) → map f l ≡ map g l
-map-same f g [] h = refl
-map-same f g (x ∷ xs) h = ap₂ _∷_ (h x (List·Memᴰ·head refl)) (map-same f g xs (λ i m. h i (List·Memᴰ·tail m)))
 
 history-needed : (s : Store) (a q : ℕ) → inHistory s a q ≡ true → needed s a q ≡ true
 unfolding inHistory

@@ -18,6 +18,7 @@ pub mod Walk
 pub mod Ways
 pub mod Refusals
 pub mod Kept
+pub mod Inspection
 pub mod Demand
 pub mod Late
 pub mod Second
@@ -26,6 +27,7 @@ pub mod Records
 pub mod Inv
 pub mod First
 pub mod Whole
+pub mod Said
 pub mod Proof
 pub mod Play
 pub mod Cases

@@ -1,11 +1,11 @@
 -- Demand 3: the proof of the statement in Demand.antt.
-use Prim.Native.Nat.{ℕ, suc, _+_, _-_, _^_, _≤_, _<_, max}
+use Prim.Native.Nat.{ℕ, _+_, _-_, _^_, _≤_, _<_, max}
 use mathlib.Core.Path.{_≡_, refl, sym, _∙_, subst, ap, ap₂}
 use mathlib.Core.Logic.{_⊎_, inl, inr, _↔_, ⊎-elim}
 use mathlib.Core.Bool.{true, false, false≢true}
 use mathlib.Core.List.{List, [], _∷_, _++_, map, append-assoc, append-nil, List·Memᴰ, List·Memᴰ·head, List·Memᴰ·tail, List·Memᴰ·not-nil, List·Memᴰ·cases-cons, List·Memᴰ·append-cases, List·Memᴰ·eq-of-singleton, Memᴰ·append-left, Memᴰ·append-right}
 use mathlib.Core.Option.{Option, none, some}
-use lib.Dec.{ltb}
+use lib.Dec.{eqb, ltb}
 use lib.ListN.{length, take, length-map}
 use borrow.Author.Tests.{leb-true, le-leb, ltb-true}
 use native.Mathlib.Omega.{arith}
@@ -13,7 +13,6 @@ use native.Mathlib.Nat.{le-trans, sub-zero, zero-add}
 use Rattle.laws.specs.Test.{yes-or-no, both, and-l, and-r}
 use Rattle.laws.specs.Scan.{those, those-most}
 use Rattle.laws.specs.Lists.{NoDup, nodup-append, joined}
-use Rattle.laws.specs.Bytes.{written}
 use Rattle.laws.specs.Sort.{sort-length}
 use Rattle.spec.specs.Ids.{Id, rises}
 use Rattle.spec.specs.Store.{Told, Progress, Memory, Store, idAt, roundAt, resolved, retained, withNumbers}
@@ -27,12 +26,13 @@ use Rattle.spec.specs.Links.{down, linked}
 use Rattle.spec.specs.Started.{Wf}
 use Rattle.spec.specs.Order.{history-elim, history-named, history-once}
 use Rattle.spec.specs.Ways.{finish-store, ask-way, remove-way, drop-way, round-way, name-way, resolve-way, certify-way}
-use Rattle.spec.specs.Demand.{InList, AllInList, History, readRecords, finished, wrote, histories, Given, accepted, gave, resolutions, Edge, Exact, AllExact, FirstHalf, Demand3}
+use Rattle.spec.specs.Demand.{InList, AllInList, History, readRecords, finished, wrote, histories, Given, accepted, gave, resolutions, Edge, Exact, AllExact, Writes, StartRefused, AsSaid, AllAsSaid, FirstHalf, Demand3}
 use Rattle.spec.specs.Second.{commit-is, second-half}
 use Rattle.spec.specs.Records.{Fits, Event, passed, bytesOf, commit-buffer, Readable, read-all, readAs}
 use Rattle.spec.specs.Kept.{begun-kept, call-act, start-begun, start-same, new-bottom}
 use Rattle.spec.specs.Inv.{Inv, hist-paths, history-is}
 use Rattle.spec.specs.First.{ids, allIds, Right, AllRight, finishes, eventsOf, Keeps, call-keeps, outlook-store}
+use Rattle.spec.specs.Said.{Frame, frame-mark, commit-keeps-all, anchorId, commit-writes, start-refused, act-retains, begun-retains}
 use Rattle.spec.specs.Whole.{givenOf, given, Log, edge-down, path-under, edge-link, ids→places, places→ids, numbers-log, round-log, cert-log, mark-log, drain-log, name-log, res-log, res-first}
 
 -- ---- one history
@@ -69,10 +69,6 @@ path-less s G L w g n a b low-b solid x y (step {q = z} d u) p e o v l = go (Lis
 
         on : (q : ℕ) × (idAt s q ≡ z) × E s p q × (s .pt q .named ≡ true) → Path (Edge G) x y
         on (q, k, t, h) = step old (i q k h (snoc v t) l)
-
--- the store at the call and the one that an anchor of it was committed from
-abbrev pub Frame : Store → Store → Type 0
-Frame s u = (u .bottom ≡ s .bottom) × (u .top ≡ s .top) × (u .conf ≡ s .conf)
 
 max-below : (x y n : ℕ) → x ≤ n → y ≤ n → max x y ≤ n
 max-below x y n a b = omega arith
@@ -169,10 +165,6 @@ passed-from P k s left (x ∷ xs) h e m = go (testAnchor s left (length (recordB
     go : (o : Out ℕ) → List·Memᴰ e (evs o) → (List·Memᴰ e (passed (committedAt s x) (left - length (recordBytes s x)) xs) → P (e .from)) → P (e .from)
     go (bad r) n i = absurd (List·Memᴰ·not-nil n)
     go (good a) n i = ⊎-elim (λ d. subst (λ (y : Event). P (y .from)) (sym d) h) i (List·Memᴰ·cases-cons n)
-
-frame-mark : (s u : Store) (e : Enqueued) → Frame s u → Frame s (committedAt u e)
-unfolding committedAt
-frame-mark s u e f = f
 
 events-from : (P : Store → Type 0) → ((s : Store) (e : Enqueued) → P s → P (committedAt s e)) → (s : Store) (c : Call) → P s → (e : Event) → List·Memᴰ e (eventsOf s c) → P (e .from)
 unfolding eventsOf finishes
@@ -294,31 +286,8 @@ resolve-log s G i t w l = go (doResolve s i t) refl
     go (bad r) e = nothing s G l
     go (good x) e = let r = resolve-way s i t x e in subst (λ y. Log y (G ++ (given i t ∷ []))) (r .is) (res-log s i t x w r G l)
 
-commit-store-log : (s : Store) (G : List Given) (b : List ℕ) (at n : ℕ) (es : List Enqueued) → Log s G → Log (commitAll s b at n es .store) G
-unfolding commitAll
-commit-store-log s G b at n [] l = l
-commit-store-log s G b at n (e ∷ es) l = go (testAnchor s (length b - at) (length (recordBytes s e)) (e .anchor)) (λ b at n. commit-store-log (committedAt s e) G b at n es (mark-log G s e l))
-  where
-    fin : Out ℕ → Finished
-    fin o = elim o [
-      | bad r ↦ record { store = s; buffer = b; anchors = n; stopped = some r }
-      | good a ↦ commitAll (committedAt s e) (written b at (recordBytes s e)) (at + length (recordBytes s e)) (suc n) es
-    ]
-
-    go : (o : Out ℕ) → ((b : List ℕ) (at n : ℕ) → Log (commitAll (committedAt s e) b at n es .store) G) → Log (fin o .store) G
-    go (bad r) i = l
-    go (good a) i = i (written b at (recordBytes s e)) (at + length (recordBytes s e)) (suc n)
-
 start-log : (s : Store) (b : Beginning) (G : List Given) → Wf s → Log s G → Log (doStart s b .store) G
 start-log s b G w l = subst (λ t. Log t G) (sym (start-same s w b)) l
-
-commit-log : (s : Store) (i : Id) (b : List ℕ) (G : List Given) → Log s G → Log (doCommit s i b .store) G
-unfolding doCommit commitEnd
-commit-log s i b G l = go (anchorsOf s i)
-  where
-    go : (o : Out (List Enqueued)) → Log ((elim o as (λ x. Outcome) [ bad r ↦ record { answer = refused r 0; store = s; buffer = b } | good es ↦ commitEnd (commitAll s b 0 0 es) ]) .store) G
-    go (bad r) = l
-    go (good es) = commit-store-log s G b 0 0 es l
 
 drained-log : (s : Store) (r : ℕ) (p : Progress) (m : Memory) (G : List Given) → Wf s → Log s G → Log (withNumbers (drained s (newBottom s r)) p m) G
 drained-log s r p m G w l = numbers-log (drained s (newBottom s r)) p m G (drain-log s (newBottom s r) (new-bottom s w r .0) G l)
@@ -332,7 +301,7 @@ call-log s (name i) G w h l = nothing _ G (finish-store (λ t. Log t G) s _ l (�
 call-log s (resolve i t) G w h l = resolve-log s G i t w l
 call-log s (certify i) G w h l = nothing _ G (finish-store (λ t. Log t G) s _ l (λ t k. let c = certify-way s i t k in subst (λ x. Log x G) (c .is) (cert-log s (c .place) G l)))
 call-log s ask G w h l = nothing _ G (ask-way (λ t. Log t G) s l (λ p a b. numbers-log s p _ G l))
-call-log s (commit i b) G w h l = nothing _ G (commit-log s i b G l)
+call-log s (commit i b) G w h l = nothing _ G (commit-keeps-all (λ u. Log u G) (λ u x. mark-log G u x) s i b l)
 call-log s (outlook i b) G w h l = nothing _ G (subst (λ t. Log t G) (sym (outlook-store s i b)) l)
 call-log s (remove r from b) G w h l = nothing _ G (remove-way (λ t. Log t G) s r from b l (λ m. drained-log s (r - s .conf .historyRounds) _ m G w l))
 call-log s (dropTo r) G w h l = nothing _ G (drop-way (λ t. Log t G) s r (λ p a b. drained-log s r p _ G w l))
@@ -442,6 +411,26 @@ apart G earlier (h ∷ hs) (e, a) (o, os) = go (apart G (earlier ++ h .ids) hs a
         → NoDup (h .ids ++ joined (λ (h : History). h .ids) hs) × ((x : Id) → List·Memᴰ x earlier → List·Memᴰ x (h .ids ++ joined (λ (h : History). h .ids) hs) → ⊥)
     go (n, d) = (nodup-append (h .ids) _ o n (λ x m k. d x (Memᴰ·append-right earlier m) k), λ x m k. ⊎-elim (λ y. e x .0 y .4 m) (λ y. d x (Memᴰ·append-left (h .ids) m) y) (List·Memᴰ·append-cases (h .ids) k))
 
+-- ---- each call as said
+
+written-anchors : (s : Store) (es : List Event) → map (λ (h : History). h .anchor) (asHistories s es) ≡ map anchorId es
+written-anchors s [] = refl
+written-anchors s (e ∷ es) = ap (λ l. anchorId e ∷ l) (written-anchors s es)
+
+act-said : (s : Store) (c : Call) (hs : List Id) → Wf s → InList c → AllRight hs (eventsOf s c) → AsSaid s c (act s c)
+unfolding act eventsOf wrote
+act-said s c hs w a r = (
+  λ i b e. subst (λ x. Writes s b (anchorsOf s i) (act s x)) (sym e) (commit-writes s i b (ap (map (λ (h : History). h .anchor)) (wrote-commit s hs i b (subst (λ x. AllRight hs (eventsOf s x)) e r)) ∙ written-anchors s (finishes s i b))),
+  λ b e. subst (λ x. StartRefused s (act s x)) (sym e) (start-refused s w b),
+  act-retains s w c a,
+)
+
+run-said : (s : Store) (cs : List Call) (hs : List Id) → Inv s hs → AllInList cs → AllAsSaid s cs
+run-said s [] hs v a = tt
+run-said s (c ∷ cs) hs v (a, rest) =
+    let k = call-keeps s c hs v a in
+    subst (λ (o : Outcome). AsSaid s c o × AllAsSaid (o .store) cs) (sym (call-act s (v .wf) c)) (act-said s c hs (v .wf) a (k .right), run-said (act s c .store) cs _ (k .inv) rest)
+
 -- ---- after a start
 
 begun-inv : (n : ℕ) (m : Memory) (b : Beginning) → startOk n b ≡ true → Inv (begun n m b) []
@@ -463,7 +452,8 @@ begun-log n m b = record { all = λ p k. absurd (false≢true k); only = λ g k.
 -- from the store that a start leaves
 whole : (n : ℕ) (m : Memory) (b : Beginning) (cs : List Call) → startOk n b ≡ true → AllInList cs
     → NoDup (joined (λ (h : History). h .ids) (histories (begun n m b) cs)) × AllExact (resolutions (begun n m b) cs) [] (histories (begun n m b) cs)
-whole n m b cs ok a = (apart _ [] (histories (begun n m b) cs) x (run-once (begun n m b) cs [] v a) .0, x)
+    × AllAsSaid (begun n m b) cs × ((r : ℕ) → retained (begun n m b) r ≡ eqb r (b .bottom))
+whole n m b cs ok a = (apart _ [] (histories (begun n m b) cs) x (run-once (begun n m b) cs [] v a) .0, x, run-said (begun n m b) cs [] v a, begun-retains n m b)
   where
     v : Inv (begun n m b) []
     v = begun-inv n m b ok
@@ -473,7 +463,7 @@ whole n m b cs ok a = (apart _ [] (histories (begun n m b) cs) x (run-once (begu
 
 pub first-half : FirstHalf
 first-half s b cs h a = let (ok, e) = start-begun s b h in
-    subst (λ t. NoDup (joined (λ (h : History). h .ids) (histories t cs)) × AllExact (resolutions t cs) [] (histories t cs)) (sym e) (whole (s .places) (memoryKept s) b cs ok a)
+    subst (λ t. NoDup (joined (λ (h : History). h .ids) (histories t cs)) × AllExact (resolutions t cs) [] (histories t cs) × AllAsSaid t cs × ((r : ℕ) → retained t r ≡ eqb r (b .bottom))) (sym e) (whole (s .places) (memoryKept s) b cs ok a)
 
 -- DEMAND 3
 pub demand-3 : Demand3

@@ -164,7 +164,7 @@ take-more b at vs l =
     ∙ (ap (λ (n : ℕ). take (n + length vs) (take at b ++ (vs ++ drop (at + length vs) b))) (sym (length-take-le at b (omega arith)))
     ∙ (take-append-add (take at b) (vs ++ drop (at + length vs) b) (length vs) ∙ ap (λ (t : List ℕ). take at b ++ t) (take-at vs (drop (at + length vs) b) (length vs) refl)))
 
-room-left : (b at n size : ℕ) → n ≡ b → b - at - size ≡ n - (at + size)
+pub room-left : (b at n size : ℕ) → n ≡ b → b - at - size ≡ n - (at + size)
 room-left b at n size e = omega arith
 
 -- the buffer after a commit: what stood before `at`, the records of the finished anchors, and a rest; and how many were finished
