@@ -152,8 +152,10 @@ AllAsSaid s (c ∷ cs) = AsSaid s c (call s c) × AllAsSaid (call s c .store) cs
 
 -- ---- the first half
 
--- "each history holds exactly the points of the retained rounds, from limit to anchor, that any path from the anchor reaches and no earlier
--- history held"; "each history goes by the rounds retained at its commit"
+-- Ours, of the demand: each history holds exactly the points of the retained rounds, from limit to anchor, that any path from the anchor
+-- reaches and that no earlier history held. 01: "each history goes by the rounds retained at its commit". The links G are those of all
+-- accepted resolutions of the list, later ones too: 01's path knows no time, and a resolution after the commit adds no path to its history,
+-- since every point on a path within it was resolved then.
 abbrev pub Exact : List Given → List Id → History → Type 0
 Exact G earlier h = (x : Id) → List·Memᴰ x (h .ids)
     ↔ ((retained (h .at) (x .round) ≡ true) × (limit (h .at .conf) (h .anchor .round) ≤ x .round) × (x .round ≤ h .anchor .round) × Path (Edge G) (h .anchor) x × (List·Memᴰ x earlier → ⊥))
@@ -162,15 +164,16 @@ abbrev pub AllExact : List Given → List Id → List History → Type 0
 AllExact G earlier [] = Unit {0}
 AllExact G earlier (h ∷ hs) = Exact G earlier h × AllExact G (earlier ++ h .ids) hs
 
--- "After a start that isn't refused, for ANY list of the ten calls": "no point stands in two histories or twice in one", and each is exact;
--- each call does as said, and the start adds its bottom, no other round
+-- Ours, of the demand: after a start that isn't refused, for any list of the ten calls, no point stands in two histories or twice in one,
+-- and each is exact; each call does as 01 says, and the start adds its bottom, no other round
 abbrev pub FirstHalf : Type 0
 FirstHalf = (s : Store) (b : Beginning) (cs : List Call) → call s (start b) .answer ≡ done → AllInList cs
     → let t = call s (start b) .store in NoDup (joined (λ (h : History). h .ids) (histories t cs)) × AllExact (resolutions t cs) [] (histories t cs) × AllAsSaid t cs × ((r : ℕ) → retained t r ≡ eqb r (b .bottom))
 
 -- ---- the second half
 
--- "rounds, names, resolutions and certificates"; "No certificate in this list names a point that has status 2 at that call."
+-- Ours, of the demand: late rounds, names, resolutions and certificates. 01: "No certificate in this list names a point that has status 2
+-- at that call."
 abbrev pub Arrives : Store → Call → Type 0
 Arrives s c = elim c [ start b ↦ ⊥ | resetAll ↦ ⊥ | round r peers ↦ Unit {0} | name i ↦ Unit {0} | resolve i t ↦ Unit {0} | certify i ↦ (q : ℕ) → find s i ≡ some q → statusAt s q ≢ 2 | ask ↦ ⊥ | commit i b ↦ ⊥ | outlook i b ↦ ⊥ | remove r from b ↦ ⊥ | dropTo r ↦ ⊥ ]
 
