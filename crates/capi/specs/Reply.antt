@@ -14,9 +14,10 @@ use Rattle.dag_state.specs.declared.state.State.{State}
 use Rattle.dag_state.specs.declared.back.UsedAuthor.{UsedAuthor}
 use Rattle.dag_state.specs.declared.back.UsedAuthor.the-variants.{Nobody, Peer}
 use Rattle.dag_state.specs.declared.back.Beginning.{Beginning}
-use Rattle.commit_answer.specs.Answer.{Board, board, seen, leaves, answerOf, refusalOf, isRefused, Kept}
-use Rattle.commit_answer.specs.declared.answer.Refusal.{Refusal}
-use Rattle.commit_answer.specs.declared.answer.Refusal.the-variants as why
+use Rattle.models.specs.Refusal.{refusalOf}
+use Rattle.commit_answer.specs.Answer.{Board, board, seen, leaves, answerOf, isRefused, Kept}
+use Rattle.models.specs.declared.refusal.Refusal.{Refusal}
+use Rattle.models.specs.declared.refusal.Refusal.the-variants as why
 use Rattle.commit_answer.specs.declared.answer.Answer.{Answer}
 use Rattle.commit_answer.specs.declared.answer.Answer.the-variants as answer
 use Rattle.commit_answer.specs.declared.answer.Outcome.{Outcome}

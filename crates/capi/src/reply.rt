@@ -2,12 +2,12 @@
 ghost use mathlib.Core.Path.{_≡_};
 ghost use mathlib.Core.Bool.{cond};
 ghost use Rattle.spec.specs.Calls.{numberOf};
-ghost use Rattle.commit_answer.specs.Answer.{refusalOf};
+ghost use Rattle.models.specs.Refusal.{refusalOf};
 ghost use Rattle.capi.specs.Reply.{replyOf, roundIn};
 use commit_answer::answer::Answer;
 use commit_answer::answer::Outcome;
-use commit_answer::answer::Refusal;
 use dag_state::state::State;
+use models::refusal::Refusal;
 
 // refused: document 01's number, 0 for none. said: 1 for yes. anchors: handed out, or finished before a refusal. conflict: the round of
 // a history conflict (13), else 0. state: the state after the call.

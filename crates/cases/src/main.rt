@@ -1,6 +1,5 @@
 // Cases of document 01 that go through the code. Each line written is what one call answered, or a number that it left.
 use commit_answer::answer::Answer;
-use commit_answer::answer::Refusal;
 use commit_points::certify::certify;
 use commit_points::name::add_dependency;
 use commit_points::resolve::resolve;
@@ -17,6 +16,7 @@ use models::info::PointInfo;
 use models::parts::Digest;
 use models::parts::PointId;
 use models::parts::Round;
+use models::refusal::Refusal;
 
 fn write(text: &[u8]) {
     let _all = io::write_all(1, text);

@@ -9,22 +9,18 @@ use Rattle.laws.specs.Test.{byTest, clash}
 use Rattle.spec.specs.Store.{Store}
 use Rattle.spec.specs.Rules.{counts}
 use Rattle.spec.specs.Chain as chain
-use Rattle.spec.specs.Chain.{number, conflict, Out, good}
+use Rattle.spec.specs.Chain.{number, Out, good}
 use Rattle.spec.specs.Calls as calls
 use Rattle.spec.specs.Calls.{call, act, unstarted, isStart, lent, done, said, handed, quiet, finish}
 use Rattle.dag_state.specs.declared.state.State.{State}
 use Rattle.dag_test.specs.View.{view}
 use Rattle.dag_name.specs.Codes.{unless}
-use Rattle.commit_answer.specs.declared.answer.Refusal.{Refusal}
-use Rattle.commit_answer.specs.declared.answer.Refusal.the-variants.{Number, Conflict}
+use Rattle.models.specs.Refusal.{refusalOf}
+use Rattle.models.specs.declared.refusal.Refusal.{Refusal}
+use Rattle.models.specs.declared.refusal.Refusal.the-variants.{Number}
 use Rattle.commit_answer.specs.declared.answer.Answer.{Answer}
 use Rattle.commit_answer.specs.declared.answer.Answer.the-variants.{Done, Said, Handed, Refused}
 use Rattle.commit_answer.specs.declared.answer.Outcome.{Outcome}
-
--- 01's number of a refusal, with the round of a history conflict
-unfoldable pub refusalOf : Refusal → chain.Refusal
-refusalOf (Number n) = number n
-refusalOf (Conflict r) = conflict (r .0)
 
 -- 01's answer
 unfoldable pub answerOf : Answer → calls.Answer

@@ -1,14 +1,8 @@
-// Origin: dag/commit/mod.rs (HistoryConflict, the results of the calls). What a call answers.
+// Origin: dag/commit/mod.rs (the results of the calls). What a call answers.
 ghost use mathlib.Core.Path.{_≡_};
 ghost use Rattle.commit_answer.specs.Answer.{refusal};
 use dag_state::state::State;
-use models::parts::Round;
-
-// Document 01's number of a refusal; 13, the history conflict, holds its round.
-pub enum Refusal {
-    Number(u32),
-    Conflict(Round),
-}
+use models::refusal::Refusal;
 
 // Refused holds the number of finished anchors.
 pub enum Answer {

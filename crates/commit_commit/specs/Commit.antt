@@ -29,12 +29,13 @@ use Rattle.back_points.specs.Fault as fault
 use Rattle.back_chain.specs.declared.Chain.{Chain}
 use Rattle.back_chain.specs.Chain.{chainOf, chainOut, out-good, out-bad}
 use Rattle.commit_anchor.specs.All.{Left, stopOf, leftOf, finishedOf, allOf, all-kept}
-use Rattle.commit_answer.specs.declared.answer.Refusal.{Refusal}
-use Rattle.commit_answer.specs.declared.answer.Refusal.the-variants.{Number, Conflict}
+use Rattle.models.specs.declared.refusal.Refusal.{Refusal}
+use Rattle.models.specs.declared.refusal.Refusal.the-variants.{Number, Conflict}
 use Rattle.commit_answer.specs.declared.answer.Answer.{Answer}
 use Rattle.commit_answer.specs.declared.answer.Answer.the-variants.{Handed, Refused}
 use Rattle.commit_answer.specs.declared.answer.Outcome.{Outcome}
-use Rattle.commit_answer.specs.Answer.{refusalOf, answerOf, Board, board, board-same, leavesIn, byTables, call-by}
+use Rattle.models.specs.Refusal.{refusalOf}
+use Rattle.commit_answer.specs.Answer.{answerOf, Board, board, board-same, leavesIn, byTables, call-by}
 
 -- ---- mirrors
 

@@ -15,12 +15,12 @@ use back_chain::chain_of;
 use commit_anchor::all::commit_all;
 use commit_answer::answer::Answer;
 use commit_answer::answer::Outcome;
-use commit_answer::answer::Refusal;
 use commit_answer::answer::refused;
 use dag_state::state::State;
 use dag_test::counts_as_started;
 use models::parts::PointId;
 use models::parts::Round;
+use models::refusal::Refusal;
 
 // A refusal with this number; 13, the history conflict, holds its round.
 fn refusal_of(code: u32, round: Round) -> Refusal

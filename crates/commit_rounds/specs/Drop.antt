@@ -27,7 +27,8 @@ use Rattle.dag_drain.specs.Drop.{dropBottom, drop-view, drop-answer, drop-buffe
 use Rattle.commit_answer.specs.declared.answer.Outcome.{Outcome}
 use Rattle.commit_answer.specs.declared.answer.Answer.{Answer}
 use Rattle.commit_answer.specs.declared.answer.Answer.the-variants.{Said}
-use Rattle.commit_answer.specs.Answer.{Board, board, board-same, leaves, answerOf, refusalOf, refusal, answered, changed, tested, byTables, call-by, after}
+use Rattle.models.specs.Refusal.{refusalOf}
+use Rattle.commit_answer.specs.Answer.{Board, board, board-same, leaves, answerOf, refusal, answered, changed, tested, byTables, call-by, after}
 
 module _ (s : State) (ks ls cs os : List ℕ) (r : ℕ) where
   abbrev v : Store

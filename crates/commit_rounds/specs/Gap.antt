@@ -19,7 +19,8 @@ use Rattle.dag_state.specs.Back.{askedState}
 use Rattle.dag_test.specs.View.{view, regular}
 use Rattle.commit_answer.specs.declared.answer.Answer.the-variants.{Said}
 use Rattle.commit_answer.specs.declared.answer.Outcome.{Outcome}
-use Rattle.commit_answer.specs.Answer.{board, leaves, answerOf, refusalOf, refusal, isRefused, Kept, byTables, call-by}
+use Rattle.models.specs.Refusal.{refusalOf}
+use Rattle.commit_answer.specs.Answer.{board, leaves, answerOf, refusal, isRefused, Kept, byTables, call-by}
 
 -- the question, by whether it is waited for
 unfoldable pub putBy : Bool → State → Outcome

@@ -54,7 +54,7 @@ fn kind_ok(refs: &[u64], from: usize, m: usize, d: u64, round: u64) -> bool
 fn status_ok(status: u32, bare: bool) -> bool
     ensures { λ r. ⌜ r ≡ statusOk status bare ⌝ }
 {
-    let case = models::dag_point::of_status(status);
+    let case = models::dag_point::of_status(status as u64);
     match case {
         Resolved::Case(p) => {
             if p.has_info() {

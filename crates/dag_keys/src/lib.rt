@@ -6,7 +6,10 @@ ghost use Prim.Native.Nat.{_+_, _*_, _/_, _<_, _≤_};
 ghost use lib.ListN.{length, getD};
 ghost use Rattle.dag_keys.specs.Key.{key, before};
 ghost use Rattle.dag_keys.specs.Sorted.{isInside, Sorted, isSorted, placeOf, standing, pointAt};
-ghost use Rattle.models.specs.Tables.{roundAt, authorAt, Inside};
+ghost use Rattle.models.specs.Tables.{roundAt, authorAt, statusAt, Inside};
+ghost use Rattle.models.specs.DagPoint.{caseOf};
+use models::dag_point::Resolved;
+use models::dag_point::of_status;
 
 // The author of place i.
 pub fn author(keys: &[u64], i: usize) -> u64
@@ -14,6 +17,14 @@ pub fn author(keys: &[u64], i: usize) -> u64
     ensures { λ r. ⌜ r ≡ authorAt (now (keys .entry)) i ⌝ }
 {
     keys[i * 8 + 1]
+}
+
+// The case of the point at place i; none if it is named and not resolved.
+pub fn case_at(keys: &[u64], i: usize) -> Resolved
+    requires { ⌜ i * 8 + 8 ≤ length (now keys) ⌝ }
+    ensures { λ r. ⌜ r ≡ caseOf (statusAt (now (keys .entry)) i) ⌝ }
+{
+    of_status(keys[i * 8 + 6])
 }
 
 // Whether place i of table a comes before place j of table b.

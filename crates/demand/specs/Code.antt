@@ -18,10 +18,11 @@ use Rattle.spec.specs.Proof.{demand-3}
 use Rattle.models.specs.Digest.{Fit}
 use Rattle.dag_test.specs.Whole.{sized}
 use Rattle.dag_test.specs.Counts.{counted}
-use Rattle.commit_answer.specs.declared.answer.Refusal.the-variants.{Number, Conflict}
+use Rattle.models.specs.declared.refusal.Refusal.the-variants.{Number, Conflict}
 use Rattle.commit_answer.specs.declared.answer.Answer.{Answer}
 use Rattle.commit_answer.specs.declared.answer.Answer.the-variants.{Done, Said, Handed, Refused}
-use Rattle.commit_answer.specs.Answer.{Board, seen, leaves, leavesIn, answerOf, refusalOf}
+use Rattle.models.specs.Refusal.{refusalOf}
+use Rattle.commit_answer.specs.Answer.{Board, seen, leaves, leavesIn, answerOf}
 
 -- one call as the code made it: 01's call that it is, the board before and after, the answer, and the lent buffer as it was left ([] for a
 -- call that takes none)

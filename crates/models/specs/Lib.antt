@@ -4,3 +4,4 @@ pub mod Tables
 pub mod Cert
 pub mod DagPoint
 pub mod Info
+pub mod Refusal

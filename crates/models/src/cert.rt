@@ -6,11 +6,11 @@ ghost use Rattle.spec.specs.Store.{word};
 ghost use Rattle.models.specs.Cert.{flagsOf, heightOf, hasProof, topped, linked, marked};
 use crate::parts::Height;
 
-const TOP: u64 = 32768;
+const TOP: u64 = 0x8000;
 
-const INIT_COMPLETED: u64 = 24576;
+const INIT_COMPLETED: u64 = 0x6000;
 
-const COMMITTED: u64 = 4096;
+const COMMITTED: u64 = 0x1000;
 
 pub struct Cert(pub u64);
 

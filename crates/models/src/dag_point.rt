@@ -17,7 +17,7 @@ pub enum Resolved {
     Nothing,
 }
 
-pub fn of_status(status: u32) -> Resolved
+pub fn of_status(status: u64) -> Resolved
     ensures { λ r. ⌜ r ≡ caseOf status ⌝ }
 {
     match status {

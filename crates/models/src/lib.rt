@@ -1,6 +1,7 @@
 // Rounds, heights, digests, ids and peer sets (parts), the certificate word (cert), what a resolution gives (info) and its five cases
-// (dag_point).
+// (dag_point), what a call is refused with (refusal).
 pub mod cert;
 pub mod dag_point;
 pub mod info;
 pub mod parts;
+pub mod refusal;

@@ -9,9 +9,10 @@ use Rattle.spec.specs.Calls as calls
 use Rattle.spec.specs.Demand.{finished}
 use Rattle.models.specs.declared.parts.Round.{Round}
 use Rattle.dag_state.specs.declared.state.State.{State}
-use Rattle.commit_answer.specs.Answer.{Board, board, seen, leaves, leavesIn, answerOf, refusalOf}
-use Rattle.commit_answer.specs.declared.answer.Refusal.{Refusal}
-use Rattle.commit_answer.specs.declared.answer.Refusal.the-variants as why
+use Rattle.models.specs.Refusal.{refusalOf}
+use Rattle.commit_answer.specs.Answer.{Board, board, seen, leaves, leavesIn, answerOf}
+use Rattle.models.specs.declared.refusal.Refusal.{Refusal}
+use Rattle.models.specs.declared.refusal.Refusal.the-variants as why
 use Rattle.commit_answer.specs.declared.answer.Answer.{Answer}
 use Rattle.commit_answer.specs.declared.answer.Answer.the-variants as answer
 use Rattle.trace.specs.Head.{part}

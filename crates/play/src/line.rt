@@ -1,12 +1,13 @@
 // Origin: none. What one recorded call answered.
 ghost use mathlib.Core.Path.{_≡_};
 ghost use Rattle.spec.specs.Demand.{finished};
-ghost use Rattle.commit_answer.specs.Answer.{answerOf, refusalOf};
+ghost use Rattle.models.specs.Refusal.{refusalOf};
+ghost use Rattle.commit_answer.specs.Answer.{answerOf};
 ghost use Rattle.play.specs.Plays.{lineSaid, refusedWith};
 use commit_answer::answer::Answer;
 use commit_answer::answer::Outcome;
-use commit_answer::answer::Refusal;
 use dag_state::state::State;
+use models::refusal::Refusal;
 
 // What one recorded call answered. Refused holds document 01's number; Conflict, its number 13, the round; Broken: no record could be read.
 pub enum Line {

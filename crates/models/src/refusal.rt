@@ -1,0 +1,80 @@
+// Origin: dag/commit/mod.rs (HistoryConflict). What a call is refused with; the numbers are document 01's.
+use crate::parts::Round;
+
+// What a start takes is out of its range.
+pub const BAD_START: u32 = 1;
+
+// Not started, or started twice.
+pub const NOT_STARTED: u32 = 2;
+
+// A round beyond the next one, or above the last that there can be.
+pub const ROUND_TOO_HIGH: u32 = 3;
+
+// 512 rounds, or a table without a free place.
+pub const FULL: u32 = 4;
+
+// The author is no peer of the round.
+pub const NOT_A_PEER: u32 = 5;
+
+// The round isn't retained.
+pub const NOT_RETAINED: u32 = 6;
+
+// The digest is named in its round.
+pub const ALREADY_NAMED: u32 = 7;
+
+// The author has four digests in this round.
+pub const FIFTH_DIGEST: u32 = 8;
+
+// The id isn't named, or the trigger is unresolved.
+pub const NOT_NAMED: u32 = 9;
+
+pub const ALREADY_RESOLVED: u32 = 10;
+
+// What a resolution gives isn't well-formed.
+pub const BAD_INFO: u32 = 11;
+
+// A link into a retained round leads to no named point.
+pub const DANGLING_LINK: u32 = 12;
+
+pub const HISTORY_CONFLICT: u32 = 13;
+
+// A needed point isn't named or isn't resolved.
+pub const NOT_RESOLVED: u32 = 14;
+
+// A needed point is neither usable nor certified.
+pub const NOT_USABLE: u32 = 15;
+
+// A trigger or a proof without a previous point, or a point that is not the proof sought.
+pub const NO_PROOF: u32 = 16;
+
+// Rounds of a history are missing.
+pub const ROUNDS_MISSING: u32 = 17;
+
+// A point of a history has height 0.
+pub const NOT_CERTIFIED: u32 = 18;
+
+// The oldest anchor's top proof is above the walk's lowest round.
+pub const CHAIN_NOT_LINKED: u32 = 19;
+
+// The gap question isn't put.
+pub const GAP_NOT_ASKED: u32 = 20;
+
+// The answer is larger than the buffer left.
+pub const BUFFER_TOO_SMALL: u32 = 21;
+
+pub const ANCHOR_AT_GENESIS: u32 = 22;
+
+// A remove above the last anchor handed out.
+pub const BEYOND_LAST_ANCHOR: u32 = 23;
+
+// Document 01's number of a refusal; 13, the history conflict, holds its round.
+pub enum Refusal {
+    Number(u32),
+    Conflict(Round),
+}
+
+// A test: passed, or what it refuses with.
+pub enum Check {
+    Passed,
+    Failed(Refusal),
+}
