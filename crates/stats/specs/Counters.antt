@@ -1,18 +1,17 @@
 -- Counters of a peer as the definitions', their sum and score (01: 'inspector.rs, stats.rs').
-use Prim.Native.Nat.{ℕ, _+_, _*_, _<_, _≤_}
-use mathlib.Core.Path.{_≡_, refl, sym, ap, _∙_}
-use mathlib.Core.Bool.{cond}
-use mathlib.Core.List.{[], _∷_}
-use lib.Dec.{ltb}
+use Prim.Native.Nat.{ℕ, zero, suc, _+_, _*_, _<_, _≤_}
+use mathlib.Core.Path.{_≡_, refl, sym, ap, ap₂, _∙_}
+use mathlib.Core.List.{List, [], _∷_}
 use lib.ListN.{getD}
 use borrow.Author.Tests.{lt-ltb, le-ltb}
 use native.Mathlib.Nat.{mul-le-mul-right}
+use native.Mathlib.Numerals.{add-one}
 use native.Mathlib.Omega.{arith}
-use Rattle.laws.specs.Test.{byTest, cond-yes, cond-no}
+use Rattle.laws.specs.Test.{cond-yes, cond-no}
 use Rattle.spec.specs.Inspect.{Counters, add, score, scoreFrom, counterList, weight, weights, band}
-use Rattle.stats.specs.declared.PeerCounters.{PeerCounters}
+use Rattle.stats.specs.declared.MempoolPeerCounters.{MempoolPeerCounters}
 
-unfoldable pub countersOf : PeerCounters → Counters
+unfoldable pub countersOf : MempoolPeerCounters → Counters
 countersOf c = record {
   wasLeader = c .«was_leader»;
   skippedRounds = c .«skipped_rounds»;
@@ -26,7 +25,7 @@ countersOf c = record {
 }
 
 -- each counter is at most n
-pub record Below (n : ℕ) (c : PeerCounters) : Type 0 where
+pub record Below (n : ℕ) (c : MempoolPeerCounters) : Type 0 where
   pub wasLeader : c .«was_leader» ≤ n
   pub skippedRounds : c .«skipped_rounds» ≤ n
   pub validPoints : c .«valid_points» ≤ n
@@ -38,7 +37,7 @@ pub record Below (n : ℕ) (c : PeerCounters) : Type 0 where
   pub referencesSkipped : c .«references_skipped» ≤ n
 
 -- the sum of both, counter by counter
-unfoldable pub sumOf : PeerCounters → PeerCounters → PeerCounters
+unfoldable pub sumOf : MempoolPeerCounters → MempoolPeerCounters → MempoolPeerCounters
 sumOf x y = record {
   «was_leader» = x .«was_leader» + y .«was_leader»;
   «skipped_rounds» = x .«skipped_rounds» + y .«skipped_rounds»;
@@ -52,7 +51,7 @@ sumOf x y = record {
 }
 
 -- it has room
-pub record Fitting (x y : PeerCounters) : Type 0 where
+pub record Fitting (x y : MempoolPeerCounters) : Type 0 where
   pub wasLeader : x .«was_leader» + y .«was_leader» ≤ 65535
   pub skippedRounds : x .«skipped_rounds» + y .«skipped_rounds» ≤ 65535
   pub validPoints : x .«valid_points» + y .«valid_points» ≤ 65535
@@ -63,17 +62,18 @@ pub record Fitting (x y : PeerCounters) : Type 0 where
   pub illFormed : x .«ill_formed_points» + y .«ill_formed_points» ≤ 65535
   pub referencesSkipped : x .«references_skipped» + y .«references_skipped» ≤ 65535
 
--- "count times weight": "Weights for counts 1–9, 10–99, 100 up"
-unfoldable pub byBand : ℕ → ℕ → ℕ → ℕ → ℕ
-byBand n low middle high = n * cond (ltb n 10) low (cond (ltb n 100) middle high)
+-- the sum of the first k parts of the score
+unfoldable pub scoreTo : List ℕ → ℕ → ℕ
+scoreTo xs zero = 0
+scoreTo xs (suc k) = scoreTo xs k + getD xs k 0 * weight k (getD xs k 0)
 
 -- ---- laws
 
-pub sum-is : (x y : PeerCounters) → countersOf (sumOf x y) ≡ add (countersOf x) (countersOf y)
+pub sum-is : (x y : MempoolPeerCounters) → countersOf (sumOf x y) ≡ add (countersOf x) (countersOf y)
 unfolding countersOf sumOf add
 sum-is x y = refl
 
-pub sum-from : (x y z : PeerCounters) → z ≡ record {
+pub sum-from : (x y z : MempoolPeerCounters) → z ≡ record {
   «was_leader» = x .«was_leader» + y .«was_leader»;
   «skipped_rounds» = x .«skipped_rounds» + y .«skipped_rounds»;
   «valid_points» = x .«valid_points» + y .«valid_points»;
@@ -91,7 +91,7 @@ sum-from x y z e = e
 sums : (a b m n : ℕ) → a ≤ m → b ≤ n → a + b ≤ m + n
 sums a b m n h k = omega arith
 
-module _ (x y : PeerCounters) (m n : ℕ) (a : Below m x) (b : Below n y) where
+module _ (x y : MempoolPeerCounters) (m n : ℕ) (a : Below m x) (b : Below n y) where
   pub sum-below : Below (m + n) (sumOf x y)
   unfolding sumOf
   sum-below = record {
@@ -119,59 +119,63 @@ module _ (x y : PeerCounters) (m n : ℕ) (a : Below m x) (b : Below n y) where
     referencesSkipped = omega (arith, h, a .referencesSkipped, b .referencesSkipped);
   }
 
+-- ---- the score
+
+-- a count's band
+pub band-low : (n : ℕ) → n < 10 → (0 ≡ band n) × (0 < 3)
+unfolding band
+band-low n h = (sym (cond-yes _ _ _ (lt-ltb n 10 h) refl), omega arith)
+
+pub band-middle : (n : ℕ) → 10 ≤ n → n < 100 → (1 ≡ band n) × (1 < 3)
+unfolding band
+band-middle n h k = (sym (cond-no _ _ _ (le-ltb n 10 h) (cond-yes _ _ _ (lt-ltb n 100 k) refl)), omega arith)
+
+pub band-high : (n : ℕ) → 10 ≤ n → 100 ≤ n → (2 ≡ band n) × (2 < 3)
+unfolding band
+band-high n h k = (sym (cond-no _ _ _ (le-ltb n 10 h) (cond-no _ _ _ (le-ltb n 100 k) refl)), omega arith)
+
+-- no weight is above 60
+weight-most : (i n : ℕ) → weight i n ≤ 60
+unfolding weight
+weight-most i n = go i
+  where
+    row : (j a b c : ℕ) → a ≤ 60 → b ≤ 60 → c ≤ 60 → getD (a ∷ b ∷ c ∷ []) j 0 ≤ 60
+    row zero a b c x y z = x
+    row (suc zero) a b c x y z = y
+    row (suc (suc zero)) a b c x y z = z
+    row (suc (suc (suc j))) a b c x y z = omega arith
+
+    go : (i : ℕ) → getD (getD weights i []) (band n) 0 ≤ 60
+    go zero = row (band n) 0 0 0 (omega arith) (omega arith) (omega arith)
+    go (suc zero) = row (band n) 2 3 4 (omega arith) (omega arith) (omega arith)
+    go (suc (suc zero)) = row (band n) 0 0 0 (omega arith) (omega arith) (omega arith)
+    go (suc (suc (suc zero))) = row (band n) 0 0 0 (omega arith) (omega arith) (omega arith)
+    go (suc (suc (suc (suc zero)))) = row (band n) 20 40 60 (omega arith) (omega arith) (omega arith)
+    go (suc (suc (suc (suc (suc zero))))) = row (band n) 5 8 12 (omega arith) (omega arith) (omega arith)
+    go (suc (suc (suc (suc (suc (suc zero)))))) = row (band n) 10 15 20 (omega arith) (omega arith) (omega arith)
+    go (suc (suc (suc (suc (suc (suc (suc zero))))))) = row (band n) 10 15 20 (omega arith) (omega arith) (omega arith)
+    go (suc (suc (suc (suc (suc (suc (suc (suc zero)))))))) = row (band n) 1 2 3 (omega arith) (omega arith) (omega arith)
+    go (suc (suc (suc (suc (suc (suc (suc (suc (suc i))))))))) = none (band n)
+      where
+        none : (j : ℕ) → getD [] j 0 ≤ 60
+        none zero = omega arith
+        none (suc j) = omega arith
+
 -- what a counter weighs
-pub weighed : (n w : ℕ) → n < 65536 → w ≤ 100 → n * w ≤ 6553500
-weighed n w h k = let m : n * w ≤ 65535 * w = mul-le-mul-right w (omega arith) in omega (arith, m)
+pub weighed : (i n w : ℕ) → n < 65536 → w ≡ weight i n → (n * w ≡ n * weight i n) × (n * w ≤ 3932160)
+weighed i n w h e =
+    let k : n * w ≤ 65536 * w = mul-le-mul-right w (omega arith) in
+    (ap (λ x. n * x) e, omega (arith, k, e, weight-most i n))
 
-module _ (n low middle high : ℕ) where
-  pub band-low : n < 10 → n * low ≡ byBand n low middle high
-  unfolding byBand
-  band-low h = ap (λ w. n * w) (sym (cond-yes _ _ _ (lt-ltb n 10 h) refl))
+-- one counter more
+pub score-more : (xs : List ℕ) (k s p t : ℕ) → s ≡ scoreTo xs k → p ≡ getD xs k 0 * weight k (getD xs k 0) → t ≡ s + p → t ≡ scoreTo xs (k + 1)
+unfolding scoreTo
+score-more xs k s p t h d f = rw (add-one k) (f ∙ ap₂ (λ (x y : ℕ). x + y) h d)
 
-  pub band-middle : 10 ≤ n → n < 100 → n * middle ≡ byBand n low middle high
-  unfolding byBand
-  band-middle h k = ap (λ w. n * w) (sym (cond-no _ _ _ (le-ltb n 10 h) (cond-yes _ _ _ (lt-ltb n 100 k) refl)))
-
-  pub band-high : 10 ≤ n → 100 ≤ n → n * high ≡ byBand n low middle high
-  unfolding byBand
-  band-high h k = ap (λ w. n * w) (sym (cond-no _ _ _ (le-ltb n 10 h) (cond-no _ _ _ (le-ltb n 100 k) refl)))
-
--- a counter of the list by its weights
-part-is : (i n a b c : ℕ) → getD weights i [] ≡ a ∷ b ∷ c ∷ [] → n * weight i n ≡ byBand n a b c
-unfolding weight band byBand
-part-is i n a b c e =
-    byTest (ltb n 10)
-    (λ t. rw (t, e) refl)
-    (λ f. byTest (ltb n 100) (λ t. rw (f, t, e) refl) (λ g. rw (f, g, e) refl))
-
--- a counter that weighs nothing
-nothing : (n : ℕ) → byBand n 0 0 0 ≡ 0
-unfolding byBand
-nothing n = byTest (ltb n 10) (λ t. rw t (omega arith)) (λ f. byTest (ltb n 100) (λ t. rw (f, t) (omega arith)) (λ g. rw (f, g) (omega arith)))
-
-none-is : (i n : ℕ) → getD weights i [] ≡ 0 ∷ 0 ∷ 0 ∷ [] → n * weight i n ≡ 0
-none-is i n e = part-is i n 0 0 0 e ∙ nothing n
-
-pub score-is : (c : PeerCounters) (s e t i l r : ℕ) → s ≡ byBand (c .«skipped_rounds») 2 3 4 → e ≡ byBand (c .equivocated) 20 40 60 → t ≡ byBand (c .«trans_invalid_points») 5 8 12
-    → i ≡ byBand (c .«invalid_points») 10 15 20 → l ≡ byBand (c .«ill_formed_points») 10 15 20 → r ≡ byBand (c .«references_skipped») 1 2 3
-    → s + e + t + i + l + r ≡ score (countersOf c)
-unfolding score scoreFrom counterList countersOf
-score-is c s e t i l r a b d f g h =
-    rw (
-      none-is 0 (c .«was_leader») refl,
-      part-is 1 (c .«skipped_rounds») 2 3 4 refl,
-      none-is 2 (c .«valid_points») refl,
-      none-is 3 (c .«points_proved») refl,
-      part-is 4 (c .equivocated) 20 40 60 refl,
-      part-is 5 (c .«trans_invalid_points») 5 8 12 refl,
-      part-is 6 (c .«invalid_points») 10 15 20 refl,
-      part-is 7 (c .«ill_formed_points») 10 15 20 refl,
-      part-is 8 (c .«references_skipped») 1 2 3 refl,
-      sym a,
-      sym b,
-      sym d,
-      sym f,
-      sym g,
-      sym h,
-    )
-    (omega arith)
+-- all nine
+pub score-is : (c : Counters) (xs : List ℕ) (s k : ℕ) → xs ≡ counterList c → s ≡ scoreTo xs k → k ≡ 9 → s ≡ score c
+unfolding score scoreFrom counterList scoreTo
+score-is c xs s k d h e = rw (d, e) at h ∙ nine _ _ _ _ _ _ _ _ _
+  where
+    nine : (a b c d e f g h i : ℕ) → 0 + a + b + c + d + e + f + g + h + i ≡ a + (b + (c + (d + (e + (f + (g + (h + (i + 0))))))))
+    nine a b c d e f g h i = omega arith

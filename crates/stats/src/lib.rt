@@ -1,11 +1,11 @@
-// Origin: models/stats.rs (MempoolPeerCounters). The nine counters of a peer, their sum, and the score that document 01 adds.
+// Origin: models/stats.rs (MempoolPeerCounters). The nine counters of a peer, their sum, and the score that document 01 adds. The Rust's
+// `last_round` stands beside the counters, in what remove answers of a peer.
 ghost use mathlib.Core.Path.{_≡_};
-ghost use Prim.Native.Nat.{_≤_};
-ghost use Rattle.spec.specs.Inspect.{score};
-ghost use Rattle.stats.specs.Counters.{countersOf, sumOf, Below, Fitting, byBand};
+ghost use Prim.Native.Nat.{_*_, _<_, _≤_};
+ghost use Rattle.spec.specs.Inspect.{band, weight, counterList, score};
+ghost use Rattle.stats.specs.Counters.{countersOf, sumOf, Below, Fitting};
 
-// In the order of MempoolPeerCounters.
-pub struct PeerCounters {
+pub struct MempoolPeerCounters {
     pub was_leader: u16,
     pub skipped_rounds: u16,
     pub valid_points: u16,
@@ -17,65 +17,112 @@ pub struct PeerCounters {
     pub references_skipped: u16,
 }
 
-// No rounds counted yet.
-pub fn no_counters() -> PeerCounters
-    ensures { λ r. ⌜ Below 0 r ⌝ }
+// What a count weighs, by counter (in the order of MempoolPeerCounters) and band: 1 to 9, 10 to 99, 100 up.
+const WEIGHTS: [[u32; 3]; 9] = [
+    [0, 0, 0],
+    [2, 3, 4],
+    [0, 0, 0],
+    [0, 0, 0],
+    [20, 40, 60],
+    [5, 8, 12],
+    [10, 15, 20],
+    [10, 15, 20],
+    [1, 2, 3],
+];
+
+fn band_of(count: u16) -> usize
+    ensures { λ r. ⌜ (r ≡ band count) × (r < 3) ⌝ }
 {
-    PeerCounters {
-        was_leader: 0,
-        skipped_rounds: 0,
-        valid_points: 0,
-        points_proved: 0,
-        equivocated: 0,
-        trans_invalid_points: 0,
-        invalid_points: 0,
-        ill_formed_points: 0,
-        references_skipped: 0,
+    if count < 10 {
+        return 0;
     }
+    if count < 100 {
+        return 1;
+    }
+    2
 }
 
-// The sum of both. Document 01: "Counts always fit."
-pub fn merge(x: PeerCounters, y: PeerCounters) -> PeerCounters
-    requires { ⌜ Fitting x y ⌝ }
-    ensures { λ r. ⌜ r ≡ sumOf x y ⌝ }
+fn weight_of(counter: usize, count: u16) -> u32
+    requires { ⌜ counter < 9 ⌝ }
+    ensures { λ r. ⌜ r ≡ weight counter count ⌝ }
 {
-    PeerCounters {
-        was_leader: x.was_leader + y.was_leader,
-        skipped_rounds: x.skipped_rounds + y.skipped_rounds,
-        valid_points: x.valid_points + y.valid_points,
-        points_proved: x.points_proved + y.points_proved,
-        equivocated: x.equivocated + y.equivocated,
-        trans_invalid_points: x.trans_invalid_points + y.trans_invalid_points,
-        invalid_points: x.invalid_points + y.invalid_points,
-        ill_formed_points: x.ill_formed_points + y.ill_formed_points,
-        references_skipped: x.references_skipped + y.references_skipped,
-    }
+    let band = band_of(count);
+    WEIGHTS[counter][band]
 }
 
-// A count times its weight: the first for counts below 10, the second below 100, else the third.
-fn weigh(count: u16, low: u32, middle: u32, high: u32) -> u32
-    requires { ⌜ (low ≤ 100) × (middle ≤ 100) × (high ≤ 100) ⌝ }
-    ensures { λ r. ⌜ (r ≡ byBand count low middle high) × (r ≤ 6553500) ⌝ }
+// The count times its weight.
+fn weigh(counter: usize, count: u16) -> u32
+    requires { ⌜ counter < 9 ⌝ }
+    ensures { λ r. ⌜ (r ≡ count * weight counter count) × (r ≤ 3932160) ⌝ }
 {
-    let n = count as u32;
-    if n < 10 {
-        return n * low;
-    }
-    if n < 100 {
-        return n * middle;
-    }
-    n * high
+    let weight = weight_of(counter, count);
+    count as u32 * weight
 }
 
-// The counts times their weights, summed; the others weigh nothing.
-pub fn score_of(c: PeerCounters) -> u32
-    ensures { λ r. ⌜ r ≡ score (countersOf c) ⌝ }
-{
-    let skipped = weigh(c.skipped_rounds, 2, 3, 4);
-    let equivocated = weigh(c.equivocated, 20, 40, 60);
-    let trans_invalid = weigh(c.trans_invalid_points, 5, 8, 12);
-    let invalid = weigh(c.invalid_points, 10, 15, 20);
-    let ill_formed = weigh(c.ill_formed_points, 10, 15, 20);
-    let references = weigh(c.references_skipped, 1, 2, 3);
-    skipped + equivocated + trans_invalid + invalid + ill_formed + references
+impl MempoolPeerCounters {
+    // No rounds counted yet.
+    pub fn new() -> MempoolPeerCounters
+        ensures { λ r. ⌜ Below 0 r ⌝ }
+    {
+        MempoolPeerCounters {
+            was_leader: 0,
+            skipped_rounds: 0,
+            valid_points: 0,
+            points_proved: 0,
+            equivocated: 0,
+            trans_invalid_points: 0,
+            invalid_points: 0,
+            ill_formed_points: 0,
+            references_skipped: 0,
+        }
+    }
+
+    // The sum of both. Document 01: "Counts always fit."
+    pub fn merge(self, other: MempoolPeerCounters) -> MempoolPeerCounters
+        requires { ⌜ Fitting self other ⌝ }
+        ensures { λ r. ⌜ r ≡ sumOf self other ⌝ }
+    {
+        MempoolPeerCounters {
+            was_leader: self.was_leader + other.was_leader,
+            skipped_rounds: self.skipped_rounds + other.skipped_rounds,
+            valid_points: self.valid_points + other.valid_points,
+            points_proved: self.points_proved + other.points_proved,
+            equivocated: self.equivocated + other.equivocated,
+            trans_invalid_points: self.trans_invalid_points + other.trans_invalid_points,
+            invalid_points: self.invalid_points + other.invalid_points,
+            ill_formed_points: self.ill_formed_points + other.ill_formed_points,
+            references_skipped: self.references_skipped + other.references_skipped,
+        }
+    }
+
+    // The counters in their order.
+    pub fn counts(self) -> [u16; 9]
+        ensures { λ r. ⌜ r ≡ counterList (countersOf self) ⌝ }
+    {
+        [
+            self.was_leader,
+            self.skipped_rounds,
+            self.valid_points,
+            self.points_proved,
+            self.equivocated,
+            self.trans_invalid_points,
+            self.invalid_points,
+            self.ill_formed_points,
+            self.references_skipped,
+        ]
+    }
+
+    // "Score (added): count times weight, summed."
+    pub fn score(self) -> u32
+        ensures { λ r. ⌜ r ≡ score (countersOf self) ⌝ }
+    {
+        let counts = self.counts();
+        let mut sum: u32 = 0;
+        let mut counter: usize = 0;
+        while counter < 9 {
+            sum += weigh(counter, counts[counter]);
+            counter += 1;
+        }
+        sum
+    }
 }

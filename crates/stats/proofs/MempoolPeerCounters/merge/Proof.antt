@@ -1,8 +1,8 @@
 use mathlib.Core.Path.{refl}
 use Rattle.stats.specs.Counters.{sum-from}
 use borrow.Author.Needs.{needs}
-use Rattle.stats.proofs.merge.Statement.{statement}
-use Rattle.stats.proofs.merge.Tie as tie
+use Rattle.stats.proofs.MempoolPeerCounters.merge.Statement.{statement}
+use Rattle.stats.proofs.MempoolPeerCounters.merge.Tie as tie
 
 add-t3 : tie.Need-add-t3
 add-t3 c = let h = c .before .before .pre .wasLeader in search needs
