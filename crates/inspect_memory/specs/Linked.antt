@@ -13,6 +13,7 @@ use Rattle.spec.specs.Ids.{Ref}
 use Rattle.spec.specs.Store.{Store}
 use Rattle.spec.specs.Rules.{counts}
 use Rattle.spec.specs.Inspect.{of, isTrusted, placesIn, refersTo, includedBy, witnessedBy}
+use Rattle.models.specs.DagPoint.{caseOf}
 use Rattle.models.specs.Digest.{Fit}
 use Rattle.models.specs.Tables.{placeAt, authorAt, statusAt, Used}
 use Rattle.dag_state.specs.declared.state.State.{State}
@@ -21,12 +22,13 @@ use Rattle.dag_test.specs.Counts.{Started, counted}
 use Rattle.dag_info.specs.Wild.{none-more, none-end}
 use Rattle.back_history.specs.History.{one, picked}
 use Rattle.inspect_round.specs.Places.{between, lowOf, highOf, places-in, round-used}
-use Rattle.inspect_round.specs.Tests.{testAs, lookAt, passes, test, passes-is}
+use Rattle.inspect_round.specs.Tests.{versionAt, inspectBy, inspected, chosen, passes, testOf, passes-is}
+use Rattle.inspect_round.specs.declared.tests.PointTest.the-variants.{Trusted}
 use Rattle.inspect_refs.specs.Refs.{refersAt, includes-refer, witness-refer}
 
 -- the point at place q is a trusted one of a and refers to d by its links from b on
 abbrev pub linkedAt : List ℕ → List ℕ → List ℕ → ℕ → ℕ → ℕ → ℕ → Bool
-linkedAt ks ls cs a b d q = passes ks cs a 6 q && refersAt ls q b d
+linkedAt ks ls cs a b d q = passes ks cs a Trusted q && refersAt ls q b d
 
 -- one of the positions from low to high is
 unfoldable pub linkedBy : List ℕ → List ℕ → List ℕ → List ℕ → ℕ → ℕ → ℕ → ℕ → ℕ → Bool
@@ -69,8 +71,8 @@ has-between f os low (suc k) =
     has-append f (between os low k) _ ∙ (ap (λ (x : Bool). x || (f (placeAt os (low + k)) || false)) (has-between f os low k) ∙ swap (any k (λ j. f (placeAt os (low + j)))) (f (placeAt os (low + k))))
 
 -- a trusted point is resolved
-trusted-status : (ks cs : List ℕ) (a q : ℕ) → passes ks cs a 6 q ≡ true → 0 < statusAt ks q
-unfolding passes testAs lookAt
+trusted-status : (ks cs : List ℕ) (a q : ℕ) → passes ks cs a Trusted q ≡ true → 0 < statusAt ks q
+unfolding passes chosen inspected inspectBy versionAt caseOf
 trusted-status ks cs a q h = sameOr (statusAt ks q) 0 (λ e. absurd (clash (and-r (eqb (authorAt ks q) a) _ h) (rw e refl))) (λ d. omega (arith, d))
 
 same-and : (x y z w : Bool) → x ≡ z → (x ≡ true → y ≡ w) → (x && y) ≡ (z && w)
@@ -93,12 +95,12 @@ module _ (s : State) (ks ls cs os : List ℕ) (fk : Fit ks) (fl : Fit ls) (h : c
   -- by one kind of links, which stand from b on
   linked-is : (b : ℕ) (refs : ℕ → List Ref) → ((q : ℕ) → Used os (s .count) q → 0 < statusAt ks q → refersAt ls q b d ≡ refersTo d (refs q))
       → linkedBy ks ls cs os low high a b d ≡ has (λ q. of (isTrusted v) v a q && refersTo d (refs q)) (placesIn v r)
-  unfolding linkedBy test
+  unfolding linkedBy testOf
   linked-is b refs same =
       any-same (high - low) _ _ (λ k l.
       let q = placeAt os (low + k) in
       let u = round-used s ks ls cs os fk fl t r (low + k) (omega (arith, l)) in
-      same-and _ _ _ _ (passes-is s ks ls cs os fk fl t q u a 6) (λ p. same q u (trusted-status ks cs a q p)))
+      same-and _ _ _ _ (passes-is s ks ls cs os fk fl t q u a Trusted) (λ p. same q u (trusted-status ks cs a q p)))
       ∙ sym (ap (has (λ q. of (isTrusted v) v a q && refersTo d (refs q))) (places-in s ks ls cs os fk fl t r) ∙ has-between (λ q. of (isTrusted v) v a q && refersTo d (refs q)) os low (high - low))
 
   pub included-is : linkedBy ks ls cs os low high a 0 d ≡ includedBy v r a d

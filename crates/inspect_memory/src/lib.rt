@@ -6,10 +6,12 @@ ghost use lib.ListN.{length};
 ghost use Rattle.models.specs.Digest.{digestAt};
 ghost use Rattle.back_history.specs.Sweep.{Range};
 ghost use Rattle.inspect_round.specs.Tests.{passes};
+ghost use Rattle.inspect_round.specs.declared.tests.PointTest.the-variants.{Trusted};
 ghost use Rattle.inspect_refs.specs.Refs.{refersAt};
 ghost use Rattle.inspect_memory.specs.Linked.{linkedBy};
 use inspect_refs::refers;
 use inspect_round::round::passes;
+use inspect_round::tests::PointTest;
 
 // Whether the point at place q is a trusted one of this author and refers to the digest in the four words from p on, by its links from
 // `first` on (0 for includes, 32 for witness).
@@ -25,9 +27,9 @@ fn linked_at(
 ) -> bool
     requires { ⌜ (q * 8 + 8 ≤ length (now keys)) × (q < length (now certs)) ⌝ }
     requires { ⌜ (q * 328 + 328 ≤ length (now links)) × (first ≤ 32) × (p + 4 ≤ length (now words)) ⌝ }
-    ensures { λ r. ⌜ r ≡ (passes (now (keys .entry)) (now (certs .entry)) author 6 q && refersAt (now (links .entry)) q first (digestAt (now (words .entry)) p)) ⌝ }
+    ensures { λ r. ⌜ r ≡ (passes (now (keys .entry)) (now (certs .entry)) author Trusted q && refersAt (now (links .entry)) q first (digestAt (now (words .entry)) p)) ⌝ }
 {
-    if !passes(keys, certs, q, author, 6) {
+    if !passes(keys, certs, q, author, PointTest::Trusted) {
         return false;
     }
     refers(links, q, first, words, p)

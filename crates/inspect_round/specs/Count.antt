@@ -25,20 +25,22 @@ use Rattle.dag_drain.specs.Cut.{below, below-le, below-low, below-high}
 use Rattle.back_history.specs.Sweep.{Range}
 use Rattle.back_history.specs.History.{one, picked}
 use Rattle.inspect_round.specs.Places.{between, lowOf, highOf, high-le, round-used, round-at, places-in}
-use Rattle.inspect_round.specs.Tests.{lookAt, testAs, passes, test, passes-is}
+use Rattle.inspect_round.specs.Tests.{versionAt, inspected, chosen, passes, testOf, passes-is}
 use Rattle.inspect_round.specs.declared.round.Span.{Span}
-use Rattle.inspect_round.specs.declared.tests.Look.{Look}
+use Rattle.inspect_round.specs.declared.tests.PointTest.{PointTest}
+use Rattle.inspect_round.specs.declared.tests.Version.{Version}
+use Rattle.inspect_round.specs.declared.tests.Passed.{Passed}
 
 -- the positions of round r, of the first n
 unfoldable pub spanOf : List ℕ → List ℕ → ℕ → ℕ → Span
 spanOf ks os n r = record { low = below ks os n r; high = below ks os n (r + 1) }
 
 -- the place at position low + k is by the author a and passes test w
-unfoldable pub passesAt : List ℕ → List ℕ → List ℕ → ℕ → ℕ → ℕ → ℕ → Bool
+unfoldable pub passesAt : List ℕ → List ℕ → List ℕ → ℕ → PointTest → ℕ → ℕ → Bool
 passesAt ks cs os a w low k = passes ks cs a w (placeAt os (low + k))
 
 -- how many of the positions from low to high
-unfoldable pub countOf : List ℕ → List ℕ → List ℕ → ℕ → ℕ → ℕ → ℕ → ℕ
+unfoldable pub countOf : List ℕ → List ℕ → List ℕ → ℕ → ℕ → ℕ → PointTest → ℕ
 countOf ks cs os low high a w = length (those (high - low) (passesAt ks cs os a w low))
 
 -- of one list after another
@@ -122,21 +124,21 @@ module _ (s : State) (ks ls cs os : List ℕ) (fk : Fit ks) (fl : Fit ls) (t : S
       ((low-high, omega (arith, k, t .count-ok), places-says _ (t .places-ok), c, λ i l. t .facts .inside i (omega (arith, k))), a)
 
   -- as many as 01 counts
-  pub count-is : (a w : ℕ) → countOf ks cs os low high a w ≡ count (of (test w v) v a) (placesIn v r)
+  pub count-is : (a : ℕ) (w : PointTest) → countOf ks cs os low high a w ≡ count (of (testOf w v) v a) (placesIn v r)
   unfolding countOf passesAt
   count-is a w =
       those-length (λ j l. passes-is s ks ls cs os fk fl t (placeAt os (low + j)) (round-used s ks ls cs os fk fl t r (low + j) (omega arith)) a w)
-      ∙ (sym (count-between (of (test w v) v a) os low (high - low)) ∙ ap (count (of (test w v) v a)) (sym (places-in s ks ls cs os fk fl t r)))
+      ∙ (sym (count-between (of (testOf w v) v a) os low (high - low)) ∙ ap (count (of (testOf w v) v a)) (sym (places-in s ks ls cs os fk fl t r)))
     where
       those-length : {f g : ℕ → Bool} → ((j : ℕ) → j < high - low → f j ≡ g j) → length (those (high - low) f) ≡ length (those (high - low) g)
       those-length {f} {g} h = ap length (those-same (high - low) f g h)
 
   -- and so whether one passes
-  pub has-is : (a w : ℕ) → ltb 0 (countOf ks cs os low high a w) ≡ has (of (test w v) v a) (placesIn v r)
-  has-is a w = ap (ltb 0) (count-is a w) ∙ sym (has-count (of (test w v) v a) (placesIn v r))
+  pub has-is : (a : ℕ) (w : PointTest) → ltb 0 (countOf ks cs os low high a w) ≡ has (of (testOf w v) v a) (placesIn v r)
+  has-is a w = ap (ltb 0) (count-is a w) ∙ sym (has-count (of (testOf w v) v a) (placesIn v r))
 
   -- at most 4: no author has a fifth point in a round (01: 'Refusals' 8)
-  pub count-few : (a w : ℕ) → countOf ks cs os low high a w ≤ 4
+  pub count-few : (a : ℕ) (w : PointTest) → countOf ks cs os low high a w ≤ 4
   unfolding countOf passesAt passes
   count-few a w = go (those (high - low) (passesAt ks cs os a w low)) refl
     where
@@ -165,10 +167,10 @@ module _ (s : State) (ks ls cs os : List ℕ) (fk : Fit ks) (fl : Fit ls) (t : S
   span-range x e = subst (λ (y : Span). Range cs os (y .low) (y .high) × (length ks ≡ length os * 8)) (sym e) round-ready
 
   -- the places that pass, in 01's order
-  pub keep-is : (a w : ℕ) → picked os (passes ks cs a w) low (high - low) ≡ keep (of (test w v) v a) (placesIn v r)
+  pub keep-is : (a : ℕ) (w : PointTest) → picked os (passes ks cs a w) low (high - low) ≡ keep (of (testOf w v) v a) (placesIn v r)
   keep-is a w =
-      picked-same os (passes ks cs a w) (of (test w v) v a) low (high - low) (λ j l. passes-is s ks ls cs os fk fl t (placeAt os (low + j)) (round-used s ks ls cs os fk fl t r (low + j) (omega arith)) a w)
-      ∙ (sym (keep-between (of (test w v) v a) os low (high - low)) ∙ ap (keep (of (test w v) v a)) (sym (places-in s ks ls cs os fk fl t r)))
+      picked-same os (passes ks cs a w) (of (testOf w v) v a) low (high - low) (λ j l. passes-is s ks ls cs os fk fl t (placeAt os (low + j)) (round-used s ks ls cs os fk fl t r (low + j) (omega arith)) a w)
+      ∙ (sym (keep-between (of (testOf w v) v a) os low (high - low)) ∙ ap (keep (of (testOf w v) v a)) (sym (places-in s ks ls cs os fk fl t r)))
 
 -- ---- the steps of the code
 
@@ -177,29 +179,13 @@ pub span-is : (ks os : List ℕ) (n r low high : ℕ) → low ≡ below ks os n 
 unfolding spanOf
 span-is ks os n r low high e d = λ i. record { low = e i; high = d i }
 
-module _ (ks cs : List ℕ) (a w q : ℕ) where
+module _ (ks cs : List ℕ) (a : ℕ) (w : PointTest) (q : ℕ) where
   -- another author
   pub passes-not : (authorAt ks q ≡ a → ⊥) → false ≡ passes ks cs a w q
   unfolding passes
   passes-not d = sym (and-no _ (ne-eqb _ _ d))
 
   -- the author: the test decides
-  pub passes-by : (b : Bool) (x : Look) → authorAt ks q ≡ a → x ≡ lookAt ks cs q → b ≡ testAs w x → b ≡ passes ks cs a w q
+  pub passes-by : (b : Bool) (x : Version) (y : Passed) → authorAt ks q ≡ a → x ≡ versionAt ks cs q → y ≡ inspected x → b ≡ chosen w y → b ≡ passes ks cs a w q
   unfolding passes
-  passes-by b x e d h = h ∙ (ap (testAs w) d ∙ sym (and-yes (eq-eqb _ _ e) refl))
-
-module _ (ks cs os : List ℕ) (a w low : ℕ) where
-  -- one position more, which passes
-  pub count-hit : (c k q r : ℕ) (b : Bool) → c ≡ length (those k (passesAt ks cs os a w low)) → q ≡ placeAt os (low + k) → b ≡ passes ks cs a w q → b ≡ true → r ≡ c + 1 → r ≡ length (those (k + 1) (passesAt ks cs os a w low))
-  unfolding passesAt
-  count-hit c k q r b e d h y f = f ∙ count-yes (passesAt ks cs os a w low) k c e (ap (passes ks cs a w) (sym d) ∙ (sym h ∙ y))
-
-  -- one that doesn't
-  pub count-miss : (c k q r : ℕ) (b : Bool) → c ≡ length (those k (passesAt ks cs os a w low)) → q ≡ placeAt os (low + k) → b ≡ passes ks cs a w q → b ≡ false → r ≡ c → r ≡ length (those (k + 1) (passesAt ks cs os a w low))
-  unfolding passesAt
-  count-miss c k q r b e d h y f = f ∙ count-no (passesAt ks cs os a w low) k c e (ap (passes ks cs a w) (sym d) ∙ (sym h ∙ y))
-
-  -- all positions
-  pub count-all : (c k high : ℕ) → c ≡ length (those k (passesAt ks cs os a w low)) → k ≡ high - low → c ≡ countOf ks cs os low high a w
-  unfolding countOf
-  count-all c k high e d = rw d at e
+  passes-by b x y e d h k = k ∙ (ap (chosen w) (h ∙ ap inspected d) ∙ sym (and-yes (eq-eqb _ _ e) refl))

@@ -1,4 +1,5 @@
 pub mod Places
 pub mod Tests
 pub mod Count
-pub mod Tally
+pub mod Counts
+pub mod Counters

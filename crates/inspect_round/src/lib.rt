@@ -1,4 +1,6 @@
-// The points of one round: the tests of one (tests), how many of an author pass (round), and the counters that follow (tally).
+// Origin: dag/commit/inspector.rs (inspect). The points of one round: the tests of one (tests), which points they are (round), how many of
+// each author pass (counts), and the counters that follow (counters).
+pub mod counters;
+pub mod counts;
 pub mod round;
-pub mod tally;
 pub mod tests;

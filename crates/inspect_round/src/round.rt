@@ -1,15 +1,13 @@
-// Origin: dag/commit/inspector.rs. The points of one round, by their positions in the order, and how many of an author pass a test.
+// Origin: dag/commit/inspector.rs (collect_points). The points of one round, by their positions in the order, and the tests of one.
 ghost use mathlib.Core.Path.{_≡_};
 ghost use Prim.Native.Nat.{_+_, _*_, _<_, _≤_};
-ghost use lib.Dec.{ltb};
 ghost use lib.ListN.{length};
 ghost use Rattle.models.specs.Tables.{Inside};
 ghost use Rattle.dag_keys.specs.Sorted.{Sorted};
-ghost use Rattle.back_history.specs.Sweep.{Range};
 ghost use Rattle.inspect_round.specs.Tests.{passes};
-ghost use Rattle.inspect_round.specs.Count.{countOf, spanOf};
-use crate::tests::look_at;
-use crate::tests::test_as;
+ghost use Rattle.inspect_round.specs.Count.{spanOf};
+use crate::tests::PointTest;
+use crate::tests::version_at;
 
 // The positions of the points of a round, from `low` to `high`.
 pub struct Span {
@@ -31,58 +29,16 @@ pub fn span_at(keys: &[u64], order: &[u64], n: usize, round: u32) -> Span
     }
 }
 
-// Whether the point at place q is by this author and passes the test of this number.
-pub fn passes(keys: &[u64], certs: &[u64], q: usize, author: u32, which: u32) -> bool
+// Whether the point at place q is by this author and passes the test.
+pub fn passes(keys: &[u64], certs: &[u64], q: usize, author: u32, test: PointTest) -> bool
     requires { ⌜ (q * 8 + 8 ≤ length (now keys)) × (q < length (now certs)) ⌝ }
-    ensures { λ r. ⌜ r ≡ passes (now (keys .entry)) (now (certs .entry)) author which q ⌝ }
+    ensures { λ r. ⌜ r ≡ passes (now (keys .entry)) (now (certs .entry)) author test q ⌝ }
 {
     let by = keys[q * 8 + 1];
     if by != author as u64 {
         return false;
     }
-    let look = look_at(keys, certs, q);
-    test_as(which, look)
-}
-
-// How many of the positions from `low` to `high` are by this author and pass the test of this number.
-pub fn count_of(
-    keys: &[u64],
-    certs: &[u64],
-    order: &[u64],
-    low: usize,
-    high: usize,
-    author: u32,
-    which: u32,
-) -> u32
-    requires { ⌜ Range (now certs) (now order) low high ⌝ }
-    requires { ⌜ length (now keys) ≡ length (now order) * 8 ⌝ }
-    ensures { λ r. ⌜ r ≡ countOf (now (keys .entry)) (now (certs .entry)) (now (order .entry)) low high author which ⌝ }
-{
-    let mut n: u32 = 0;
-    let mut k: usize = 0;
-    while k < high - low {
-        let q = dag_places::place(order, high, low + k);
-        if passes(keys, certs, q, author, which) {
-            n += 1;
-        }
-        k += 1;
-    }
-    n
-}
-
-// Whether one of them is by this author and passes.
-pub fn any_of(
-    keys: &[u64],
-    certs: &[u64],
-    order: &[u64],
-    low: usize,
-    high: usize,
-    author: u32,
-    which: u32,
-) -> bool
-    requires { ⌜ Range (now certs) (now order) low high ⌝ }
-    requires { ⌜ length (now keys) ≡ length (now order) * 8 ⌝ }
-    ensures { λ r. ⌜ r ≡ ltb 0 (countOf (now (keys .entry)) (now (certs .entry)) (now (order .entry)) low high author which) ⌝ }
-{
-    0 < count_of(keys, certs, order, low, high, author, which)
+    let version = version_at(keys, certs, q);
+    let passed = version.inspect();
+    passed.by(test)
 }

@@ -1,77 +1,135 @@
-// Origin: dag/commit/inspector.rs (the counters and events of a point), models/dag_point.rs (trusted). The tests of one point, by number.
+// Origin: dag/commit/inspector.rs (inspect: the tests of a version), models/dag_point.rs (trusted).
 ghost use mathlib.Core.Path.{_≡_};
-ghost use mathlib.Core.Bool.{not, _&&_, _||_};
 ghost use Prim.Native.Nat.{_+_, _*_, _<_, _≤_};
-ghost use lib.Dec.{eqb};
 ghost use lib.ListN.{length};
-ghost use Rattle.inspect_round.specs.Tests.{lookAt, testAs};
+ghost use Rattle.inspect_round.specs.Tests.{nothing, versionAt, inspectCase, inspected, chosen};
 use laws::and;
-use laws::or;
 use models::cert::Cert;
+use models::dag_point::DagPoint;
+use models::dag_point::Resolved;
 
-// What the tests read of a point.
-pub struct Look {
-    pub status: u64,
+// The inspector's tests of a point.
+pub enum PointTest {
+    Found,
+    Valid,
+    Proved,
+    TransInvalid,
+    Invalid,
+    IllFormed,
+    Trusted,
+}
+
+// A version of a peer's point at a round: what the tests read of it.
+pub struct Version {
+    pub case: Resolved,
     pub certified: bool,
     pub proved: bool,
     pub cause: bool,
 }
 
-// What they read of place q.
-pub fn look_at(keys: &[u64], certs: &[u64], q: usize) -> Look
+// Which tests it passes.
+pub struct Passed {
+    pub found: bool,
+    pub valid: bool,
+    pub proved: bool,
+    pub trans_invalid: bool,
+    pub invalid: bool,
+    pub ill_formed: bool,
+    pub trusted: bool,
+}
+
+impl Passed {
+    pub fn new() -> Passed
+        ensures { λ r. ⌜ r ≡ nothing ⌝ }
+    {
+        Passed {
+            found: false,
+            valid: false,
+            proved: false,
+            trans_invalid: false,
+            invalid: false,
+            ill_formed: false,
+            trusted: false,
+        }
+    }
+
+    // Whether this one is among them.
+    pub fn by(self, test: PointTest) -> bool
+        ensures { λ r. ⌜ r ≡ chosen test self ⌝ }
+    {
+        match test {
+            PointTest::Found => self.found,
+            PointTest::Valid => self.valid,
+            PointTest::Proved => self.proved,
+            PointTest::TransInvalid => self.trans_invalid,
+            PointTest::Invalid => self.invalid,
+            PointTest::IllFormed => self.ill_formed,
+            PointTest::Trusted => self.trusted,
+        }
+    }
+}
+
+// The point at place q.
+pub fn version_at(keys: &[u64], certs: &[u64], q: usize) -> Version
     requires { ⌜ (q * 8 + 8 ≤ length (now keys)) × (q < length (now certs)) ⌝ }
-    ensures { λ r. ⌜ r ≡ lookAt (now (keys .entry)) (now (certs .entry)) q ⌝ }
+    ensures { λ r. ⌜ r ≡ versionAt (now (keys .entry)) (now (certs .entry)) q ⌝ }
 {
-    let word = certs[q];
-    let status = keys[q * 8 + 6];
     let marks = keys[q * 8 + 7];
-    let cert = Cert(word);
+    let cert = Cert(certs[q]);
+    let case = dag_keys::case_at(keys, q);
     let certified = cert.is_certified();
     let proved = cert.has_proof();
-    Look {
-        status: status,
-        certified: certified,
-        proved: proved,
+    Version {
+        case,
+        certified,
+        proved,
         cause: marks / 4 % 2 == 1,
     }
 }
 
-// Whether a point of this status counts as one of the status `want`: if nothing shields it, and it has a cause.
-fn bad_as(want: u64, status: u64, shield: bool, cause: bool) -> bool
-    ensures { λ r. ⌜ r ≡ (eqb status want && (not shield && cause)) ⌝ }
-{
-    and(status == want, and(!shield, cause))
-}
+impl Version {
+    // The tests that it passes as a point of this case.
+    fn inspect_case(self, point: DagPoint) -> Passed
+        ensures { λ r. ⌜ r ≡ inspectCase point (self .certified) (self .proved) (self .cause) ⌝ }
+    {
+        let mut r = Passed::new();
+        r.proved = self.proved;
+        match point {
+            DagPoint::Valid => {
+                r.found = true;
+                r.valid = true;
+                r.trusted = true;
+                r
+            }
+            DagPoint::TransInvalid => {
+                r.found = true;
+                r.trans_invalid = and(!self.proved, self.cause);
+                r.trusted = self.certified;
+                r
+            }
+            DagPoint::Invalid => {
+                r.found = true;
+                r.invalid = and(!self.certified, self.cause);
+                r.trusted = self.certified;
+                r
+            }
+            DagPoint::IllFormed => {
+                r.found = true;
+                r.ill_formed = !self.certified;
+                r
+            }
+            DagPoint::NotFound => r,
+        }
+    }
 
-// Whether a point is trusted: valid, or trans-invalid or invalid and certified.
-fn trusted_as(status: u64, certified: bool) -> bool
-    ensures { λ r. ⌜ r ≡ (eqb status 1 || ((eqb status 2 || eqb status 3) && certified)) ⌝ }
-{
-    or(status == 1, and(or(status == 2, status == 3), certified))
-}
-
-// The test of this number: 0 found, 1 valid, 2 proved, 3 trans-invalid, 4 invalid, 5 ill-formed, 6 trusted.
-pub fn test_as(which: u32, look: Look) -> bool
-    ensures { λ r. ⌜ r ≡ testAs which look ⌝ }
-{
-    let status = look.status;
-    if which == 0 {
-        return and(0 < status, status < 5);
+    // The tests that it passes: none if it is only named.
+    pub fn inspect(self) -> Passed
+        ensures { λ r. ⌜ r ≡ inspected self ⌝ }
+    {
+        let case = self.case;
+        match case {
+            Resolved::Case(point) => self.inspect_case(point),
+            Resolved::Nothing => Passed::new(),
+        }
     }
-    if which == 1 {
-        return status == 1;
-    }
-    if which == 2 {
-        return and(0 < status, look.proved);
-    }
-    if which == 3 {
-        return bad_as(2, status, look.proved, look.cause);
-    }
-    if which == 4 {
-        return bad_as(3, status, look.certified, look.cause);
-    }
-    if which == 5 {
-        return and(status == 4, !look.certified);
-    }
-    trusted_as(status, look.certified)
 }

@@ -18,14 +18,17 @@ shared-slice-read-by c = search needs
 returns : tie.Need-returns
 returns c = passes-not _ _ _ _ _ (c .if1 .taken)
 
-look-at-requires : tie.Need-look-at-requires
-look-at-requires c κs = search needs
+version-at-requires : tie.Need-version-at-requires
+version-at-requires c κs = search needs
 
-test-as-requires : tie.Need-test-as-requires
-test-as-requires c κs = search needs
+inspect-requires : tie.Need-inspect-requires
+inspect-requires c κs = search needs
+
+by-requires : tie.Need-by-requires
+by-requires c κs = search needs
 
 returns-2 : tie.Need-returns-2
-returns-2 c = passes-by _ _ _ _ _ _ _ (c .before .before .if1 .left) (c .before .look-at .ensures) (c .test-as .ensures)
+returns-2 c = passes-by _ _ _ _ _ _ _ _ (c .before .before .before .if1 .left) (c .before .before .version-at .ensures) (c .before .inspect .ensures) (c .by .ensures)
 
 pub passes-spec : {M : Type 1} → statement M
 passes-spec =
@@ -36,6 +39,7 @@ passes-spec =
     mul-by-2
     shared-slice-read-by
     returns
-    look-at-requires
-    test-as-requires
+    version-at-requires
+    inspect-requires
+    by-requires
     returns-2)

@@ -1,7 +1,7 @@
-use Rattle.inspect_round.specs.Tally.{leads-none, leads-some}
+use Rattle.inspect_round.specs.Counters.{leads-none, leads-some}
 use borrow.Author.Needs.{needs}
-use Rattle.inspect_round.proofs.tally.is_leader.Statement.{statement}
-use Rattle.inspect_round.proofs.tally.is_leader.Tie as tie
+use Rattle.inspect_round.proofs.counters.is_leader.Statement.{statement}
+use Rattle.inspect_round.proofs.counters.is_leader.Tie as tie
 
 returns : tie.Need-returns
 returns c = leads-none _ _ (c .if1 .taken)
