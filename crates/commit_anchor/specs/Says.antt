@@ -33,7 +33,7 @@ use Rattle.back_points.specs.declared.anchor.Tested as code
 use Rattle.back_points.specs.Fault.{refusalOf, outOf}
 use Rattle.back_points.specs.Anchor.{spanOf, testedIn, testedOf}
 use Rattle.back_points.specs.Tested.{tested-is, tested-count}
-use Rattle.commit_record.specs.Bytes.{placeId}
+use Rattle.answer_bytes.specs.Bytes.{placeId}
 use Rattle.back_history.specs.Sweep.{wants}
 use Rattle.back_history.specs.History.{picked}
 use Rattle.commit_record.specs.Picked.{isPicked}

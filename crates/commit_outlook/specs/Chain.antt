@@ -31,7 +31,7 @@ use Rattle.back_walk.specs.declared.Enqueued.{Enqueued}
 use Rattle.back_walk.specs.Visit.{enqueuedOf}
 use Rattle.back_points.specs.Fault.{refusalOf, outOf}
 use Rattle.back_chain.specs.Chain.{noEnqueued, chainOf, chain-head, chain-none}
-use Rattle.commit_record.specs.Bytes.{placeId}
+use Rattle.answer_bytes.specs.Bytes.{placeId}
 use Rattle.commit_record.specs.History.{id-seen}
 use Rattle.commit_anchor.specs.Says.{held, anchor-used, placed}
 use Rattle.commit_outlook.specs.Look.{lookAt, look-room}

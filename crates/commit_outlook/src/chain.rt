@@ -10,9 +10,9 @@ ghost use Rattle.dag_test.specs.View.{view};
 ghost use Rattle.back_chain.specs.Chain.{chainOf};
 ghost use Rattle.commit_outlook.specs.Chain.{looksIn, Placed, Looked, Told};
 use crate::look::look_one;
+use answer_bytes::put_id;
+use answer_bytes::put_number;
 use back_walk::Enqueued;
-use commit_record::bytes::put_id;
-use commit_record::bytes::put_u32;
 use dag_state::state::State;
 use models::parts::Round;
 
@@ -90,7 +90,7 @@ pub fn put_looks(
         let e = list[k];
         let n = counts[k];
         let m = put_id(b, at, keys, e.anchor);
-        at = put_u32(b, m, n as u64);
+        at = put_number(b, m, 4, n as u64);
     }
 }
 

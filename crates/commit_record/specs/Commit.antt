@@ -33,7 +33,7 @@ use Rattle.dag_test.specs.View.{view, regular, seenAt}
 use Rattle.dag_test.specs.Regular.{phase-same, places-same}
 use Rattle.dag_test.specs.Whole.{sized}
 use Rattle.dag_test.specs.Counts.{Started, counted}
-use Rattle.commit_record.specs.Bytes.{placeId}
+use Rattle.answer_bytes.specs.Bytes.{placeId}
 use Rattle.back_history.specs.Sweep.{wants}
 use Rattle.back_history.specs.History.{picked}
 use Rattle.commit_record.specs.Record.{record-length, flagOf, headOf, pointsOf, recordOf, executes, isFirstOf, previousOf}

@@ -21,7 +21,7 @@ use Rattle.dag_keys.specs.Digest.{before-is}
 use Rattle.dag_state.specs.View.{pointAt}
 use Rattle.dag_state.specs.declared.state.State.{State}
 use Rattle.dag_test.specs.View.{view, seen-used, seen-named}
-use Rattle.commit_record.specs.Bytes.{placeId}
+use Rattle.answer_bytes.specs.Bytes.{placeId}
 use Rattle.back_history.specs.Sweep.{wants}
 use Rattle.back_history.specs.History.{ordered-one, before-asym, picked, picked-elim, picked-intro, picked-pairs}
 use Rattle.commit_record.specs.Picked.{isPicked}

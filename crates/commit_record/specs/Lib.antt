@@ -1,4 +1,3 @@
-pub mod Bytes
 pub mod Picked
 pub mod Record
 pub mod Marks

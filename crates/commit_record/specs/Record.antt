@@ -14,7 +14,7 @@ use Rattle.spec.specs.Ids.{idBytes, prev}
 use Rattle.spec.specs.Records.{id-length, ids-length}
 use Rattle.models.specs.Tables.{placeAt}
 use Rattle.dag_state.specs.declared.state.State.{State}
-use Rattle.commit_record.specs.Bytes.{placeId}
+use Rattle.answer_bytes.specs.Bytes.{placeId}
 use Rattle.back_history.specs.History.{picked}
 use Rattle.commit_record.specs.Picked.{picked-none, picked-yes, picked-no, snoc-length}
 

@@ -1,4 +1,3 @@
-// What one committed anchor leaves: its record's bytes (bytes, record), its marks and the state after it (after).
+// What one committed anchor leaves: its record (record), its marks and the state after it (after).
 pub mod after;
-pub mod bytes;
 pub mod record;

@@ -8,13 +8,12 @@ ghost use Rattle.laws.specs.Bytes.{written};
 ghost use Rattle.laws.specs.Lists.{joined};
 ghost use Rattle.spec.specs.Ids.{idBytes};
 ghost use Rattle.models.specs.Tables.{Inside};
-ghost use Rattle.commit_record.specs.Bytes.{placeId};
+ghost use Rattle.answer_bytes.specs.Bytes.{placeId};
 ghost use Rattle.back_history.specs.Sweep.{wants};
 ghost use Rattle.back_history.specs.History.{picked};
 ghost use Rattle.commit_record.specs.Record.{flagOf, headOf, recordOf, executes, isFirstOf, previousOf};
-use crate::bytes::put_id;
-use crate::bytes::put_u8;
-use crate::bytes::put_u32;
+use answer_bytes::put_id;
+use answer_bytes::put_number;
 use back_history::is_wanted;
 use dag_state::state::State;
 use models::parts::Round;
@@ -74,9 +73,9 @@ pub fn put_head(
 {
     let a1 = put_id(b, at, keys, anchor);
     let a2 = put_id(b, a1, keys, proof);
-    let a3 = put_u8(b, a2, flag(executable));
-    let a4 = put_u32(b, a3, wide(previous));
-    put_u32(b, a4, count as u64)
+    let a3 = put_number(b, a2, 1, flag(executable));
+    let a4 = put_number(b, a3, 4, wide(previous));
+    put_number(b, a4, 4, count as u64)
 }
 
 // The whole record, of `count` points.

@@ -37,11 +37,11 @@ put-id-requires c κs =
     let t = c .before .before .loop-test .taken in
     (omega (arith, l .inv .place, l .inv .long, l .inv .most, p .1 .0, t), p .1 .1 (l .k - 1) (omega (arith, l .inv .most, t)))
 
-cast-put-u32 : tie.Need-cast-put-u32 Inv-loop μ-loop
-cast-put-u32 c = search needs
+cast-put-number : tie.Need-cast-put-number Inv-loop μ-loop
+cast-put-number c = search needs
 
-put-u32-requires : tie.Need-put-u32-requires Inv-loop μ-loop
-put-u32-requires c κs =
+put-number-requires : tie.Need-put-number-requires Inv-loop μ-loop
+put-number-requires c κs =
     let p = c .before .before .before .before .before .before .before .before .before .before .pre in
     let l = c .before .before .before .before .before .before .before .loop in
     let t = c .before .before .before .before .before .before .loop-test .taken in
@@ -54,7 +54,7 @@ loop-again : tie.Need-loop-again Inv-loop μ-loop
 loop-again c =
     let a = c .before .before .before .before .before .before .before .before .before .before .before .before .before .args in
     let l = c .before .before .before .before .before .before .before .before .before .before .loop in
-    putting-more (a .keys .now) _ _ (a .count) (a .b .now) (l .b) (l .at) (l .k) (l .inv) (c .before .before .before .before .before .before .before .before .before .loop-test .taken) _ _ _ _ _ refl (c .before .before .before .before .before .before .put-id .ensures .0) (c .before .before .before .before .before .before .put-id .ensures .1) (c .before .before .put-u32 .ensures .0) (c .before .before .put-u32 .ensures .1)
+    putting-more (a .keys .now) _ _ (a .count) (a .b .now) (l .b) (l .at) (l .k) (l .inv) (c .before .before .before .before .before .before .before .before .before .loop-test .taken) _ _ _ _ _ refl (c .before .before .before .before .before .before .put-id .ensures .0) (c .before .before .before .before .before .before .put-id .ensures .1) (c .before .before .put-number .ensures .0) (c .before .before .put-number .ensures .1)
 
 same-length : tie.Need-same-length Inv-loop μ-loop
 same-length c = let h = c .before .loop .inv .long in search needs
@@ -78,8 +78,8 @@ put-looks-spec =
     mul-n
     array-read-n
     put-id-requires
-    cast-put-u32
-    put-u32-requires
+    cast-put-number
+    put-number-requires
     loop-less
     loop-again
     same-length

@@ -15,17 +15,17 @@ put-id-requires-2 c κs = search needs
 flag-requires : tie.Need-flag-requires
 flag-requires c κs = search needs
 
-put-u8-requires : tie.Need-put-u8-requires
-put-u8-requires c κs = search needs
+put-number-requires : tie.Need-put-number-requires
+put-number-requires c κs = search needs
 
 wide-requires : tie.Need-wide-requires
 wide-requires c κs = search needs
 
-put-u32-requires : tie.Need-put-u32-requires
-put-u32-requires c κs = search needs
+put-number-requires-2 : tie.Need-put-number-requires-2
+put-number-requires-2 c κs = search needs
 
-put-u32-requires-2 : tie.Need-put-u32-requires-2
-put-u32-requires-2 c κs = search needs
+put-number-requires-3 : tie.Need-put-number-requires-3
+put-number-requires-3 c κs = search needs
 
 same-length : tie.Need-same-length
 same-length c = search needs
@@ -36,9 +36,9 @@ returns c = (
   omega arith,
   andThen _ _ _ _ _ _ _ 37 (id-length _) (c .before .before .before .before .before .before .before .before .before .before .before .before .before .before .before .before .before .before .before .before .put-id .ensures .0) (c .before .before .before .before .before .before .before .before .before .before .before .before .before .before .before .before .before .before .before .before .put-id .ensures .1)
       (andThen _ _ _ _ _ _ _ 37 (id-length _) (c .before .before .before .before .before .before .before .before .before .before .before .before .before .before .before .before .put-id2 .ensures .0) (c .before .before .before .before .before .before .before .before .before .before .before .before .before .before .before .before .put-id2 .ensures .1)
-      (andThen _ _ _ _ _ _ _ 1 (be-length 1 _) (c .before .before .before .before .before .before .before .before .before .before .before .put-u8 .ensures .0) (rw (c .before .before .before .before .before .before .before .before .before .before .before .before .flag .ensures) at (c .before .before .before .before .before .before .before .before .before .before .before .put-u8 .ensures .1))
-      (andThen _ _ _ _ _ _ _ 4 (be-length 4 _) (c .before .before .before .before .before .before .put-u32 .ensures .0) (rw (c .before .before .before .before .before .before .before .wide .ensures) at (c .before .before .before .before .before .before .put-u32 .ensures .1))
-      (c .before .before .put-u322 .ensures .1)))),
+      (andThen _ _ _ _ _ _ _ 1 (be-length 1 _) (c .before .before .before .before .before .before .before .before .before .before .before .put-number .ensures .0) (rw (c .before .before .before .before .before .before .before .before .before .before .before .before .flag .ensures) at (c .before .before .before .before .before .before .before .before .before .before .before .put-number .ensures .1))
+      (andThen _ _ _ _ _ _ _ 4 (be-length 4 _) (c .before .before .before .before .before .before .put-number2 .ensures .0) (rw (c .before .before .before .before .before .before .before .wide .ensures) at (c .before .before .before .before .before .before .put-number2 .ensures .1))
+      (c .before .before .put-number3 .ensures .1)))),
 )
 
 pub put-head-spec : {M : Type 1} → statement M
@@ -48,9 +48,9 @@ put-head-spec =
     put-id-requires
     put-id-requires-2
     flag-requires
-    put-u8-requires
+    put-number-requires
     wide-requires
-    put-u32-requires
-    put-u32-requires-2
+    put-number-requires-2
+    put-number-requires-3
     same-length
     returns)

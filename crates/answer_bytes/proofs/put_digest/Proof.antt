@@ -2,10 +2,10 @@ use native.Mathlib.Omega.{arith}
 use mathlib.Core.Path.{sym}
 use Rattle.laws.specs.Bytes.{be-length, andThen}
 use Rattle.models.specs.Digest.{Fit}
-use Rattle.commit_record.specs.Bytes.{digest-bytes}
+use Rattle.answer_bytes.specs.Bytes.{digest-bytes}
 use borrow.Author.Needs.{needs}
-use Rattle.commit_record.proofs.bytes.put_digest.Statement.{statement}
-use Rattle.commit_record.proofs.bytes.put_digest.Tie as tie
+use Rattle.answer_bytes.proofs.put_digest.Statement.{statement}
+use Rattle.answer_bytes.proofs.put_digest.Tie as tie
 
 add-w0 : tie.Need-add-w0
 add-w0 c = search needs
@@ -43,17 +43,17 @@ mul-w3 c = search needs
 shared-slice-read-w3 : tie.Need-shared-slice-read-w3
 shared-slice-read-w3 c = search needs
 
-put-u64-requires : tie.Need-put-u64-requires
-put-u64-requires c κs = search needs
+put-number-requires : tie.Need-put-number-requires
+put-number-requires c κs = search needs
 
-put-u64-requires-2 : tie.Need-put-u64-requires-2
-put-u64-requires-2 c κs = search needs
+put-number-requires-2 : tie.Need-put-number-requires-2
+put-number-requires-2 c κs = search needs
 
-put-u64-requires-3 : tie.Need-put-u64-requires-3
-put-u64-requires-3 c κs = search needs
+put-number-requires-3 : tie.Need-put-number-requires-3
+put-number-requires-3 c κs = search needs
 
-put-u64-requires-4 : tie.Need-put-u64-requires-4
-put-u64-requires-4 c κs = search needs
+put-number-requires-4 : tie.Need-put-number-requires-4
+put-number-requires-4 c κs = search needs
 
 same-length : tie.Need-same-length
 same-length c = search needs
@@ -64,9 +64,9 @@ returns c =
     let f : Fit (a .words .now) = λ p. c .before .before .before .before .before .before .before .before .before .before .before .before .before .before .before .before .before .before .before .before .shared-slice-known .given p .fits in (
       omega arith,
       rw (sym (digest-bytes (a .words .now) (a .p) f))
-          (andThen _ _ _ _ _ _ _ 8 (be-length 8 _) (c .before .before .before .before .before .before .before .before .before .before .before .before .before .before .put-u64 .ensures .0) (c .before .before .before .before .before .before .before .before .before .before .before .before .before .before .put-u64 .ensures .1)
-          (andThen _ _ _ _ _ _ _ 8 (be-length 8 _) (c .before .before .before .before .before .before .before .before .before .before .put-u642 .ensures .0) (c .before .before .before .before .before .before .before .before .before .before .put-u642 .ensures .1)
-          (andThen _ _ _ _ _ _ _ 8 (be-length 8 _) (c .before .before .before .before .before .before .put-u643 .ensures .0) (c .before .before .before .before .before .before .put-u643 .ensures .1) (c .before .before .put-u644 .ensures .1)))),
+          (andThen _ _ _ _ _ _ _ 8 (be-length 8 _) (c .before .before .before .before .before .before .before .before .before .before .before .before .before .before .put-number .ensures .0) (c .before .before .before .before .before .before .before .before .before .before .before .before .before .before .put-number .ensures .1)
+          (andThen _ _ _ _ _ _ _ 8 (be-length 8 _) (c .before .before .before .before .before .before .before .before .before .before .put-number2 .ensures .0) (c .before .before .before .before .before .before .before .before .before .before .put-number2 .ensures .1)
+          (andThen _ _ _ _ _ _ _ 8 (be-length 8 _) (c .before .before .before .before .before .before .put-number3 .ensures .0) (c .before .before .before .before .before .before .put-number3 .ensures .1) (c .before .before .put-number4 .ensures .1)))),
     )
 
 pub put-digest-spec : {M : Type 1} → statement M
@@ -85,9 +85,9 @@ put-digest-spec =
     add-w3
     mul-w3
     shared-slice-read-w3
-    put-u64-requires
-    put-u64-requires-2
-    put-u64-requires-3
-    put-u64-requires-4
+    put-number-requires
+    put-number-requires-2
+    put-number-requires-3
+    put-number-requires-4
     same-length
     returns)

@@ -4,10 +4,10 @@ use mathlib.Core.List.{List}
 use native.Mathlib.Omega.{arith}
 use lib.ListN.{length, set, length-set}
 use Rattle.laws.specs.Bytes.{be, written}
-use Rattle.inspect_bytes.specs.Sent.{number-step, number-end}
+use Rattle.answer_bytes.specs.Sent.{number-step, number-end}
 use borrow.Author.Needs.{needs}
-use Rattle.inspect_bytes.proofs.put_number.Statement.{statement}
-use Rattle.inspect_bytes.proofs.put_number.Tie as tie
+use Rattle.answer_bytes.proofs.put_number.Statement.{statement}
+use Rattle.answer_bytes.proofs.put_number.Tie as tie
 
 -- one byte more
 step : (b : List ℕ) (at k x : ℕ) → 0 < k → written (set b (at + (k - 1)) (x % 256)) at (be (k - 1) (x / 256)) ≡ written b at (be k x)
@@ -44,11 +44,14 @@ loop-less c = omega (arith, c .loop-test .taken)
 loop-again : tie.Need-loop-again Inv-loop μ-loop
 loop-again c = let i = c .before .loop .inv in (omega (arith, i .0), length-set (c .before .loop .b) _ _ ∙ i .1, step _ _ _ _ (c .loop-test .taken) ∙ i .2)
 
+add-result : tie.Need-add-result Inv-loop μ-loop
+add-result c = search needs
+
 same-length : tie.Need-same-length Inv-loop μ-loop
 same-length c = c .before .loop .inv .1
 
 returns : tie.Need-returns Inv-loop μ-loop
-returns c = let i = c .before .loop .inv in ended _ _ _ _ _ (c .loop-test .left) (i .2)
+returns c = let i = c .before .loop .inv in (refl, ended _ _ _ _ _ (c .loop-test .left) (i .2))
 
 pub put-number-spec : {M : Type 1} → statement M
 put-number-spec =
@@ -63,5 +66,6 @@ put-number-spec =
     slice-write-b
     loop-less
     loop-again
+    add-result
     same-length
     returns)

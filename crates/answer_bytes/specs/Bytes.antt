@@ -4,8 +4,8 @@ use mathlib.Core.Path.{_≡_, refl, sym, ap, ap₂, _∙_}
 use mathlib.Core.List.{List, [], _∷_, _++_, append-nil, append-assoc}
 use native.Mathlib.Omega.{arith}
 use native.Mathlib.Nat.{add-zero, add-suc, mul-assoc, pow-zero, pow-suc}
-use lib.ListN.{set, getD}
-use Rattle.laws.specs.Bytes.{be, number, written}
+use lib.ListN.{getD}
+use Rattle.laws.specs.Bytes.{be, number}
 use Rattle.spec.specs.Ids.{Id}
 use Rattle.models.specs.Digest.{Fit, words, digestAt}
 use Rattle.models.specs.Tables.{roundAt, authorAt, digestOf}
@@ -14,30 +14,12 @@ use Rattle.models.specs.Tables.{roundAt, authorAt, digestOf}
 abbrev pub placeId : List ℕ → ℕ → Id
 placeId ks q = record { round = roundAt ks q; author = authorAt ks q; digest = digestOf ks q }
 
--- one byte
-pub byte-written : (b : List ℕ) (at v : ℕ) → set b at (v % 256) ≡ written b at (be 1 v)
-unfolding written be
-byte-written b at v = refl
-
 -- offsets
 twice : (p : ℕ) → p + 1 + 1 ≡ p + 2
 twice p = omega arith
 
 thrice : (p : ℕ) → p + 1 + 1 + 1 ≡ p + 3
 thrice p = omega arith
-
--- four bytes
-pub four-written : (b : List ℕ) (at v : ℕ) → set (set (set (set b at (v / 256 / 256 / 256 % 256)) (at + 1) (v / 256 / 256 % 256)) (at + 2) (v / 256 % 256)) (at + 3) (v % 256) ≡ written b at (be 4 v)
-unfolding written be
-four-written b at v = rw (thrice at, twice at) refl
-
--- eight bytes are the upper four and the lower four
-pub be-halves : (v : ℕ) → be 4 (v / 4294967296) ++ be 4 v ≡ be 8 v
-unfolding be
-be-halves v = rw (quarter v) refl
-  where
-    quarter : (v : ℕ) → v / 4294967296 ≡ v / 256 / 256 / 256 / 256
-    quarter v = omega arith
 
 -- the bytes of a number with n more digits to the base 256
 be-join : (m n a b : ℕ) → b < 256 ^ n → be (m + n) (a * 256 ^ n + b) ≡ be m a ++ be n b

@@ -1,9 +1,9 @@
 use mathlib.Core.Path.{refl}
 use Rattle.laws.specs.Bytes.{be-length}
-use Rattle.inspect_bytes.specs.Sent.{sent-wrote, sent-counted}
+use Rattle.answer_bytes.specs.Sent.{sent-wrote, sent-counted}
 use borrow.Author.Needs.{needs}
-use Rattle.inspect_bytes.proofs.emit_digest.Statement.{statement}
-use Rattle.inspect_bytes.proofs.emit_digest.Tie as tie
+use Rattle.answer_bytes.proofs.emit_digest.Statement.{statement}
+use Rattle.answer_bytes.proofs.emit_digest.Tie as tie
 
 put-digest-requires : tie.Need-put-digest-requires
 put-digest-requires c κs = (c .before .before .before .before .pre .0 .0 (c .before .if1 .taken), c .before .before .before .before .pre .1)

@@ -2,8 +2,8 @@ use native.Mathlib.Omega.{arith}
 use Rattle.laws.specs.Bytes.{be-length, andThen}
 use Rattle.spec.specs.Ids.{idBytes}
 use borrow.Author.Needs.{needs}
-use Rattle.commit_record.proofs.bytes.put_id.Statement.{statement}
-use Rattle.commit_record.proofs.bytes.put_id.Tie as tie
+use Rattle.answer_bytes.proofs.put_id.Statement.{statement}
+use Rattle.answer_bytes.proofs.put_id.Tie as tie
 
 mul-round : tie.Need-mul-round
 mul-round c = search needs
@@ -29,11 +29,11 @@ mul-author-2 c = search needs
 shared-slice-read-author : tie.Need-shared-slice-read-author
 shared-slice-read-author c = search needs
 
-put-u32-requires : tie.Need-put-u32-requires
-put-u32-requires c κs = search needs
+put-number-requires : tie.Need-put-number-requires
+put-number-requires c κs = search needs
 
-put-u8-requires : tie.Need-put-u8-requires
-put-u8-requires c κs = search needs
+put-number-requires-2 : tie.Need-put-number-requires-2
+put-number-requires-2 c κs = search needs
 
 mul-put-digest : tie.Need-mul-put-digest
 mul-put-digest c = search needs
@@ -51,8 +51,8 @@ returns : tie.Need-returns
 unfolding idBytes
 returns c = (
   omega arith,
-  andThen _ _ _ _ _ _ _ 4 (be-length 4 _) (c .before .before .before .before .before .before .before .before .before .before .put-u32 .ensures .0) (c .before .before .before .before .before .before .before .before .before .before .put-u32 .ensures .1)
-      (andThen _ _ _ _ _ _ _ 1 (be-length 1 _) (c .before .before .before .before .before .before .put-u8 .ensures .0) (c .before .before .before .before .before .before .put-u8 .ensures .1) (c .before .before .put-digest .ensures .1)),
+  andThen _ _ _ _ _ _ _ 4 (be-length 4 _) (c .before .before .before .before .before .before .before .before .before .before .put-number .ensures .0) (c .before .before .before .before .before .before .before .before .before .before .put-number .ensures .1)
+      (andThen _ _ _ _ _ _ _ 1 (be-length 1 _) (c .before .before .before .before .before .before .put-number2 .ensures .0) (c .before .before .before .before .before .before .put-number2 .ensures .1) (c .before .before .put-digest .ensures .1)),
 )
 
 pub put-id-spec : {M : Type 1} → statement M
@@ -67,8 +67,8 @@ put-id-spec =
     add-author
     mul-author-2
     shared-slice-read-author
-    put-u32-requires
-    put-u8-requires
+    put-number-requires
+    put-number-requires-2
     mul-put-digest
     add-put-digest
     put-digest-requires
