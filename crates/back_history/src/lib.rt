@@ -79,13 +79,13 @@ fn sweep(
     links: &[u64],
     certs: &[u64],
     order: &[u64],
-    bottom: u64,
+    bottom: Round,
     low: usize,
     high: usize,
 )
     requires { ⌜ Range (now certs) (now order) low high ⌝ }
-    requires { ⌜ (length (now keys) ≡ length (now order) * 8) × (length (now links) ≡ length (now order) * 328) × (bottom ≤ 4000000000) ⌝ }
-    ensures { λ _. ⌜ now (marks .exit) ≡ swept bottom (now (keys .entry)) (now (links .entry)) (now (certs .entry)) (now (order .entry)) (now (marks .entry)) high (high - low) ⌝ }
+    requires { ⌜ (length (now keys) ≡ length (now order) * 8) × (length (now links) ≡ length (now order) * 328) ⌝ }
+    ensures { λ _. ⌜ now (marks .exit) ≡ swept (bottom .0) (now (keys .entry)) (now (links .entry)) (now (certs .entry)) (now (order .entry)) (now (marks .entry)) high (high - low) ⌝ }
 {
     let mut p = high;
     while low < p {
@@ -103,14 +103,14 @@ pub fn needed(
     links: &[u64],
     certs: &[u64],
     order: &[u64],
-    bottom: u64,
+    bottom: Round,
     low: usize,
     high: usize,
     anchor: usize,
 ) -> [bool; 4096]
     requires { ⌜ Range (now certs) (now order) low high ⌝ }
-    requires { ⌜ (length (now keys) ≡ length (now order) * 8) × (length (now links) ≡ length (now order) * 328) × (bottom ≤ 4000000000) × (anchor < length (now order)) ⌝ }
-    ensures { λ r. ⌜ r ≡ marks bottom (now (keys .entry)) (now (links .entry)) (now (certs .entry)) (now (order .entry)) low high anchor ⌝ }
+    requires { ⌜ (length (now keys) ≡ length (now order) * 8) × (length (now links) ≡ length (now order) * 328) × (anchor < length (now order)) ⌝ }
+    ensures { λ r. ⌜ r ≡ marks (bottom .0) (now (keys .entry)) (now (links .entry)) (now (certs .entry)) (now (order .entry)) low high anchor ⌝ }
 {
     let mut marks = [false; 4096];
     marks[anchor] = true;

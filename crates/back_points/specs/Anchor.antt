@@ -15,7 +15,7 @@ use Rattle.models.specs.declared.parts.Round.{Round}
 use Rattle.dag_ids.specs.Ids.{idHolds}
 use Rattle.dag_state.specs.Numbers.{roundsHold, rangeHolds}
 use Rattle.dag_state.specs.declared.state.State.{State}
-use Rattle.dag_test.specs.Tested.{shape-says, places-says, range-says, rounds-says}
+use Rattle.dag_test.specs.Tested.{shape-says, places-says, range-says}
 use Rattle.dag_test.specs.Counts.{Started}
 use Rattle.dag_name.specs.Name.{Ready}
 use Rattle.dag_drain.specs.Cut.{below, below-le}
@@ -159,8 +159,8 @@ module _ (s : State) (ks ls cs os : List ℕ) (t : Started s ks ls cs os) where
 
     -- what the sweep asks for
     pub span-ready : Fit ks → Fit ls → (r : ℕ) (x : Span) → r ≡ roundAt ks a → x ≡ spanOf s ks os r
-        → Range cs os (x .low) (x .high) × ((length ks ≡ length os * 8) × (length ls ≡ length os * 328) × (s .bottom .0 ≤ 4_000_000_000) × (a < length os))
-    span-ready fk fl r x o e = let (f, g, h) = shape-says ks ls cs os (t .shaped) in (span-range fk fl r x o e, (f, g, rounds-says s (t .rounds-ok), anchor-there))
+        → Range cs os (x .low) (x .high) × ((length ks ≡ length os * 8) × (length ls ≡ length os * 328) × (a < length os))
+    span-ready fk fl r x o e = let (f, g, h) = shape-says ks ls cs os (t .shaped) in (span-range fk fl r x o e, (f, g, anchor-there))
 
     -- their rounds are rounds of 01
     span-rounds : (r : ℕ) (x : Span) → r ≡ roundAt ks a → x ≡ spanOf s ks os r → Rounds ks os (x .high)

@@ -51,8 +51,8 @@ fn span_of(s: State, keys: &[u64], order: &[u64], round: Round) -> Span
     let limit = history_limit(genesis, s.history_rounds, round);
     let lowest = later(limit, bottom);
     let n = s.count;
-    let low = dag_drain::cut(keys, order, n, lowest.0);
-    let high = dag_drain::cut(keys, order, n, round.0 + 1);
+    let low = dag_drain::cut(keys, order, n, lowest);
+    let high = dag_drain::cut(keys, order, n, round.plus(1));
     Span {
         limit: limit,
         low: low,
@@ -127,16 +127,7 @@ pub fn test_anchor(
     let low = span.low;
     let high = span.high;
     let bottom = s.bottom;
-    let marks = needed(
-        keys,
-        links,
-        certs,
-        order,
-        bottom.0 as u64,
-        low,
-        high,
-        anchor,
-    );
+    let marks = needed(keys, links, certs, order, bottom, low, high, anchor);
     let count = count_points(&marks, certs, order, low, high);
     let fault = anchor_code(s, &marks, keys, certs, order, span, round);
     let conflict = fault.round;

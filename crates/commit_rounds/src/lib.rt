@@ -148,7 +148,7 @@ pub fn drop_upto(
     let r = round.0;
     let actual = least(r, top.0);
     let lowest = most(bottom.0, actual);
-    let k = cut(keys, order, n, lowest);
+    let k = cut(keys, order, n, Round(lowest));
     drain_upto(keys, links, certs, order, n, k);
     let next = dropped(s, actual, lowest, n - k);
     Outcome {

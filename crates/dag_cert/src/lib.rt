@@ -7,6 +7,7 @@ ghost use Rattle.models.specs.Tables.{targetAt};
 ghost use Rattle.dag_heights.specs.View.{heightAt};
 ghost use Rattle.dag_cert.specs.Work.{work, deeper, Fits, handed, Open, Ready, settled, traversed};
 ghost use Rattle.dag_cert.specs.Sane.{Placed};
+use models::parts::Round;
 
 // A link with the target word `target`, d rounds down from a place of height h: its target rises to h - d if it is lower, and is
 // queued. Returns the new end of the queue.
@@ -68,10 +69,10 @@ fn slot(x: u16) -> usize
 }
 
 // Visits the queue, whose first entry is there, until no entry is left.
-fn certify_queued(keys: &[u64], links: &[u64], certs: &mut [u64], queue: &mut [u16], bottom: u64)
-    requires { ⌜ (length (now keys) ≡ length (now certs) * 8) × (length (now links) ≡ length (now certs) * 328) × (length (now queue) ≡ 4096) × (bottom ≤ 4000000000) × (length (now certs) ≤ 4096) ⌝ }
-    requires { ⌜ Ready bottom (now keys) (now links) (work (now certs) (now queue) 1) ⌝ }
-    ensures { λ _. ⌜ now (certs .exit) ≡ settled bottom (now (keys .entry)) (now (links .entry)) (work (now (certs .entry)) (now (queue .entry)) 1) ⌝ }
+fn certify_queued(keys: &[u64], links: &[u64], certs: &mut [u64], queue: &mut [u16], bottom: Round)
+    requires { ⌜ (length (now keys) ≡ length (now certs) * 8) × (length (now links) ≡ length (now certs) * 328) × (length (now queue) ≡ 4096) × (length (now certs) ≤ 4096) ⌝ }
+    requires { ⌜ Ready (bottom .0) (now keys) (now links) (work (now certs) (now queue) 1) ⌝ }
+    ensures { λ _. ⌜ now (certs .exit) ≡ settled (bottom .0) (now (keys .entry)) (now (links .entry)) (work (now (certs .entry)) (now (queue .entry)) 1) ⌝ }
 {
     let mut tail: usize = 1;
     let mut head: usize = 0;
@@ -84,10 +85,10 @@ fn certify_queued(keys: &[u64], links: &[u64], certs: &mut [u64], queue: &mut [u
 }
 
 // Hands the height of place q on to all places that its links lead to.
-pub fn traverse_certify(keys: &[u64], links: &[u64], certs: &mut [u64], q: usize, bottom: u64)
-    requires { ⌜ (length (now keys) ≡ length (now certs) * 8) × (length (now links) ≡ length (now certs) * 328) × (bottom ≤ 4000000000) ⌝ }
-    requires { ⌜ Placed bottom (now keys) (now links) (now certs) q ⌝ }
-    ensures { λ _. ⌜ now (certs .exit) ≡ traversed bottom (now (keys .entry)) (now (links .entry)) (now (certs .entry)) q ⌝ }
+pub fn traverse_certify(keys: &[u64], links: &[u64], certs: &mut [u64], q: usize, bottom: Round)
+    requires { ⌜ (length (now keys) ≡ length (now certs) * 8) × (length (now links) ≡ length (now certs) * 328) ⌝ }
+    requires { ⌜ Placed (bottom .0) (now keys) (now links) (now certs) q ⌝ }
+    ensures { λ _. ⌜ now (certs .exit) ≡ traversed (bottom .0) (now (keys .entry)) (now (links .entry)) (now (certs .entry)) q ⌝ }
 {
     let mut queue = [0u16; 4096];
     queue[0] = q as u16;

@@ -7,14 +7,15 @@ ghost use Rattle.dag_keys.specs.Sorted.{Sorted};
 ghost use Rattle.dag_order.specs.Shift.{drained};
 ghost use Rattle.dag_places.specs.Zero.{emptied};
 ghost use Rattle.dag_drain.specs.Cut.{below};
+use models::parts::Round;
 
 // How many of the first n places are of rounds below `bottom`: they stand first in the order.
-pub fn cut(keys: &[u64], order: &[u64], n: usize, bottom: u32) -> usize
+pub fn cut(keys: &[u64], order: &[u64], n: usize, bottom: Round) -> usize
     requires { ⌜ (length (now keys) ≡ length (now order) * 8) × (n ≤ length (now order)) × Inside (now order) n (length (now order)) ⌝ }
     requires { ⌜ Sorted (now keys) (now order) n ⌝ }
-    ensures { λ r. ⌜ r ≡ below (now (keys .entry)) (now (order .entry)) n bottom ⌝ }
+    ensures { λ r. ⌜ r ≡ below (now (keys .entry)) (now (order .entry)) n (bottom .0) ⌝ }
 {
-    let round = bottom as u64;
+    let round = bottom.0 as u64;
     let least = [round, 0, 0, 0, 0, 0, 0, 0];
     dag_keys::seek(keys, order, n, &least)
 }

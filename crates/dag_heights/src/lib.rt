@@ -1,10 +1,11 @@
-// The stored heights tested in one pass over the links (models/cert.rs).
+// Origin: models/cert.rs (certify_deeper). The stored heights tested in one pass over the links.
 ghost use mathlib.Core.Path.{_≡_};
 ghost use Prim.Native.Nat.{_+_, _*_, _-_, _/_, _%_, _<_, _≤_};
 ghost use lib.ListN.{length};
 ghost use Rattle.dag_heights.specs.View.{reach, ownOf};
 ghost use Rattle.dag_heights.specs.Push.{raised, pushed, pushedOne, pushedAll, agrees, heightsHold};
 ghost use Rattle.models.specs.Tables.{Inside, targetAt};
+use models::parts::Round;
 
 // Raises cell p to v; a p that is no cell is passed over.
 fn raise(cells: &mut [u16], p: u64, v: u16)
@@ -41,19 +42,20 @@ fn push(cells: &mut [u16], links: &[u64], q: usize, v: u16, m: usize)
 }
 
 // How many links of place q are live.
-pub fn live(keys: &[u64], bottom: u64, q: usize) -> usize
-    requires { ⌜ (q * 8 + 8 ≤ length (now keys)) × (bottom ≤ 4000000000) ⌝ }
-    ensures { λ r. ⌜ r ≡ reach bottom (now (keys .entry)) q ⌝ }
+pub fn live(keys: &[u64], bottom: Round, q: usize) -> usize
+    requires { ⌜ q * 8 + 8 ≤ length (now keys) ⌝ }
+    ensures { λ r. ⌜ r ≡ reach (bottom .0) (now (keys .entry)) q ⌝ }
     ensures { λ r. ⌜ r ≤ 64 ⌝ }
 {
     if keys[q * 8 + 6] == 0 {
         return 0;
     }
     let r = keys[q * 8 + 0];
-    if r < bottom + 1 {
+    let b = bottom.0 as u64;
+    if r < b + 1 {
         return 0;
     }
-    if r < bottom + 2 {
+    if r < b + 2 {
         return 32;
     }
     64
@@ -88,12 +90,12 @@ fn push_all(
     certs: &[u64],
     order: &[u64],
     n: usize,
-    bottom: u64,
+    bottom: Round,
     h: u64,
 )
-    requires { ⌜ (length (now order) ≤ 4096) × (length (now keys) ≡ length (now order) * 8) × (length (now links) ≡ length (now order) * 328) × (length (now certs) ≡ length (now order)) × (n ≤ length (now order)) × (bottom ≤ 4000000000) × (h ≤ 255) ⌝ }
+    requires { ⌜ (length (now order) ≤ 4096) × (length (now keys) ≡ length (now order) * 8) × (length (now links) ≡ length (now order) * 328) × (length (now certs) ≡ length (now order)) × (n ≤ length (now order)) × (h ≤ 255) ⌝ }
     requires { ⌜ Inside (now order) n (length (now order)) ⌝ }
-    ensures { λ _. ⌜ now (cells .exit) ≡ pushedAll bottom h (now (keys .entry)) (now (links .entry)) (now (certs .entry)) (now (order .entry)) (now (cells .entry)) n ⌝ }
+    ensures { λ _. ⌜ now (cells .exit) ≡ pushedAll (bottom .0) h (now (keys .entry)) (now (links .entry)) (now (certs .entry)) (now (order .entry)) (now (cells .entry)) n ⌝ }
 {
     let mut i: usize = 0;
     while i < n {
@@ -129,12 +131,12 @@ pub fn heights_hold(
     certs: &[u64],
     order: &[u64],
     n: usize,
-    bottom: u64,
+    bottom: Round,
     h: u64,
 ) -> bool
-    requires { ⌜ (length (now order) ≤ 4096) × (length (now keys) ≡ length (now order) * 8) × (length (now links) ≡ length (now order) * 328) × (length (now certs) ≡ length (now order)) × (n ≤ length (now order)) × (bottom ≤ 4000000000) × (h ≤ 255) ⌝ }
+    requires { ⌜ (length (now order) ≤ 4096) × (length (now keys) ≡ length (now order) * 8) × (length (now links) ≡ length (now order) * 328) × (length (now certs) ≡ length (now order)) × (n ≤ length (now order)) × (h ≤ 255) ⌝ }
     requires { ⌜ Inside (now order) n (length (now order)) ⌝ }
-    ensures { λ r. ⌜ r ≡ heightsHold bottom h (now (keys .entry)) (now (links .entry)) (now (certs .entry)) (now (order .entry)) n ⌝ }
+    ensures { λ r. ⌜ r ≡ heightsHold (bottom .0) h (now (keys .entry)) (now (links .entry)) (now (certs .entry)) (now (order .entry)) n ⌝ }
 {
     let mut cells = [0u16; 4097];
     push_all(&mut cells, keys, links, certs, order, n, bottom, h);

@@ -9,6 +9,7 @@ ghost use Rattle.dag_links.specs.Words.{namedRight, toldRight, wordsAt, 
 ghost use Rattle.models.specs.Tables.{roundAt, Inside, dist};
 use laws::and;
 use laws::or;
+use models::parts::Round;
 
 // Whether the four words of a from i are those of b from j.
 fn same_words(a: &[u64], i: usize, b: &[u64], j: usize) -> bool
@@ -113,11 +114,11 @@ fn all_right(
     marks: &[bool],
     order: &[u64],
     n: usize,
-    bottom: u64,
+    bottom: Round,
 ) -> bool
-    requires { ⌜ (length (now order) ≤ length (now marks)) × (length (now keys) ≡ length (now order) * 8) × (length (now links) ≡ length (now order) * 328) × (n ≤ length (now order)) × (bottom ≤ 4000000000) ⌝ }
+    requires { ⌜ (length (now order) ≤ length (now marks)) × (length (now keys) ≡ length (now order) * 8) × (length (now links) ≡ length (now order) * 328) × (n ≤ length (now order)) ⌝ }
     requires { ⌜ Inside (now order) n (length (now order)) ⌝ }
-    ensures { λ r. ⌜ r ≡ allRight bottom (now (keys .entry)) (now (links .entry)) (now (marks .entry)) (now (order .entry)) n ⌝ }
+    ensures { λ r. ⌜ r ≡ allRight (bottom .0) (now (keys .entry)) (now (links .entry)) (now (marks .entry)) (now (order .entry)) n ⌝ }
 {
     let mut i: usize = 0;
     while i < n {
@@ -132,10 +133,10 @@ fn all_right(
 }
 
 // Whether every live link leads to the used place that it says.
-pub fn links_hold(keys: &[u64], links: &[u64], order: &[u64], n: usize, bottom: u64) -> bool
-    requires { ⌜ (length (now order) ≤ 4096) × (length (now keys) ≡ length (now order) * 8) × (length (now links) ≡ length (now order) * 328) × (n ≤ length (now order)) × (bottom ≤ 4000000000) ⌝ }
+pub fn links_hold(keys: &[u64], links: &[u64], order: &[u64], n: usize, bottom: Round) -> bool
+    requires { ⌜ (length (now order) ≤ 4096) × (length (now keys) ≡ length (now order) * 8) × (length (now links) ≡ length (now order) * 328) × (n ≤ length (now order)) ⌝ }
     requires { ⌜ Inside (now order) n (length (now order)) ⌝ }
-    ensures { λ r. ⌜ r ≡ linksHold bottom (now (keys .entry)) (now (links .entry)) (now (order .entry)) n ⌝ }
+    ensures { λ r. ⌜ r ≡ linksHold (bottom .0) (now (keys .entry)) (now (links .entry)) (now (order .entry)) n ⌝ }
 {
     let mut marks = [false; 4096];
     mark(&mut marks, order, n);
@@ -154,7 +155,7 @@ fn first_shut(keys: &[u64], q: usize) -> usize
     if 4 <= s {
         return 0;
     }
-    dag_heights::live(keys, 0, q)
+    dag_heights::live(keys, Round(0), q)
 }
 
 // Whether place q has no link from m on.

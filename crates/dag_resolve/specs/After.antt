@@ -73,8 +73,8 @@ deps-set cs q status w l e = rw (le-leb status 3 l, e) refl
 
 -- what the queue of heights needs, of the tables by then
 pub placed-by : (s : State) (ks ls cs os : List ℕ) (q : ℕ) (info : PointInfo) (rs us zs ws : List ℕ) → us ≡ toldKeys ks q info → zs ≡ toldLinks s ks ls os q info rs → ws ≡ toldCerts cs q (info .status)
-    → Resolvable s ks ls cs os q info rs → ((length us ≡ length ws * 8) × (length zs ≡ length ws * 328) × (s .bottom .0 ≤ 4_000_000_000)) × Placed (s .bottom .0) us zs ws q
-placed-by s ks ls cs os q info rs us zs ws a b c (e, f, (k, l, p)) = rw (a, b, c) ((k, l, e .5), p)
+    → Resolvable s ks ls cs os q info rs → ((length us ≡ length ws * 8) × (length zs ≡ length ws * 328)) × Placed (s .bottom .0) us zs ws q
+placed-by s ks ls cs os q info rs us zs ws a b c (e, f, (k, l, p)) = rw (a, b, c) ((k, l), p)
 
 -- the tables as they are handed on
 pub settled-by : (s : State) (ks ls cs os : List ℕ) (q : ℕ) (info : PointInfo) (rs us zs ws vs : List ℕ) → us ≡ toldKeys ks q info → zs ≡ toldLinks s ks ls os q info rs → ws ≡ toldCerts cs q (info .status)

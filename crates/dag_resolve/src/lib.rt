@@ -92,8 +92,7 @@ pub fn resolve_at(
     ensures certs { λ _. ⌜ now (certs .exit) ≡ resolvedCerts s (now (keys .entry)) (now (links .entry)) (now (certs .entry)) (now (order .entry)) q info (now (refs .entry)) ⌝ }
 {
     let bottom = s.bottom;
-    let b = bottom.0 as u64;
     dag_told::store_info(s, keys, links, order, q, info, refs);
     set_deps(certs, q, info.status);
-    dag_cert::traverse_certify(keys, links, certs, q, b);
+    dag_cert::traverse_certify(keys, links, certs, q, bottom);
 }

@@ -24,7 +24,7 @@ use Rattle.dag_heights.specs.View.{heightAt}
 use Rattle.dag_heights.specs.Exact.{Top, Heights}
 use Rattle.dag_state.specs.View.{pointAt}
 use Rattle.dag_state.specs.declared.state.State.{State}
-use Rattle.dag_test.specs.Tested.{shape, shape-says, places-says, conf-says, rounds-says}
+use Rattle.dag_test.specs.Tested.{shape, shape-says, places-says, conf-says}
 use Rattle.dag_test.specs.View.{regular, seenAt, view}
 use Rattle.dag_test.specs.Whole.{low-of}
 use Rattle.dag_test.specs.Counts.{Started, counted}
@@ -69,7 +69,7 @@ module _ (s : State) (ks ls cs os : List ℕ) (fk : Fit ks) (fl : Fit ls) (h : c
     pub certifiable : Certifiable s ks ls cs q
     certifiable =
         let (a, b, p) = placed s ks ls cs os q (t .shaped) (t .regulated) small u in
-        ((a, b, there, cert-small ks ls cs q (t .fits q u), rounds-says s (t .rounds-ok), most), p)
+        ((a, b, there, cert-small ks ls cs q (t .fits q u), most), p)
 
     -- the flags with the top bit
     abbrev flags : Flags

@@ -22,15 +22,15 @@ certifiedCerts s ks ls cs q = traversed (s .bottom .0) ks ls (toppedCerts s cs q
 -- what the tables must be for the place q to be certified
 abbrev pub Certifiable : State → List ℕ → List ℕ → List ℕ → ℕ → Type 0
 Certifiable s ks ls cs q =
-    ((length ks ≡ length cs * 8) × (length ls ≡ length cs * 328) × (q < length cs) × (getD cs q 0 < 65536) × (s .bottom .0 ≤ 4_000_000_000) × (s .«history_rounds» ≤ 255))
+    ((length ks ≡ length cs * 8) × (length ls ≡ length cs * 328) × (q < length cs) × (getD cs q 0 < 65536) × (s .«history_rounds» ≤ 255))
     × Placed (s .bottom .0) ks ls cs q
 
 -- the height can be handed on after another word is written
 pub certifiable-set : (s : State) (ks ls cs : List ℕ) (q x : ℕ) → Certifiable s ks ls cs q
-    → ((length ks ≡ length (set cs q x) * 8) × (length ls ≡ length (set cs q x) * 328) × (s .bottom .0 ≤ 4_000_000_000)) × Placed (s .bottom .0) ks ls (set cs q x) q
-certifiable-set s ks ls cs q x ((a, b, l, w, low, most), (os, n, r)) =
+    → ((length ks ≡ length (set cs q x) * 8) × (length ls ≡ length (set cs q x) * 328)) × Placed (s .bottom .0) ks ls (set cs q x) q
+certifiable-set s ks ls cs q x ((a, b, l, w, most), (os, n, r)) =
     let e = length-set cs q x in
-    ((omega (arith, e, a), omega (arith, e, b), low), (os, n, record { small = omega (arith, e, r .small); inside = λ i l. omega (arith, e, r .inside i l); falls = r .falls; first = r .first }))
+    ((omega (arith, e, a), omega (arith, e, b)), (os, n, record { small = omega (arith, e, r .small); inside = λ i l. omega (arith, e, r .inside i l); falls = r .falls; first = r .first }))
 
 -- the words that the code leaves
 pub certified-by : (s : State) (ks ls cs ds : List ℕ) (q t x : ℕ) → t ≡ word (topped (flagsOf (getD cs q 0))) (heightOf (getD cs q 0)) → x ≡ word (flagsOf t) (s .«history_rounds» + 1)

@@ -50,5 +50,5 @@ pub fn certify_at(s: State, keys: &[u64], links: &[u64], certs: &mut [u64], q: u
     let top = cert.set_top();
     let word = top.with_height(height);
     certs[q] = word.0;
-    dag_cert::traverse_certify(keys, links, certs, q, bottom.0 as u64);
+    dag_cert::traverse_certify(keys, links, certs, q, bottom);
 }

@@ -121,9 +121,8 @@ fn points_hold(s: State, keys: &[u64], links: &[u64], certs: &[u64], order: &[u6
 {
     let n = s.count;
     let bottom = s.bottom;
-    let b = bottom.0 as u64;
     let h = s.history_rounds as u64;
-    if !dag_links::links_hold(keys, links, order, n, b) {
+    if !dag_links::links_hold(keys, links, order, n, bottom) {
         return false;
     }
     if !dag_links::bare_hold(keys, links, order, n) {
@@ -132,7 +131,7 @@ fn points_hold(s: State, keys: &[u64], links: &[u64], certs: &[u64], order: &[u6
     if !dag_links::words_hold(keys, links, certs, order, n) {
         return false;
     }
-    dag_heights::heights_hold(keys, links, certs, order, n, b, h)
+    dag_heights::heights_hold(keys, links, certs, order, n, bottom, h)
 }
 
 // All tests. Each relies on those before it, so that any state and any tables may be given.

@@ -8,6 +8,7 @@ ghost use Rattle.inspect_round.specs.Tests.{passes};
 ghost use Rattle.inspect_round.specs.Count.{spanOf};
 use crate::tests::PointTest;
 use crate::tests::version_at;
+use models::parts::Round;
 
 // The positions of the points of a round, from `low` to `high`.
 pub struct Span {
@@ -16,13 +17,13 @@ pub struct Span {
 }
 
 // Those of this round, of the first n.
-pub fn span_at(keys: &[u64], order: &[u64], n: usize, round: u32) -> Span
+pub fn span_at(keys: &[u64], order: &[u64], n: usize, round: Round) -> Span
     requires { ⌜ (length (now keys) ≡ length (now order) * 8) × (n ≤ length (now order)) × Inside (now order) n (length (now order)) ⌝ }
-    requires { ⌜ Sorted (now keys) (now order) n × (round ≤ 4000000000) ⌝ }
-    ensures { λ r. ⌜ r ≡ spanOf (now (keys .entry)) (now (order .entry)) n round ⌝ }
+    requires { ⌜ Sorted (now keys) (now order) n × (round .0 ≤ 4000000000) ⌝ }
+    ensures { λ r. ⌜ r ≡ spanOf (now (keys .entry)) (now (order .entry)) n (round .0) ⌝ }
 {
     let low = dag_drain::cut(keys, order, n, round);
-    let high = dag_drain::cut(keys, order, n, round + 1);
+    let high = dag_drain::cut(keys, order, n, round.plus(1));
     Span {
         low: low,
         high: high,

@@ -8,7 +8,7 @@ use Rattle.back_history.proofs.sweep.Statement.{statement}
 use Rattle.back_history.proofs.sweep.Tie as tie
 
 abbrev Inv-loop : tie.InvT-loop
-Inv-loop marks₀ keys links certs order bottom low high p₀ marks p = (low ≤ p) × (p ≤ high) × (marks ≡ swept bottom keys links certs order marks₀ high (high - p))
+Inv-loop marks₀ keys links certs order bottom low high p₀ marks p = (low ≤ p) × (p ≤ high) × (marks ≡ swept (bottom .0) keys links certs order marks₀ high (high - p))
 
 abbrev μ-loop : tie.MeasureT-loop
 μ-loop marks₀ keys links certs order bottom low high p₀ marks p = p

@@ -9,7 +9,7 @@ use Rattle.dag_cert.proofs.certify_queued.Tie as tie
 
 abbrev Inv-loop : tie.InvT-loop
 Inv-loop keys links certs₀ queue₀ bottom tail₀ head₀ certs queue tail head =
-    (head ≤ 4096) × (work certs queue tail ≡ visited bottom keys links (work certs₀ queue₀ 1) head)
+    (head ≤ 4096) × (work certs queue tail ≡ visited (bottom .0) keys links (work certs₀ queue₀ 1) head)
 
 abbrev μ-loop : tie.MeasureT-loop
 μ-loop keys links certs₀ queue₀ bottom tail₀ head₀ certs queue tail head = 4096 - head

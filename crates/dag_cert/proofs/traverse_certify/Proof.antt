@@ -19,7 +19,7 @@ unfolding start
 certify-queued-requires c κs =
     let p = c .before .before .before .before .before .pre in
     let a = c .before .before .before .before .before .args in
-    (search (needs, placed-low _ _ _ _ _ (p .1)), start-ready (a .bottom) (a .keys .now) (a .links .now) (a .certs .now) (a .q) (p .1))
+    (search (needs, placed-low _ _ _ _ _ (p .1)), start-ready (a .bottom .0) (a .keys .now) (a .links .now) (a .certs .now) (a .q) (p .1))
 
 same-length : tie.Need-same-length
 same-length c = search needs

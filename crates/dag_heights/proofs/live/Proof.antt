@@ -32,20 +32,23 @@ mul-r-2 c = search needs
 shared-slice-read-r : tie.Need-shared-slice-read-r
 shared-slice-read-r c = search needs
 
+cast-b : tie.Need-cast-b
+cast-b c = search needs
+
 add-if2 : tie.Need-add-if2
 add-if2 c = search needs
 
 returns-2 : tie.Need-returns-2
-returns-2 c = (sym (reach-none _ _ _ (c .before .before .if1 .left) (c .if2 .taken)), search needs)
+returns-2 c = (sym (reach-none _ _ _ (c .before .before .before .if1 .left) (c .if2 .taken)), search needs)
 
 add-if3 : tie.Need-add-if3
 add-if3 c = search needs
 
 returns-3 : tie.Need-returns-3
-returns-3 c = (sym (reach-includes _ _ _ (c .before .before .before .if1 .left) (c .before .if2 .left) (c .if3 .taken)), search needs)
+returns-3 c = (sym (reach-includes _ _ _ (c .before .before .before .before .if1 .left) (c .before .if2 .left) (c .if3 .taken)), search needs)
 
 returns-4 : tie.Need-returns-4
-returns-4 c = (sym (reach-all _ _ _ (c .before .before .before .if1 .left) (c .before .if2 .left) (c .if3 .left)), search needs)
+returns-4 c = (sym (reach-all _ _ _ (c .before .before .before .before .if1 .left) (c .before .if2 .left) (c .if3 .left)), search needs)
 
 pub live-spec : {M : Type 1} → statement M
 live-spec =
@@ -60,6 +63,7 @@ live-spec =
     add-r
     mul-r-2
     shared-slice-read-r
+    cast-b
     add-if2
     returns-2
     add-if3

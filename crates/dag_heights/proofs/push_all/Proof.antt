@@ -9,7 +9,7 @@ use Rattle.dag_heights.proofs.push_all.Statement.{statement}
 use Rattle.dag_heights.proofs.push_all.Tie as tie
 
 abbrev Inv-loop : tie.InvT-loop
-Inv-loop cells₀ keys links certs order n bottom h i₀ cells i = (i ≤ n) × (cells ≡ pushedAll bottom h keys links certs order cells₀ i)
+Inv-loop cells₀ keys links certs order n bottom h i₀ cells i = (i ≤ n) × (cells ≡ pushedAll (bottom .0) h keys links certs order cells₀ i)
 
 abbrev μ-loop : tie.MeasureT-loop
 μ-loop cells₀ keys links certs order n bottom h i₀ cells i = n - i

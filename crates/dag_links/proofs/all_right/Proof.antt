@@ -15,7 +15,7 @@ use Rattle.dag_links.proofs.all_right.Tie as tie
 use Rattle.models.specs.Tables.{placeAt}
 
 abbrev Inv-loop : tie.InvT-loop
-Inv-loop keys links marks order n bottom i₀ i = (i ≤ n) × ((k : ℕ) → k < i → linksRight keys links marks (length order) (placeAt order k) (reach bottom keys (placeAt order k)) ≡ true)
+Inv-loop keys links marks order n bottom i₀ i = (i ≤ n) × ((k : ℕ) → k < i → linksRight keys links marks (length order) (placeAt order k) (reach (bottom .0) keys (placeAt order k)) ≡ true)
 
 abbrev μ-loop : tie.MeasureT-loop
 μ-loop keys links marks order n bottom i₀ i = n - i

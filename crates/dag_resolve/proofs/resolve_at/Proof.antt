@@ -3,9 +3,6 @@ use Rattle.dag_resolve.specs.After.{placed-by, settled-by}
 use Rattle.dag_resolve.proofs.resolve_at.Statement.{statement}
 use Rattle.dag_resolve.proofs.resolve_at.Tie as tie
 
-cast-b : tie.Need-cast-b
-cast-b c = search needs
-
 store-info-requires : tie.Need-store-info-requires
 store-info-requires c κs = search needs
 
@@ -14,8 +11,8 @@ set-deps-requires c κs = search needs
 
 traverse-certify-requires : tie.Need-traverse-certify-requires
 traverse-certify-requires c κs =
-    let a = c .before .before .before .before .before .before .before .before .before .before .before .before .before .before .before .before .before .before .before .before .before .args in
-    placed-by (a .s) (a .keys .now) (a .links .now) (a .certs .now) (a .order .now) (a .q) (a .info) (a .refs .now) _ _ _ (c .before .before .before .before .before .before .before .before .before .before .before .store-info .ensures .0) (c .before .before .before .before .before .before .before .before .before .before .before .store-info .ensures .1) (c .before .before .before .before .before .set-deps .ensures) (c .before .before .before .before .before .before .before .before .before .before .before .before .before .before .before .before .before .before .before .before .before .pre)
+    let a = c .before .before .before .before .before .before .before .before .before .before .before .before .before .before .before .before .before .before .before .before .args in
+    placed-by (a .s) (a .keys .now) (a .links .now) (a .certs .now) (a .order .now) (a .q) (a .info) (a .refs .now) _ _ _ (c .before .before .before .before .before .before .before .before .before .before .before .store-info .ensures .0) (c .before .before .before .before .before .before .before .before .before .before .before .store-info .ensures .1) (c .before .before .before .before .before .set-deps .ensures) (c .before .before .before .before .before .before .before .before .before .before .before .before .before .before .before .before .before .before .before .before .pre)
 
 same-length : tie.Need-same-length
 same-length c = search needs
@@ -28,14 +25,13 @@ same-length-3 c = search needs
 
 returns : tie.Need-returns
 returns c =
-    let a = c .before .before .before .before .before .before .before .before .before .before .before .before .before .before .before .before .before .before .before .before .before .before .before .before .args in
+    let a = c .before .before .before .before .before .before .before .before .before .before .before .before .before .before .before .before .before .before .before .before .before .before .before .args in
     (c .before .before .before .before .before .before .before .before .before .before .before .before .before .before .store-info .ensures .0, (c .before .before .before .before .before .before .before .before .before .before .before .before .before .before .store-info .ensures .1, settled-by (a .s) (a .keys .now) (a .links .now) (a .certs .now) (a .order .now) (a .q) (a .info) (a .refs .now) _ _ _ _ (c .before .before .before .before .before .before .before .before .before .before .before .before .before .before .store-info .ensures .0) (c .before .before .before .before .before .before .before .before .before .before .before .before .before .before .store-info .ensures .1) (c .before .before .before .before .before .before .before .before .set-deps .ensures) (c .before .before .traverse-certify .ensures)))
 
 pub resolve-at-spec : {M : Type 1} → statement M
 resolve-at-spec =
     tie.close
     (tie.spec
-    cast-b
     store-info-requires
     set-deps-requires
     traverse-certify-requires

@@ -8,18 +8,18 @@ use Rattle.dag_settle.proofs.certify_at.Tie as tie
 add-t11 : tie.Need-add-t11
 add-t11 c = search needs
 
-mul-traverse-certify : tie.Need-mul-traverse-certify
-mul-traverse-certify c = search needs
+mul-t12 : tie.Need-mul-t12
+mul-t12 c = search needs
 
-slice-read-traverse-certify : tie.Need-slice-read-traverse-certify
-slice-read-traverse-certify c = search needs
+slice-read-t14 : tie.Need-slice-read-t14
+slice-read-t14 c = search needs
 
 set-top-requires : tie.Need-set-top-requires
 set-top-requires c κs = search needs
 
 with-height-requires : tie.Need-with-height-requires
 with-height-requires c κs =
-    (topped-small _ _ (c .set-top .ensures), omega (arith, c .before .before .before .before .before .before .before .pre .0 .5))
+    (topped-small _ _ (c .set-top .ensures), omega (arith, c .before .before .before .before .before .before .before .pre .0 .4))
 
 mul-certs : tie.Need-mul-certs
 mul-certs c = search needs
@@ -27,22 +27,19 @@ mul-certs c = search needs
 slice-write-certs : tie.Need-slice-write-certs
 slice-write-certs c = search needs
 
-cast-traverse-certify : tie.Need-cast-traverse-certify
-cast-traverse-certify c = search needs
-
 traverse-certify-requires : tie.Need-traverse-certify-requires
 traverse-certify-requires c κs =
-    let s = c .before .before .before .before .before .before .before .before .before .before in
+    let s = c .before .before .before .before .before .before .before .before .before in
     certifiable-set (s .args .s) (s .args .keys .now) (s .args .links .now) (s .args .certs .now) (s .args .q) _ (s .pre)
 
 returns : tie.Need-returns
 returns c =
-    let s = c .before .before .before .before .before .before .before .before .before .before .before .before .before in
-    certified-by (s .args .s) (s .args .keys .now) (s .args .links .now) (s .args .certs .now) _ (s .args .q) _ _ (c .before .before .before .before .before .before .set-top .ensures) (c .before .before .before .before .before .with-height .ensures) (c .before .before .traverse-certify .ensures)
+    let s = c .before .before .before .before .before .before .before .before .before .before .before .before in
+    certified-by (s .args .s) (s .args .keys .now) (s .args .links .now) (s .args .certs .now) _ (s .args .q) _ _ (c .before .before .before .before .before .set-top .ensures) (c .before .before .before .before .with-height .ensures) (c .before .before .traverse-certify .ensures)
 
 same-length : tie.Need-same-length
 same-length c =
-    let a = c .before .before .before .before .before .before .before .before .before .before .before .before .before .args in
+    let a = c .before .before .before .before .before .before .before .before .before .before .before .before .args in
     certified-length (a .s) (a .keys .now) (a .links .now) (a .certs .now) _ (a .q) (returns c)
 
 pub certify-at-spec : {M : Type 1} → statement M
@@ -50,13 +47,12 @@ certify-at-spec =
     tie.close
     (tie.spec
     add-t11
-    mul-traverse-certify
-    slice-read-traverse-certify
+    mul-t12
+    slice-read-t14
     set-top-requires
     with-height-requires
     mul-certs
     slice-write-certs
-    cast-traverse-certify
     traverse-certify-requires
     same-length
     returns)

@@ -4,9 +4,6 @@ use borrow.Author.Needs.{needs}
 use Rattle.dag_test.proofs.points_hold.Statement.{statement}
 use Rattle.dag_test.proofs.points_hold.Tie as tie
 
-cast-b : tie.Need-cast-b
-cast-b c = search needs
-
 cast-h : tie.Need-cast-h
 cast-h c = search needs
 
@@ -42,7 +39,6 @@ pub points-hold-spec : {M : Type 1} → statement M
 points-hold-spec =
     tie.close
     (tie.spec
-    cast-b
     cast-h
     links-hold-requires
     returns

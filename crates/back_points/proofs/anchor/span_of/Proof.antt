@@ -1,3 +1,5 @@
+use mathlib.Core.Path.{_∙_, ap}
+use Rattle.dag_drain.specs.Cut.{below}
 use Rattle.back_points.specs.Anchor.{span-by}
 use borrow.Author.Needs.{needs}
 use Rattle.back_points.proofs.anchor.span_of.Statement.{statement}
@@ -12,8 +14,8 @@ later-requires c κs = search needs
 cut-requires : tie.Need-cut-requires
 cut-requires c κs = search needs
 
-add-cut : tie.Need-add-cut
-add-cut c = search needs
+plus-requires : tie.Need-plus-requires
+plus-requires c κs = search needs
 
 cut-requires-2 : tie.Need-cut-requires-2
 cut-requires-2 c κs = search needs
@@ -21,9 +23,9 @@ cut-requires-2 c κs = search needs
 returns : tie.Need-returns
 returns c =
     let a = c .before .before .before .before .before .before .before .before .before .args in
-    span-by (a .s) (a .keys .now) (a .order .now) (a .round .0) _ _ _ _ (c .before .before .before .before .history-limit .ensures) (c .before .before .before .later .ensures) (c .before .before .cut .ensures) (c .cut2 .ensures)
+    span-by (a .s) (a .keys .now) (a .order .now) (a .round .0) _ _ _ _ (c .before .before .before .before .history-limit .ensures) (c .before .before .before .later .ensures) (c .before .before .cut .ensures) (c .cut2 .ensures ∙ ap (below (a .keys .now) (a .order .now) (a .s .count)) (c .before .plus .ensures))
 
 pub span-of-spec : {M : Type 1} → statement M
 span-of-spec =
     tie.close
-    (tie.spec history-limit-requires later-requires cut-requires add-cut cut-requires-2 returns)
+    (tie.spec history-limit-requires later-requires cut-requires plus-requires cut-requires-2 returns)

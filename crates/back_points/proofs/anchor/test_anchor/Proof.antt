@@ -17,40 +17,37 @@ span-of-requires c κs =
     let a = b .args in
     span-asked (a .s) (a .keys .now) (a .links .now) (a .certs .now) (a .order .now) (b .pre .0) (a .anchor) (b .pre .1) (c .round-at .result .0) (c .round-at .ensures)
 
-cast-needed : tie.Need-cast-needed
-cast-needed c = search needs
-
 needed-requires : tie.Need-needed-requires
 needed-requires c κs =
-    let b = c .before .before .before .before .before .before .before .before in
+    let b = c .before .before .before .before .before .before .before in
     let a = b .args in
-    let fk : Fit (a .keys .now) = λ p. c .before .before .before .before .before .before .before .shared-slice-known .given p .fits in
-    let fl : Fit (a .links .now) = λ p. c .before .before .before .before .before .before .shared-slice-known2 .given p .fits in
-    span-ready (a .s) (a .keys .now) (a .links .now) (a .certs .now) (a .order .now) (b .pre .0) (a .anchor) (b .pre .1) fk fl (c .before .before .before .round-at .result .0) (c .before .before .span-of .result) (c .before .before .before .round-at .ensures) (c .before .before .span-of .ensures)
+    let fk : Fit (a .keys .now) = λ p. c .before .before .before .before .before .before .shared-slice-known .given p .fits in
+    let fl : Fit (a .links .now) = λ p. c .before .before .before .before .before .shared-slice-known2 .given p .fits in
+    span-ready (a .s) (a .keys .now) (a .links .now) (a .certs .now) (a .order .now) (b .pre .0) (a .anchor) (b .pre .1) fk fl (c .before .before .round-at .result .0) (c .before .span-of .result) (c .before .before .round-at .ensures) (c .before .span-of .ensures)
 
 count-points-requires : tie.Need-count-points-requires
 count-points-requires c κs =
-    let b = c .before .before .before .before .before .before .before .before .before .before in
+    let b = c .before .before .before .before .before .before .before .before .before in
     let a = b .args in
-    let fk : Fit (a .keys .now) = λ p. c .before .before .before .before .before .before .before .before .before .shared-slice-known .given p .fits in
-    let fl : Fit (a .links .now) = λ p. c .before .before .before .before .before .before .before .before .shared-slice-known2 .given p .fits in
-    span-range (a .s) (a .keys .now) (a .links .now) (a .certs .now) (a .order .now) (b .pre .0) (a .anchor) (b .pre .1) fk fl (c .before .before .before .before .before .round-at .result .0) (c .before .before .before .before .span-of .result) (c .before .before .before .before .before .round-at .ensures) (c .before .before .before .before .span-of .ensures)
+    let fk : Fit (a .keys .now) = λ p. c .before .before .before .before .before .before .before .before .shared-slice-known .given p .fits in
+    let fl : Fit (a .links .now) = λ p. c .before .before .before .before .before .before .before .shared-slice-known2 .given p .fits in
+    span-range (a .s) (a .keys .now) (a .links .now) (a .certs .now) (a .order .now) (b .pre .0) (a .anchor) (b .pre .1) fk fl (c .before .before .before .before .round-at .result .0) (c .before .before .before .span-of .result) (c .before .before .before .before .round-at .ensures) (c .before .before .before .span-of .ensures)
 
 anchor-code-requires : tie.Need-anchor-code-requires
 anchor-code-requires c κs =
-    let b = c .before .before .before .before .before .before .before .before .before .before .before .before in
+    let b = c .before .before .before .before .before .before .before .before .before .before .before in
     let a = b .args in
-    let fk : Fit (a .keys .now) = λ p. c .before .before .before .before .before .before .before .before .before .before .before .shared-slice-known .given p .fits in
-    let fl : Fit (a .links .now) = λ p. c .before .before .before .before .before .before .before .before .before .before .shared-slice-known2 .given p .fits in
-    code-ready (a .s) (a .keys .now) (a .links .now) (a .certs .now) (a .order .now) (b .pre .0) (a .anchor) (b .pre .1) fk fl (c .before .before .before .before .before .before .before .round-at .result .0) (c .before .before .before .before .before .before .span-of .result) (c .before .before .before .before .before .before .before .round-at .ensures) (c .before .before .before .before .before .before .span-of .ensures)
+    let fk : Fit (a .keys .now) = λ p. c .before .before .before .before .before .before .before .before .before .before .shared-slice-known .given p .fits in
+    let fl : Fit (a .links .now) = λ p. c .before .before .before .before .before .before .before .before .before .shared-slice-known2 .given p .fits in
+    code-ready (a .s) (a .keys .now) (a .links .now) (a .certs .now) (a .order .now) (b .pre .0) (a .anchor) (b .pre .1) fk fl (c .before .before .before .before .before .before .round-at .result .0) (c .before .before .before .before .before .span-of .result) (c .before .before .before .before .before .before .round-at .ensures) (c .before .before .before .before .before .span-of .ensures)
 
 returns : tie.Need-returns
 returns c =
-    let b = c .before .before .before .before .before .before .before .before .before .before .before .before .before .before in
+    let b = c .before .before .before .before .before .before .before .before .before .before .before .before .before in
     let a = b .args in
-    let fk : Fit (a .keys .now) = λ p. c .before .before .before .before .before .before .before .before .before .before .before .before .before .shared-slice-known .given p .fits in
-    let fl : Fit (a .links .now) = λ p. c .before .before .before .before .before .before .before .before .before .before .before .before .shared-slice-known2 .given p .fits in
-    let e = tested-by (a .s) (a .keys .now) (a .links .now) (a .certs .now) (a .order .now) (a .anchor) (c .before .before .before .before .before .before .before .before .before .round-at .result .0) (c .before .before .before .before .before .before .before .before .span-of .result) _ _ (c .before .anchor-code .result) (c .before .before .before .before .before .before .before .before .before .round-at .ensures) (c .before .before .before .before .before .before .before .before .span-of .ensures) (c .before .before .before .before .before .needed .ensures) (c .before .before .before .count-points .ensures) (c .before .anchor-code .ensures) in
+    let fk : Fit (a .keys .now) = λ p. c .before .before .before .before .before .before .before .before .before .before .before .before .shared-slice-known .given p .fits in
+    let fl : Fit (a .links .now) = λ p. c .before .before .before .before .before .before .before .before .before .before .before .shared-slice-known2 .given p .fits in
+    let e = tested-by (a .s) (a .keys .now) (a .links .now) (a .certs .now) (a .order .now) (a .anchor) (c .before .before .before .before .before .before .before .before .round-at .result .0) (c .before .before .before .before .before .before .before .span-of .result) _ _ (c .before .anchor-code .result) (c .before .before .before .before .before .before .before .before .round-at .ensures) (c .before .before .before .before .before .before .before .span-of .ensures) (c .before .before .before .before .before .needed .ensures) (c .before .before .before .count-points .ensures) (c .before .anchor-code .ensures) in
     (e, outcome-by (a .s) (a .keys .now) (a .links .now) (a .certs .now) (a .order .now) fk fl (b .pre .0) (a .anchor) (b .pre .1) _ e)
 
 pub test-anchor-spec : {M : Type 1} → statement M
@@ -59,7 +56,6 @@ test-anchor-spec =
     (tie.spec
     round-at-requires
     span-of-requires
-    cast-needed
     needed-requires
     count-points-requires
     anchor-code-requires
