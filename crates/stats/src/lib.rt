@@ -126,3 +126,11 @@ impl MempoolPeerCounters {
         sum
     }
 }
+
+// The sum left in the first (the Rust's `merge`, which has `&mut self`).
+pub fn merge_into(c: &mut MempoolPeerCounters, other: MempoolPeerCounters)
+    requires { ⌜ Fitting (now c) other ⌝ }
+    ensures { λ _. ⌜ now (c .exit) ≡ sumOf (now (c .entry)) other ⌝ }
+{
+    *c = MempoolPeerCounters::merge(*c, other);
+}
