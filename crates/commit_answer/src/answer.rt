@@ -18,11 +18,10 @@ pub struct Outcome {
     pub state: State,
 }
 
-// A call refused with a number: the state stays.
-pub fn refused(s: State, number: u32) -> Outcome
-    ensures { λ r. ⌜ r ≡ refusal s number ⌝ }
+// A call refused before it did anything: the state stays.
+pub fn refused(s: State, why: Refusal) -> Outcome
+    ensures { λ r. ⌜ r ≡ refusal s why ⌝ }
 {
-    let why = Refusal::Number(number);
     Outcome {
         answer: Answer::Refused(why, 0),
         state: s,

@@ -1,43 +1,43 @@
 -- A point is certified (01: cert.rs, 'Refusals' 5, 6, 9).
 use Prim.Native.Nat.{ℕ}
 use mathlib.Core.Path.{_≡_, refl, sym, _∙_}
-use mathlib.Core.List.{List}
 use mathlib.Core.Bool.{Bool, not, false}
 use Rattle.spec.specs.Store.{Store}
 use Rattle.spec.specs.Rules.{counts}
-use Rattle.spec.specs.Calls.{call, certify, act, isStart, lent, certifyAt}
+use Rattle.spec.specs.Calls.{certify, act, isStart, lent, certifyAt}
 use Rattle.models.specs.Digest.{Fit}
 use Rattle.models.specs.Parts.{idOf}
 use Rattle.models.specs.declared.parts.PointId.{PointId}
-use Rattle.dag_state.specs.declared.state.State.{State}
 use Rattle.dag_test.specs.Tested.{passed}
-use Rattle.dag_test.specs.View.{view}
 use Rattle.dag_name.specs.Name.{idWords}
 use Rattle.dag_settle.specs.Point.{pointCode, placeFor, point-used}
 use Rattle.dag_settle.specs.Certs.{certifiedCerts, Certifiable}
 use Rattle.dag_settle.specs.Certified.{certifiable, certified-view, certify-is}
-use Rattle.commit_answer.specs.Answer.{Board, board, leaves, answered, tested, doneWith, tested-yes, call-code, after, after-is}
+use Rattle.models.specs.Refusal.{numbered, numbered-passed}
+use Rattle.commit_answer.specs.Answer.{Board, board, seen, Left, Did, unlessRefused, doneWith, tested, tested-yes, call-tested, did-done}
+use Rattle.commit_points.specs.Name.{unless-numbered}
 
-module _ (s : State) (ks ls cs os : List ℕ) (i : PointId) where
-  abbrev v : Store
-  v = view s ks ls cs os
+-- the board after it, if it isn't refused
+abbrev pub certifiedBoard : PointId → Board → Board
+certifiedBoard i d = board (d .state) (d .keys) (d .links) (certifiedCerts (d .state) (d .keys) (d .links) (d .certs) (placeFor (d .state) (d .keys) (d .order) i)) (d .order)
 
-  -- the number that refuses it
-  abbrev pub certifyTested : ℕ
-  certifyTested = tested (counts v) (pointCode s ks os i)
+-- what it leaves
+abbrev pub certifyLeft : PointId → Board → Left
+certifyLeft i d = unlessRefused (tested (counts (seen d)) (numbered (pointCode (d .state) (d .keys) (d .order) i))) d (doneWith (certifiedBoard i d))
 
-  -- the board after it, if it isn't refused
-  abbrev pub certifiedBoard : Board
-  certifiedBoard = board s ks ls (certifiedCerts s ks ls cs (placeFor s ks os i)) os
+module _ (i : PointId) (d : Board) (fk : Fit (d .keys)) (fl : Fit (d .links)) where
+  abbrev q : ℕ
+  q = placeFor (d .state) (d .keys) (d .order) i
 
-  module _ (fk : Fit ks) (fl : Fit ls) where
-    pub call-certify : Fit (idWords i) → leaves (answered certifyTested s (doneWith s) .answer) (after certifyTested (board s ks ls cs os) certifiedBoard) ≡ call v (certify (idOf i))
-    unfolding isStart lent act
-    call-certify fi =
-        let t : Store = certifyAt v (placeFor s ks os i) in
-        after-is certifyTested (board s ks ls cs os) certifiedBoard t (λ e. let (h, z) = tested-yes _ _ e in certified-view s ks ls cs os fk fl h (placeFor s ks os i) (point-used s ks os i z))
-        ∙ sym (call-code v (certify (idOf i)) _ _ t refl refl refl (λ h. certify-is s ks ls cs os fk fl h i fi))
+  -- it does 01's call
+  pub certify-did : Fit (idWords i) → (x : Left) → x ≡ certifyLeft i d → Did (certify (idOf i)) (certifyLeft i) d x
+  unfolding isStart lent act
+  certify-did fi =
+      let t : Store = certifyAt (seen d) q in
+      did-done (certify (idOf i)) (certifyLeft i) d (certifiedBoard i d) (tested (counts (seen d)) (numbered (pointCode (d .state) (d .keys) (d .order) i))) refl refl t
+      (call-tested (seen d) (certify (idOf i)) _ _ t refl refl refl (λ h. certify-is (d .state) (d .keys) (d .links) (d .certs) (d .order) fk fl h i fi ∙ unless-numbered _ _))
+      (λ e. let (h, z) = tested-yes _ _ e in certified-view (d .state) (d .keys) (d .links) (d .certs) (d .order) fk fl h q (point-used (d .state) (d .keys) (d .order) i (numbered-passed _ z)))
 
-    -- what the code is given where the tests pass
-    pub certify-ready : (r : Bool) → r ≡ counts v → not r ≡ false → (k q : ℕ) → k ≡ pointCode s ks os i → k ≡ 0 → q ≡ placeFor s ks os i → Certifiable s ks ls cs q
-    certify-ready r e h k q f z g = let p = point-used s ks os i (sym f ∙ z) in rw g (certifiable s ks ls cs os fk fl (passed _ _ e h) (placeFor s ks os i) p)
+  -- what the code is given where the tests pass
+  pub certify-ready : (r : Bool) → r ≡ counts (seen d) → not r ≡ false → (k p : ℕ) → k ≡ pointCode (d .state) (d .keys) (d .order) i → k ≡ 0 → p ≡ q → Certifiable (d .state) (d .keys) (d .links) (d .certs) p
+  certify-ready r e h k p f z g = let u = point-used (d .state) (d .keys) (d .order) i (sym f ∙ z) in rw g (certifiable (d .state) (d .keys) (d .links) (d .certs) (d .order) fk fl (passed _ _ e h) q u)

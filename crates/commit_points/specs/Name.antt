@@ -1,47 +1,69 @@
 -- A point is named (01: parts.rs, 'Refusals' 5 to 8 and 4).
-use Prim.Native.Nat.{ℕ}
-use mathlib.Core.Path.{_≡_, refl, sym, _∙_}
-use mathlib.Core.List.{List}
+use Prim.Native.Nat.{ℕ, zero, suc}
+use mathlib.Core.Path.{_≡_, refl, sym, _∙_, ap}
 use mathlib.Core.Bool.{Bool, not, false}
 use lib.ListN.{length}
 use Rattle.spec.specs.Store.{Store}
 use Rattle.spec.specs.Rules.{counts}
-use Rattle.spec.specs.Calls.{call, name, act, isStart, lent, nameAt}
+use Rattle.spec.specs.Chain.{Out}
+use Rattle.spec.specs.Calls.{name, act, isStart, lent, nameAt}
 use Rattle.models.specs.Digest.{Fit}
 use Rattle.models.specs.Parts.{idOf}
 use Rattle.models.specs.declared.parts.PointId.{PointId}
-use Rattle.dag_state.specs.declared.state.State.{State}
 use Rattle.dag_test.specs.Tested.{passed, shape-says}
-use Rattle.dag_test.specs.View.{view}
 use Rattle.dag_test.specs.Counts.{shape-of}
 use Rattle.dag_name.specs.Name.{Ready, idWords, nameCode, taken, namedState, namedKeys, namedCerts, namedOrder}
 use Rattle.dag_name.specs.Tests.{ready, name-is}
 use Rattle.dag_name.specs.After.{named-view}
-use Rattle.commit_answer.specs.Answer.{Board, board, leaves, answered, tested, doneWith, tested-yes, call-code, after, after-is}
+use Rattle.dag_name.specs.Codes.{unless}
+use Rattle.models.specs.Refusal.{numbered, unlessFailed, refusalOf, failed, numbered-passed}
+use Rattle.models.specs.declared.refusal.Check.the-variants.{Passed}
+use Rattle.commit_answer.specs.Answer.{Board, board, seen, Left, Did, unlessRefused, doneWith, tested, tested-yes, call-tested, did-done}
 
-module _ (s : State) (ks ls cs os : List ℕ) (i : PointId) where
-  abbrev v : Store
-  v = view s ks ls cs os
+-- ---- tests by number
 
-  -- the number that refuses it
-  abbrev pub nameTested : ℕ
-  nameTested = tested (counts v) (nameCode s ks os i)
+pub unless-numbered : {A : Type 0} (n : ℕ) (o : Out A) → unless n o ≡ unlessFailed (numbered n) o
+unfolding unless numbered unlessFailed refusalOf
+unless-numbered zero o = refl
+unless-numbered (suc n) o = refl
 
-  -- the board after it, if it isn't refused
-  abbrev pub namedBoard : Board
-  namedBoard = board (namedState s) (namedKeys s ks os i) ls (namedCerts s cs os) (namedOrder s ks os i)
+-- one law for each way out of the code
+module _ (n k : ℕ) (e : k ≡ n) where
+  pub number-refused : (k ≡ 0 → ⊥) → numbered n ≡ failed k
+  unfolding numbered
+  number-refused d = ap numbered (sym e) ∙ by k d
+    where
+      by : (m : ℕ) → (m ≡ 0 → ⊥) → numbered m ≡ failed m
+      by zero z = absurd (z refl)
+      by (suc m) z = refl
 
-  module _ (fk : Fit ks) (fl : Fit ls) where
-    pub call-name : Fit (idWords i) → leaves (answered nameTested s (doneWith (namedState s)) .answer) (after nameTested (board s ks ls cs os) namedBoard) ≡ call v (name (idOf i))
-    unfolding isStart lent act
-    call-name fi =
-        let t : Store = nameAt v (idOf i) (taken s os) in
-        after-is nameTested (board s ks ls cs os) namedBoard t (λ e. let (h, z) = tested-yes _ _ e in named-view s ks ls cs os i fk fl h z)
-        ∙ sym (call-code v (name (idOf i)) _ _ t refl refl refl (λ h. name-is s ks ls cs os i fk fl h fi))
+  pub number-passed : k ≡ 0 → numbered n ≡ Passed
+  unfolding numbered
+  number-passed z = ap numbered (sym e ∙ z)
 
-    -- what the code is given where the test passes
-    pub name-ready : (r : Bool) → r ≡ counts v → not r ≡ false → Ready s ks os
-    name-ready r e h = ready s ks ls cs os fk fl (passed _ _ e h)
+-- ---- name
 
-    pub name-long : (r : Bool) → r ≡ counts v → not r ≡ false → length cs ≡ length os
-    name-long r e h = shape-says ks ls cs os (shape-of s ks ls cs os (passed _ _ e h) .0) .2
+-- the board after it, if it isn't refused
+abbrev pub namedBoard : PointId → Board → Board
+namedBoard i d = board (namedState (d .state)) (namedKeys (d .state) (d .keys) (d .order) i) (d .links) (namedCerts (d .state) (d .certs) (d .order)) (namedOrder (d .state) (d .keys) (d .order) i)
+
+-- what it leaves
+abbrev pub nameLeft : PointId → Board → Left
+nameLeft i d = unlessRefused (tested (counts (seen d)) (numbered (nameCode (d .state) (d .keys) (d .order) i))) d (doneWith (namedBoard i d))
+
+-- it does 01's call
+pub name-did : (i : PointId) (d : Board) → Fit (d .keys) → Fit (d .links) → Fit (idWords i) → (x : Left) → x ≡ nameLeft i d → Did (name (idOf i)) (nameLeft i) d x
+unfolding isStart lent act
+name-did i d fk fl fi =
+    let t : Store = nameAt (seen d) (idOf i) (taken (d .state) (d .order)) in
+    did-done (name (idOf i)) (nameLeft i) d (namedBoard i d) (tested (counts (seen d)) (numbered (nameCode (d .state) (d .keys) (d .order) i))) refl refl t
+    (call-tested (seen d) (name (idOf i)) _ _ t refl refl refl (λ h. name-is (d .state) (d .keys) (d .links) (d .certs) (d .order) i fk fl h fi ∙ unless-numbered _ _))
+    (λ e. let (h, z) = tested-yes _ _ e in named-view (d .state) (d .keys) (d .links) (d .certs) (d .order) i fk fl h (numbered-passed _ z))
+
+-- what the code is given where the test passes
+module _ (d : Board) (fk : Fit (d .keys)) (fl : Fit (d .links)) (r : Bool) (e : r ≡ counts (seen d)) (h : not r ≡ false) where
+  pub name-ready : Ready (d .state) (d .keys) (d .order)
+  name-ready = ready (d .state) (d .keys) (d .links) (d .certs) (d .order) fk fl (passed _ _ e h)
+
+  pub name-long : length (d .certs) ≡ length (d .order)
+  name-long = shape-says (d .keys) (d .links) (d .certs) (d .order) (shape-of (d .state) (d .keys) (d .links) (d .certs) (d .order) (passed _ _ e h) .0) .2

@@ -1,11 +1,10 @@
 // Origin: models/cert.rs (set_deps), models/point/info.rs.
-ghost use mathlib.Core.Path.{_≡_};
+ghost use mathlib.Core.List.{[]};
 ghost use Rattle.spec.specs.Calls as calls;
 ghost use Rattle.models.specs.Info.{infoOf};
 ghost use Rattle.models.specs.Parts.{idOf};
-ghost use Rattle.dag_test.specs.View.{view};
-ghost use Rattle.commit_answer.specs.Answer.{board, leaves, answered, doneWith, after, Kept};
-ghost use Rattle.commit_points.specs.Resolve.{resolveTested, resolvedBoard};
+ghost use Rattle.commit_answer.specs.Answer.{Did, board, left};
+ghost use Rattle.commit_points.specs.Resolve.{resolveLeft};
 use commit_answer::answer::Answer;
 use commit_answer::answer::Outcome;
 use commit_answer::answer::refused;
@@ -16,6 +15,8 @@ use dag_state::state::State;
 use dag_test::counts_as_started;
 use models::info::PointInfo;
 use models::parts::PointId;
+use models::refusal::NOT_STARTED;
+use models::refusal::Refusal;
 
 // Resolves a named point. `refs` holds its links, five words each: peer and digest, first the includes, then the witness.
 pub fn resolve(
@@ -28,17 +29,16 @@ pub fn resolve(
     info: PointInfo,
     refs: &[u64],
 ) -> Outcome
-    ensures answer { λ r. ⌜ leaves (r .answer) (board (r .state) (now (keys .exit)) (now (links .exit)) (now (certs .exit)) (now (order .entry))) ≡ calls.call (view s (now (keys .entry)) (now (links .entry)) (now (certs .entry)) (now (order .entry))) (calls.resolve (idOf id) (infoOf info (now (refs .entry)))) ⌝ }
-    ensures outcome { λ r. ⌜ r ≡ answered (resolveTested s (now (keys .entry)) (now (links .entry)) (now (certs .entry)) (now (order .entry)) id info (now (refs .entry))) s (doneWith s) ⌝ }
-    ensures words { λ r. ⌜ board (r .state) (now (keys .exit)) (now (links .exit)) (now (certs .exit)) (now (order .entry)) ≡ after (resolveTested s (now (keys .entry)) (now (links .entry)) (now (certs .entry)) (now (order .entry)) id info (now (refs .entry))) (board s (now (keys .entry)) (now (links .entry)) (now (certs .entry)) (now (order .entry))) (resolvedBoard s (now (keys .entry)) (now (links .entry)) (now (certs .entry)) (now (order .entry)) id info (now (refs .entry))) ⌝ }
-    ensures kept { λ r. ⌜ Kept (r .answer) (board s (now (keys .entry)) (now (links .entry)) (now (certs .entry)) (now (order .entry))) (board (r .state) (now (keys .exit)) (now (links .exit)) (now (certs .exit)) (now (order .entry))) ⌝ }
+    ensures { λ r. ⌜ Did (calls.resolve (idOf id) (infoOf info (now (refs .entry)))) (resolveLeft id info (now (refs .entry)))
+        (board s (now (keys .entry)) (now (links .entry)) (now (certs .entry)) (now (order .entry)))
+        (left r (now (keys .exit)) (now (links .exit)) (now (certs .exit)) (now (order .entry)) []) ⌝ }
 {
     if !counts_as_started(s, keys, links, certs, order) {
-        return refused(s, 2);
+        return refused(s, Refusal::Number(NOT_STARTED));
     }
     let code = resolve_code(s, keys, order, id, info, refs);
     if code != 0 {
-        return refused(s, code);
+        return refused(s, Refusal::Number(code));
     }
     let q = point_place(s, keys, order, id);
     resolve_at(s, keys, links, certs, order, q, info, refs);

@@ -1,16 +1,15 @@
 -- Rounds are dropped (01: commit/mod.rs, `drop_upto`).
 use Prim.Native.Nat.{ℕ, _-_, _*_, _≤_, max, min}
 use mathlib.Core.Path.{_≡_, refl, sym, _∙_, ap}
-use mathlib.Core.List.{List}
-use mathlib.Core.Bool.{Bool, true, false, not}
+use mathlib.Core.List.{List, []}
+use mathlib.Core.Bool.{Bool, false, not}
 use lib.Dec.{eqb, leb, ltb}
 use borrow.Author.Tests.{leb-true}
 use Rattle.laws.specs.Test.{and-l, and-r}
 use lib.ListN.{length}
-use Rattle.spec.specs.Store.{Store}
 use Rattle.spec.specs.Rules.{counts}
 use Rattle.spec.specs.Calls as calls
-use Rattle.spec.specs.Calls.{call, act, isStart, lent}
+use Rattle.spec.specs.Calls.{act, isStart, lent}
 use Rattle.models.specs.Digest.{Fit}
 use Rattle.models.specs.Tables.{Inside}
 use Rattle.dag_places.specs.Zero.{emptied}
@@ -24,39 +23,34 @@ use Rattle.dag_test.specs.View.{view}
 use Rattle.dag_test.specs.Counts.{counted}
 use Rattle.dag_drain.specs.Cut.{below}
 use Rattle.dag_drain.specs.Drop.{dropBottom, drop-view, drop-answer, drop-buffer}
-use Rattle.commit_answer.specs.declared.answer.Outcome.{Outcome}
-use Rattle.commit_answer.specs.declared.answer.Answer.{Answer}
+use Rattle.models.specs.declared.refusal.Check.the-variants.{Passed}
 use Rattle.commit_answer.specs.declared.answer.Answer.the-variants.{Said}
-use Rattle.models.specs.Refusal.{refusalOf}
-use Rattle.commit_answer.specs.Answer.{Board, board, board-same, leaves, answerOf, refusal, answered, changed, tested, byTables, call-by, after}
+use Rattle.commit_answer.specs.Answer.{Board, board, seen, Left, left-same, outcomeOf, answerOf, isIdle, Did, unlessRefused, tested, did-started}
 
-module _ (s : State) (ks ls cs os : List ℕ) (r : ℕ) where
-  abbrev v : Store
-  v = view s ks ls cs os
+-- how many places go
+abbrev pub gone : ℕ → Board → ℕ
+gone r d = below (d .keys) (d .order) (d .state .count) (dropBottom (d .state) r)
 
-  -- how many places go
-  abbrev pub gone : ℕ
-  gone = below ks os (s .count) (dropBottom s r)
+-- the board after it, if it isn't refused
+abbrev pub droppedBoard : ℕ → Board → Board
+droppedBoard r d =
+    let k = gone r d in
+    board (droppedState (d .state) (min r (d .state .top .0)) (dropBottom (d .state) r) (d .state .count - k)) (emptied (d .keys) 8 (d .order) k) (emptied (d .links) 328 (d .order) k) (emptied (d .certs) 1 (d .order) k) (drained (d .order) (d .state .count) k)
 
-  -- the board after it, if it isn't refused
-  abbrev pub droppedBoard : Board
-  droppedBoard = board (droppedState s (min r (s .top .0)) (dropBottom s r) (s .count - gone)) (emptied ks 8 os gone) (emptied ls 328 os gone) (emptied cs 1 os gone) (drained os (s .count) gone)
+-- yes if all of the range is dropped
+abbrev pub droppedLeft : ℕ → Board → Left
+droppedLeft r d = record { answer = Said (eqb (min r (d .state .top .0)) r); tables = droppedBoard r d; buffer = [] }
 
-  -- yes if all of the range is dropped
-  abbrev pub wholly : Answer
-  wholly = Said (eqb (min r (s .top .0)) r)
+-- what the call leaves
+abbrev pub dropLeft : ℕ → Board → Left
+dropLeft r d = unlessRefused (tested (counts (seen d)) Passed) d (droppedLeft r d)
 
-  -- the number that refuses it
-  abbrev pub dropTested : ℕ
-  dropTested = tested (counts v) 0
-
-  pub call-drop : Fit ks → Fit ls → leaves (answered dropTested s (record { answer = wholly; state = droppedBoard .state }) .answer) (after dropTested (board s ks ls cs os) droppedBoard) ≡ call v (calls.drop r)
-  unfolding isStart lent act leaves answerOf refusalOf refusal answered changed tested byTables
-  call-drop fk fl = by (counts v) refl ∙ sym (call-by v (calls.drop r) refl)
-    where
-      by : (b : Bool) → counts v ≡ b → leaves (answered (tested b 0) s (record { answer = wholly; state = droppedBoard .state }) .answer) (after (tested b 0) (board s ks ls cs os) droppedBoard) ≡ byTables b v (calls.drop r)
-      by true h = λ i. record { answer = sym (drop-answer s ks ls cs os r) i; store = drop-view s ks ls cs os r fk fl h i; buffer = sym (drop-buffer s ks ls cs os r) i }
-      by false h = refl
+-- it does 01's call
+pub drop-did : (r : ℕ) (d : Board) → Fit (d .keys) → Fit (d .links) → (x : Left) → x ≡ dropLeft r d → Did (calls.drop r) (dropLeft r) d x
+unfolding isStart lent act isIdle outcomeOf answerOf
+drop-did r d fk fl =
+    did-started (calls.drop r) (dropLeft r) d (droppedLeft r d) refl refl refl refl
+    (λ h i. record { answer = sym (drop-answer (d .state) (d .keys) (d .links) (d .certs) (d .order) r) i; store = drop-view (d .state) (d .keys) (d .links) (d .certs) (d .order) r fk fl h i; buffer = sym (drop-buffer (d .state) (d .keys) (d .links) (d .certs) (d .order) r) i })
 
 -- what the code is given where the test passes
 pub record Given (s : State) (ks ls cs os : List ℕ) : Type 0 where
@@ -89,22 +83,16 @@ given s ks ls cs os fk fl c e h =
     }
 
 -- the code's numbers are those of the board
-module _ (s : State) (ks ls cs os : List ℕ) (r actual lowest k : ℕ) (a : actual ≡ min r (s .top .0)) (l : lowest ≡ max (s .bottom .0) actual) (g : k ≡ below ks os (s .count) lowest) where
-  bottom-is : lowest ≡ dropBottom s r
-  bottom-is = l ∙ ap (max (s .bottom .0)) a
+module _ (r : ℕ) (d : Board) (actual lowest k : ℕ) (a : actual ≡ min r (d .state .top .0)) (l : lowest ≡ max (d .state .bottom .0) actual) (g : k ≡ below (d .keys) (d .order) (d .state .count) lowest) where
+  bottom-is : lowest ≡ dropBottom (d .state) r
+  bottom-is = l ∙ ap (max (d .state .bottom .0)) a
 
-  gone-is : k ≡ gone s ks ls cs os r
-  gone-is = g ∙ ap (below ks os (s .count)) bottom-is
+  gone-is : k ≡ gone r d
+  gone-is = g ∙ ap (below (d .keys) (d .order) (d .state .count)) bottom-is
 
-  abbrev made : State
-  made = droppedBoard s ks ls cs os r .state
-
-  state-is : droppedState s actual lowest (s .count - k) ≡ made
-  state-is = λ i. droppedState s (a i) (bottom-is i) (s .count - gone-is i)
-
-  pub drop-outcome : (t : State) → t ≡ droppedState s actual lowest (s .count - k) → _≡_ {A = Outcome} (record { answer = Said (eqb actual r); state = t }) (record { answer = wholly s ks ls cs os r; state = made })
-  drop-outcome t e = λ i. record { answer = Said (eqb (a i) r); state = (e ∙ state-is) i }
-
-  pub drop-board : (t : State) → t ≡ droppedState s actual lowest (s .count - k) → {ks2 ls2 cs2 os2 : List ℕ} → ks2 ≡ emptied ks 8 os k → ls2 ≡ emptied ls 328 os k → cs2 ≡ emptied cs 1 os k → os2 ≡ drained os (s .count) k
-      → board t ks2 ls2 cs2 os2 ≡ droppedBoard s ks ls cs os r
-  drop-board t e w x y z = board-same (e ∙ state-is) (w ∙ ap (emptied ks 8 os) gone-is) (x ∙ ap (emptied ls 328 os) gone-is) (y ∙ ap (emptied cs 1 os) gone-is) (z ∙ ap (drained os (s .count)) gone-is)
+  pub dropped-is : (t : State) → t ≡ droppedState (d .state) actual lowest (d .state .count - k) → {ks ls cs os : List ℕ}
+      → ks ≡ emptied (d .keys) 8 (d .order) k → ls ≡ emptied (d .links) 328 (d .order) k → cs ≡ emptied (d .certs) 1 (d .order) k → os ≡ drained (d .order) (d .state .count) k
+      → _≡_ {A = Left} (record { answer = Said (eqb actual r); tables = board t ks ls cs os; buffer = [] }) (droppedLeft r d)
+  dropped-is t e w x y z =
+      left-same (λ i. Said (eqb (a i) r)) (e ∙ (λ i. droppedState (d .state) (a i) (bottom-is i) (d .state .count - gone-is i)))
+      (w ∙ ap (emptied (d .keys) 8 (d .order)) gone-is) (x ∙ ap (emptied (d .links) 328 (d .order)) gone-is) (y ∙ ap (emptied (d .certs) 1 (d .order)) gone-is) (z ∙ ap (drained (d .order) (d .state .count)) gone-is) refl

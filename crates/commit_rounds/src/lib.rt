@@ -2,13 +2,12 @@
 // The gap question, a round added, rounds dropped.
 ghost use mathlib.Core.Path.{_≡_};
 ghost use Prim.Native.Nat.{_≤_, max, min};
-ghost use Rattle.spec.specs.Rules.{counts};
+ghost use mathlib.Core.List.{[]};
 ghost use Rattle.spec.specs.Calls as calls;
-ghost use Rattle.dag_test.specs.View.{view};
-ghost use Rattle.commit_answer.specs.Answer.{board, leaves, answered, after, Kept};
-ghost use Rattle.commit_rounds.specs.Gap.{gapOutcome};
-ghost use Rattle.commit_rounds.specs.Round.{roundCode, withRound, roundOutcome};
-ghost use Rattle.commit_rounds.specs.Drop.{droppedBoard, wholly, dropTested};
+ghost use Rattle.commit_answer.specs.Answer.{Did, board, left};
+ghost use Rattle.commit_rounds.specs.Gap.{gapLeft};
+ghost use Rattle.commit_rounds.specs.Round.{roundCheck, withRound, roundLeft};
+ghost use Rattle.commit_rounds.specs.Drop.{dropLeft};
 use commit_answer::answer::Answer;
 use commit_answer::answer::Outcome;
 use commit_answer::answer::refused;
@@ -20,6 +19,11 @@ use dag_state::back::extended;
 use dag_state::state::State;
 use dag_test::counts_as_started;
 use models::parts::Round;
+use models::refusal::Check;
+use models::refusal::FULL;
+use models::refusal::NOT_STARTED;
+use models::refusal::ROUND_TOO_HIGH;
+use models::refusal::Refusal;
 
 // The gap question: yes if it is waited for, and then it is put.
 pub fn is_once_after_gap(
@@ -29,12 +33,11 @@ pub fn is_once_after_gap(
     certs: &[u64],
     order: &[u64],
 ) -> Outcome
-    ensures answer { λ r. ⌜ leaves (r .answer) (board (r .state) (now (keys .entry)) (now (links .entry)) (now (certs .entry)) (now (order .entry))) ≡ calls.call (view s (now (keys .entry)) (now (links .entry)) (now (certs .entry)) (now (order .entry))) calls.ask ⌝ }
-    ensures outcome { λ r. ⌜ r ≡ gapOutcome (counts (view s (now (keys .entry)) (now (links .entry)) (now (certs .entry)) (now (order .entry)))) s ⌝ }
-    ensures kept { λ r. ⌜ Kept (r .answer) (board s (now (keys .entry)) (now (links .entry)) (now (certs .entry)) (now (order .entry))) (board (r .state) (now (keys .entry)) (now (links .entry)) (now (certs .entry)) (now (order .entry))) ⌝ }
+    ensures { λ r. ⌜ Did calls.ask gapLeft (board s (now (keys .entry)) (now (links .entry)) (now (certs .entry)) (now (order .entry)))
+        (left r (now (keys .entry)) (now (links .entry)) (now (certs .entry)) (now (order .entry)) []) ⌝ }
 {
     if !counts_as_started(s, keys, links, certs, order) {
-        return refused(s, 2);
+        return refused(s, Refusal::Number(NOT_STARTED));
     }
     if s.gap != 1 {
         return Outcome {
@@ -49,24 +52,24 @@ pub fn is_once_after_gap(
     }
 }
 
-// What a round is refused with: 3, 4, or 0 if it isn't.
-fn round_code(bottom: u32, top: u32, round: u32) -> u32
+// Whether a round is refused, with the rounds from bottom to top retained.
+fn check_round(bottom: u32, top: u32, round: u32) -> Check
     requires { ⌜ (bottom ≤ top) × (top ≤ 4000000000) ⌝ }
-    ensures { λ r. ⌜ r ≡ roundCode bottom top round ⌝ }
+    ensures { λ r. ⌜ r ≡ roundCheck bottom top round ⌝ }
 {
     if top + 1 < round {
-        return 3;
+        return Check::Failed(Refusal::Number(ROUND_TOO_HIGH));
     }
     if 4000000000 < round {
-        return 3;
+        return Check::Failed(Refusal::Number(ROUND_TOO_HIGH));
     }
     if round <= top {
-        return 0;
+        return Check::Passed;
     }
     if 512 <= top + 1 - bottom {
-        return 4;
+        return Check::Failed(Refusal::Number(FULL));
     }
-    0
+    Check::Passed
 }
 
 // The state with the round, which is at most one above the top.
@@ -91,18 +94,17 @@ pub fn extend_from_ahead(
     round: Round,
     peers: u32,
 ) -> Outcome
-    ensures answer { λ r. ⌜ leaves (r .answer) (board (r .state) (now (keys .entry)) (now (links .entry)) (now (certs .entry)) (now (order .entry))) ≡ calls.call (view s (now (keys .entry)) (now (links .entry)) (now (certs .entry)) (now (order .entry))) (calls.round (round .0) peers) ⌝ }
-    ensures outcome { λ r. ⌜ r ≡ roundOutcome s (now (keys .entry)) (now (links .entry)) (now (certs .entry)) (now (order .entry)) (round .0) peers ⌝ }
-    ensures kept { λ r. ⌜ Kept (r .answer) (board s (now (keys .entry)) (now (links .entry)) (now (certs .entry)) (now (order .entry))) (board (r .state) (now (keys .entry)) (now (links .entry)) (now (certs .entry)) (now (order .entry))) ⌝ }
+    ensures { λ r. ⌜ Did (calls.round (round .0) peers) (roundLeft (round .0) peers) (board s (now (keys .entry)) (now (links .entry)) (now (certs .entry)) (now (order .entry)))
+        (left r (now (keys .entry)) (now (links .entry)) (now (certs .entry)) (now (order .entry)) []) ⌝ }
 {
     if !counts_as_started(s, keys, links, certs, order) {
-        return refused(s, 2);
+        return refused(s, Refusal::Number(NOT_STARTED));
     }
     let bottom = s.bottom;
     let top = s.top;
-    let code = round_code(bottom.0, top.0, round.0);
-    if code != 0 {
-        return refused(s, code);
+    let check = check_round(bottom.0, top.0, round.0);
+    if let Check::Failed(why) = check {
+        return refused(s, why);
     }
     let next = with_round(s, round.0, peers);
     Outcome {
@@ -134,13 +136,11 @@ pub fn drop_upto(
     order: &mut [u64],
     round: Round,
 ) -> Outcome
-    ensures answer { λ r. ⌜ leaves (r .answer) (board (r .state) (now (keys .exit)) (now (links .exit)) (now (certs .exit)) (now (order .exit))) ≡ calls.call (view s (now (keys .entry)) (now (links .entry)) (now (certs .entry)) (now (order .entry))) (calls.drop (round .0)) ⌝ }
-    ensures outcome { λ r. ⌜ r ≡ answered (dropTested s (now (keys .entry)) (now (links .entry)) (now (certs .entry)) (now (order .entry)) (round .0)) s (record { answer = wholly s (now (keys .entry)) (now (links .entry)) (now (certs .entry)) (now (order .entry)) (round .0); state = droppedBoard s (now (keys .entry)) (now (links .entry)) (now (certs .entry)) (now (order .entry)) (round .0) .state }) ⌝ }
-    ensures words { λ r. ⌜ board (r .state) (now (keys .exit)) (now (links .exit)) (now (certs .exit)) (now (order .exit)) ≡ after (dropTested s (now (keys .entry)) (now (links .entry)) (now (certs .entry)) (now (order .entry)) (round .0)) (board s (now (keys .entry)) (now (links .entry)) (now (certs .entry)) (now (order .entry))) (droppedBoard s (now (keys .entry)) (now (links .entry)) (now (certs .entry)) (now (order .entry)) (round .0)) ⌝ }
-    ensures kept { λ r. ⌜ Kept (r .answer) (board s (now (keys .entry)) (now (links .entry)) (now (certs .entry)) (now (order .entry))) (board (r .state) (now (keys .exit)) (now (links .exit)) (now (certs .exit)) (now (order .exit))) ⌝ }
+    ensures { λ r. ⌜ Did (calls.drop (round .0)) (dropLeft (round .0)) (board s (now (keys .entry)) (now (links .entry)) (now (certs .entry)) (now (order .entry)))
+        (left r (now (keys .exit)) (now (links .exit)) (now (certs .exit)) (now (order .exit)) []) ⌝ }
 {
     if !counts_as_started(s, keys, links, certs, order) {
-        return refused(s, 2);
+        return refused(s, Refusal::Number(NOT_STARTED));
     }
     let bottom = s.bottom;
     let top = s.top;

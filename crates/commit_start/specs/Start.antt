@@ -28,14 +28,15 @@ use Rattle.dag_state.specs.Reads.{beginningOf, begun-rounds, begun-progress, cl
 use Rattle.dag_test.specs.Tested.{shape, chain-no, chain-yes, test-yes}
 use Rattle.dag_test.specs.View.{view, regular, seenAt}
 use Rattle.dag_test.specs.Counts.{shape-of}
-use Rattle.commit_answer.specs.declared.answer.Outcome.{Outcome}
-use Rattle.dag_name.specs.Codes.{unless}
-use Rattle.commit_answer.specs.Answer.{Board, board, leaves, answered, tested, doneWith, tested-yes, call-code, after, after-is}
+use Rattle.models.specs.Refusal.{unlessFailed, refusalOf, failed, not-failed}
+use Rattle.models.specs.declared.refusal.Check.{Check}
+use Rattle.models.specs.declared.refusal.Check.the-variants.{Passed}
+use Rattle.commit_answer.specs.Answer.{Board, board, seen, Left, Did, unlessRefused, doneWith, tested, tested-yes, call-tested, did-done}
 use Rattle.commit_start.specs.Blank.{blank, regular-none, blank-phase, blank-places, blank-pt, blank-heights}
 
--- 1, 2 or 0
-unfoldable pub startCode : Store → Beginning → ℕ
-startCode v b = cond (startOk (v .places) (beginningOf b)) (cond (counts v) 2 0) 1
+-- 1, 2 or none
+unfoldable pub startCheck : Store → Beginning → Check
+startCheck v b = cond (startOk (v .places) (beginningOf b)) (cond (counts v) (failed 2) Passed) (failed 1)
 
 -- a state that a reset left
 unfoldable pub resetHolds : State → Bool
@@ -91,22 +92,22 @@ module _ (b : Beginning) (n : ℕ) where
         unfolding startOk
         begins-places g p i = chain-yes _ _ _ r (conf-of r e) h (test-yes _ _ _ (le-leb _ _ k) (test-yes _ _ _ (le-leb _ _ l) (test-yes _ _ _ (le-leb _ _ m) (chain-yes _ _ _ u f g i))))
 
--- one law for each way out of `start_code`
+-- one law for each way out of `check_start`
 module _ (v : Store) (b : Beginning) (n : ℕ) (r : Bool) (p : n ≡ v .places) (e : r ≡ startOk n (beginningOf b)) where
   same : r ≡ startOk (v .places) (beginningOf b)
   same = e ∙ ap (λ x. startOk x (beginningOf b)) p
 
-  pub code-range : not r ≡ true → 1 ≡ startCode v b
-  unfolding startCode
-  code-range h = rw (sym same ∙ not-true r h) refl
+  pub start-range : not r ≡ true → failed 1 ≡ startCheck v b
+  unfolding startCheck
+  start-range h = rw (sym same ∙ not-true r h) refl
 
-  pub code-twice : not r ≡ false → (c : Bool) → c ≡ counts v → c ≡ true → 2 ≡ startCode v b
-  unfolding startCode
-  code-twice h c f g = rw (sym same ∙ not-false r h, sym f ∙ g) refl
+  pub start-twice : not r ≡ false → (c : Bool) → c ≡ counts v → c ≡ true → failed 2 ≡ startCheck v b
+  unfolding startCheck
+  start-twice h c f g = rw (sym same ∙ not-false r h, sym f ∙ g) refl
 
-  pub code-none : not r ≡ false → (c : Bool) → c ≡ counts v → c ≡ false → 0 ≡ startCode v b
-  unfolding startCode
-  code-none h c f g = rw (sym same ∙ not-false r h, sym f ∙ g) refl
+  pub start-passed : not r ≡ false → (c : Bool) → c ≡ counts v → c ≡ false → Passed ≡ startCheck v b
+  unfolding startCheck
+  start-passed h c f g = rw (sym same ∙ not-false r h, sym f ∙ g) refl
 
 -- one law for each way out of `kept_memory`
 module _ (s : State) (m : Memory) (e : m ≡ noMemory) where
@@ -188,8 +189,13 @@ module _ (s : State) (ks ls cs os : List ℕ) (sh : shape ks ls cs os ≡ true) 
 
 -- ---- start
 
-abbrev pub startOutcome : State → List ℕ → List ℕ → List ℕ → List ℕ → Beginning → Outcome
-startOutcome s ks ls cs os b = answered (startCode (view s ks ls cs os) b) s (doneWith (begunState (keptMemory s) b))
+-- the board after it, if it isn't refused
+abbrev pub begunBoard : Beginning → Board → Board
+begunBoard b d = board (begunState (keptMemory (d .state)) b) (blank (d .keys)) (blank (d .links)) (blank (d .certs)) (blank (d .order))
+
+-- what it leaves
+abbrev pub startLeft : Beginning → Board → Left
+startLeft b d = unlessRefused (startCheck (seen d) b) d (doneWith (begunBoard b d))
 
 module _ (s : State) (ks ls cs os : List ℕ) (b : Beginning) where
   abbrev w : Store
@@ -199,26 +205,26 @@ module _ (s : State) (ks ls cs os : List ℕ) (b : Beginning) where
   abbrev made : Store
   made = calls.begun (w .places) (memoryKept w) (beginningOf b)
 
-  code-is : call w (start (beginningOf b)) ≡ finish w (unless (startCode w b) (good made))
-  unfolding doStart startCode refuse unless
-  code-is = call-start w (beginningOf b) ∙ ap (finish w) (by (startOk (w .places) (beginningOf b)) (counts w))
+  check-is : call w (start (beginningOf b)) ≡ finish w (unlessFailed (startCheck w b) (good made))
+  unfolding doStart startCheck refuse unlessFailed refusalOf
+  check-is = call-start w (beginningOf b) ∙ ap (finish w) (by (startOk (w .places) (beginningOf b)) (counts w))
     where
-      by : (x y : Bool) → refuse (not x) 1 (refuse y 2 (good made)) ≡ unless (cond x (cond y 2 0) 1) (good made)
+      by : (x y : Bool) → refuse (not x) 1 (refuse y 2 (good made)) ≡ unlessFailed (cond x (cond y (failed 2) Passed) (failed 1)) (good made)
       by true true = refl
       by true false = refl
       by false y = refl
 
   -- an accepted start has tables of one number of places
-  fits : startCode w b ≡ 0 → shape ks ls cs os ≡ true
-  unfolding startCode startOk placesOk view
+  fits : startCheck w b ≡ Passed → shape ks ls cs os ≡ true
+  unfolding startCheck startOk placesOk view
   fits e =
       byTest (shape ks ls cs os) (λ t. t)
       (λ f. absurd (
       byTest (startOk (w .places) (beginningOf b))
       (λ t. let p : placesOk (w .places) ≡ true = search (and-l, and-r, t) in let z : w .places ≡ 0 = rw f refl in let l = ltb-true 0 (w .places) (and-l _ _ p) in omega arith)
-      (λ g. let o : _≡_ {A = ℕ} 1 0 = rw g at e in omega arith)))
+      (λ g. not-failed _ (rw g at e))))
 
-  makes : startCode w b ≡ 0 → view (begunState (keptMemory s) b) (blank ks) (blank ls) (blank cs) (blank os) ≡ made
+  makes : startCheck w b ≡ Passed → view (begunState (keptMemory s) b) (blank ks) (blank ls) (blank cs) (blank os) ≡ made
   unfolding view begunState calls.begun phaseOf confOf
   makes e =
       let sh = fits e in
@@ -237,38 +243,39 @@ module _ (s : State) (ks ls cs os : List ℕ) (b : Beginning) where
         memory = memory-is s ks ls cs os sh i;
       }
 
-  -- the board after it, if it isn't refused
-  abbrev pub begunBoard : Board
-  begunBoard = board (begunState (keptMemory s) b) (blank ks) (blank ls) (blank cs) (blank os)
-
-  pub start-is : leaves (startOutcome s ks ls cs os b .answer) (after (startCode w b) (board s ks ls cs os) begunBoard) ≡ call w (start (beginningOf b))
-  start-is = after-is (startCode w b) (board s ks ls cs os) begunBoard made makes ∙ sym code-is
-
   -- what it was given lies in its ranges
-  pub start-ranges : startCode w b ≡ 0 → Starts b
-  unfolding startCode startOk confOk
+  pub start-ranges : startCheck w b ≡ Passed → Starts b
+  unfolding startCheck startOk confOk
   start-ranges e =
       byTest (startOk (w .places) (beginningOf b))
       (λ t. (leb-true _ _ (search (and-l, and-r, t)), leb-true _ _ (search (and-l, and-r, t)), leb-true _ _ (search (and-l, and-r, t)), leb-true _ _ (search (and-l, and-r, t)), search (and-l, and-r, t)))
-      (λ g. absurd (let o : _≡_ {A = ℕ} 1 0 = rw g at e in omega arith))
+      (λ g. absurd (not-failed _ (rw g at e)))
+
+-- it does 01's call
+pub start-did : (b : Beginning) (d : Board) (x : Left) → x ≡ startLeft b d → Did (start (beginningOf b)) (startLeft b) d x
+unfolding lent
+start-did b d =
+    did-done (start (beginningOf b)) (startLeft b) d (begunBoard b d) (startCheck (seen d) b) refl refl _
+    (check-is (d .state) (d .keys) (d .links) (d .certs) (d .order) b) (makes (d .state) (d .keys) (d .links) (d .certs) (d .order) b)
 
 -- ---- reset
 
-abbrev pub resetCode : State → List ℕ → List ℕ → List ℕ → List ℕ → ℕ
-resetCode s ks ls cs os = tested (counts (view s ks ls cs os)) 0
+-- the board after it, if it isn't refused
+abbrev pub clearedBoard : Board → Board
+clearedBoard d = board (clearedState (d .state)) (blank (d .keys)) (blank (d .links)) (blank (d .certs)) (blank (d .order))
+
+-- what it leaves
+abbrev pub resetLeft : Board → Left
+resetLeft d = unlessRefused (tested (counts (seen d)) Passed) d (doneWith (clearedBoard d))
 
 module _ (s : State) (ks ls cs os : List ℕ) where
   abbrev u : Store
   u = view s ks ls cs os
 
-  -- the board after it, if it isn't refused
-  abbrev pub clearedBoard : Board
-  clearedBoard = board (clearedState s) (blank ks) (blank ls) (blank cs) (blank os)
-
-  clears : resetCode s ks ls cs os ≡ 0 → view (clearedState s) (blank ks) (blank ls) (blank cs) (blank os) ≡ calls.cleared u
+  clears : counts u ≡ true → view (clearedState s) (blank ks) (blank ls) (blank cs) (blank os) ≡ calls.cleared u
   unfolding view clearedState calls.cleared phaseOf confOf progressOf optionOf gapOf
   clears e =
-      let (sh, m) = shape-of s ks ls cs os (tested-yes _ _ e .0) in
+      let (sh, m) = shape-of s ks ls cs os e in
       let t : State = clearedState s in
       λ i. record {
         phase = blank-phase ks ls cs os sh t refl m i;
@@ -283,6 +290,10 @@ module _ (s : State) (ks ls cs os : List ℕ) where
         memory = u .memory;
       }
 
-  pub reset-is : leaves (answered (resetCode s ks ls cs os) s (doneWith (clearedState s)) .answer) (after (resetCode s ks ls cs os) (board s ks ls cs os) clearedBoard) ≡ call u calls.resetAll
-  unfolding isStart lent act finish unless
-  reset-is = after-is (resetCode s ks ls cs os) (board s ks ls cs os) clearedBoard (calls.cleared u) clears ∙ sym (call-code u calls.resetAll (good (calls.cleared u)) 0 (calls.cleared u) refl refl refl (λ h. refl))
+-- it does 01's call
+pub reset-did : (d : Board) (x : Left) → x ≡ resetLeft d → Did calls.resetAll resetLeft d x
+unfolding isStart lent act finish unlessFailed
+reset-did d =
+    did-done calls.resetAll resetLeft d (clearedBoard d) (tested (counts (seen d)) Passed) refl refl (calls.cleared (seen d))
+    (call-tested (seen d) calls.resetAll (good (calls.cleared (seen d))) Passed (calls.cleared (seen d)) refl refl refl (λ h. refl))
+    (λ e. clears (d .state) (d .keys) (d .links) (d .certs) (d .order) (tested-yes _ _ e .0))

@@ -8,10 +8,10 @@ ghost use Rattle.dag_state.specs.Reads.{beginningOf};
 ghost use Rattle.dag_state.specs.Back.{Starts};
 ghost use Rattle.dag_test.specs.Tested.{shape};
 ghost use Rattle.dag_test.specs.View.{view};
-ghost use Rattle.commit_answer.specs.Answer.{board, leaves, answered, doneWith, after, Kept};
+ghost use mathlib.Core.List.{[]};
+ghost use Rattle.commit_answer.specs.Answer.{Did, board, left};
 ghost use Rattle.commit_start.specs.Blank.{blank};
-ghost use Rattle.commit_start.specs.Start.{startCode, keptMemory, startOutcome, begunBoard, resetCode, clearedBoard};
-ghost use Rattle.dag_state.specs.Back.{clearedState};
+ghost use Rattle.commit_start.specs.Start.{startCheck, keptMemory, startLeft, resetLeft};
 use commit_answer::answer::Answer;
 use commit_answer::answer::Outcome;
 use commit_answer::answer::refused;
@@ -27,6 +27,10 @@ use dag_state::state::empty_memory;
 use dag_test::counts_as_started;
 use dag_test::places_hold;
 use dag_test::shape_holds;
+use models::refusal::BAD_START;
+use models::refusal::Check;
+use models::refusal::NOT_STARTED;
+use models::refusal::Refusal;
 
 // The number of places, 0 of tables that have room for different numbers.
 fn places_of(keys: &[u64], links: &[u64], certs: &[u64], order: &[u64]) -> usize
@@ -63,25 +67,25 @@ fn begins(with: Beginning, places: usize) -> bool
     places_hold(places)
 }
 
-// What a start is refused with: 1, 2, or 0 if it isn't.
-fn start_code(
+// Whether a start is refused: its ranges, then tables that count as started.
+fn check_start(
     s: State,
     keys: &[u64],
     links: &[u64],
     certs: &[u64],
     order: &[u64],
     with: Beginning,
-) -> u32
-    ensures { λ r. ⌜ r ≡ startCode (view s (now (keys .entry)) (now (links .entry)) (now (certs .entry)) (now (order .entry))) with ⌝ }
+) -> Check
+    ensures { λ r. ⌜ r ≡ startCheck (view s (now (keys .entry)) (now (links .entry)) (now (certs .entry)) (now (order .entry))) with ⌝ }
 {
     let places = places_of(keys, links, certs, order);
     if !begins(with, places) {
-        return 1;
+        return Check::Failed(Refusal::Number(BAD_START));
     }
     if counts_as_started(s, keys, links, certs, order) {
-        return 2;
+        return Check::Failed(Refusal::Number(NOT_STARTED));
     }
-    0
+    Check::Passed
 }
 
 // The inspector's memory that a start keeps: a reset's.
@@ -127,14 +131,12 @@ pub fn init(
     order: &mut [u64],
     with: Beginning,
 ) -> Outcome
-    ensures answer { λ r. ⌜ leaves (r .answer) (board (r .state) (now (keys .exit)) (now (links .exit)) (now (certs .exit)) (now (order .exit))) ≡ calls.call (view s (now (keys .entry)) (now (links .entry)) (now (certs .entry)) (now (order .entry))) (calls.start (beginningOf with)) ⌝ }
-    ensures outcome { λ r. ⌜ r ≡ startOutcome s (now (keys .entry)) (now (links .entry)) (now (certs .entry)) (now (order .entry)) with ⌝ }
-    ensures words { λ r. ⌜ board (r .state) (now (keys .exit)) (now (links .exit)) (now (certs .exit)) (now (order .exit)) ≡ after (startCode (view s (now (keys .entry)) (now (links .entry)) (now (certs .entry)) (now (order .entry))) with) (board s (now (keys .entry)) (now (links .entry)) (now (certs .entry)) (now (order .entry))) (begunBoard s (now (keys .entry)) (now (links .entry)) (now (certs .entry)) (now (order .entry)) with) ⌝ }
-    ensures kept { λ r. ⌜ Kept (r .answer) (board s (now (keys .entry)) (now (links .entry)) (now (certs .entry)) (now (order .entry))) (board (r .state) (now (keys .exit)) (now (links .exit)) (now (certs .exit)) (now (order .exit))) ⌝ }
+    ensures { λ r. ⌜ Did (calls.start (beginningOf with)) (startLeft with) (board s (now (keys .entry)) (now (links .entry)) (now (certs .entry)) (now (order .entry)))
+        (left r (now (keys .exit)) (now (links .exit)) (now (certs .exit)) (now (order .exit)) []) ⌝ }
 {
-    let code = start_code(s, keys, links, certs, order, with);
-    if code != 0 {
-        return refused(s, code);
+    let check = check_start(s, keys, links, certs, order, with);
+    if let Check::Failed(why) = check {
+        return refused(s, why);
     }
     let memory = kept_memory(s);
     clear(keys, links, certs, order);
@@ -153,13 +155,11 @@ pub fn reset(
     certs: &mut [u64],
     order: &mut [u64],
 ) -> Outcome
-    ensures answer { λ r. ⌜ leaves (r .answer) (board (r .state) (now (keys .exit)) (now (links .exit)) (now (certs .exit)) (now (order .exit))) ≡ calls.call (view s (now (keys .entry)) (now (links .entry)) (now (certs .entry)) (now (order .entry))) calls.resetAll ⌝ }
-    ensures outcome { λ r. ⌜ r ≡ answered (resetCode s (now (keys .entry)) (now (links .entry)) (now (certs .entry)) (now (order .entry))) s (doneWith (clearedState s)) ⌝ }
-    ensures words { λ r. ⌜ board (r .state) (now (keys .exit)) (now (links .exit)) (now (certs .exit)) (now (order .exit)) ≡ after (resetCode s (now (keys .entry)) (now (links .entry)) (now (certs .entry)) (now (order .entry))) (board s (now (keys .entry)) (now (links .entry)) (now (certs .entry)) (now (order .entry))) (clearedBoard s (now (keys .entry)) (now (links .entry)) (now (certs .entry)) (now (order .entry))) ⌝ }
-    ensures kept { λ r. ⌜ Kept (r .answer) (board s (now (keys .entry)) (now (links .entry)) (now (certs .entry)) (now (order .entry))) (board (r .state) (now (keys .exit)) (now (links .exit)) (now (certs .exit)) (now (order .exit))) ⌝ }
+    ensures { λ r. ⌜ Did calls.resetAll resetLeft (board s (now (keys .entry)) (now (links .entry)) (now (certs .entry)) (now (order .entry)))
+        (left r (now (keys .exit)) (now (links .exit)) (now (certs .exit)) (now (order .exit)) []) ⌝ }
 {
     if !counts_as_started(s, keys, links, certs, order) {
-        return refused(s, 2);
+        return refused(s, Refusal::Number(NOT_STARTED));
     }
     clear(keys, links, certs, order);
     let next = cleared(s);

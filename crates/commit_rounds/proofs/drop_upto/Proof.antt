@@ -1,10 +1,10 @@
-use borrow.Author.Needs.{needs}
 use mathlib.Core.Path.{refl}
+use Rattle.commit_answer.specs.Answer.{tested-no, tested-by, left-refused, left-done}
+use Rattle.commit_rounds.specs.Drop.{drop-did, given, dropped-is}
+use borrow.Author.Needs.{needs}
 use native.Mathlib.Omega.{arith}
 use Rattle.models.specs.Digest.{Fit}
 use Rattle.dag_drain.specs.Cut.{below-le}
-use Rattle.commit_answer.specs.Answer.{isRefused, board, tested-no, tested-by, says-refused, says-done}
-use Rattle.commit_rounds.specs.Drop.{droppedBoard, wholly, dropTested, call-drop, given, drop-outcome, drop-board}
 use Rattle.commit_rounds.proofs.drop_upto.Statement.{statement}
 use Rattle.commit_rounds.proofs.drop_upto.Tie as tie
 
@@ -27,12 +27,7 @@ same-length-4 : tie.Need-same-length-4
 same-length-4 c = search needs
 
 returns : tie.Need-returns
-unfolding isRefused
-returns c =
-    let a = c .before .before .before .before .before .before .before .before .before .before .before .args in
-    let fk : Fit (a .keys .now) = λ p. c .before .before .before .before .before .before .before .before .before .before .slice-known .given p .fits in
-    let fl : Fit (a .links .now) = λ p. c .before .before .before .before .before .before .before .before .before .slice-known2 .given p .fits in
-    says-refused (board (a .s) (a .keys .now) (a .links .now) (a .certs .now) (a .order .now)) (droppedBoard (a .s) (a .keys .now) (a .links .now) (a .certs .now) (a .order .now) (a .round .0)) (wholly (a .s) (a .keys .now) (a .links .now) (a .certs .now) (a .order .now) (a .round .0)) refl (dropTested (a .s) (a .keys .now) (a .links .now) (a .certs .now) (a .order .now) (a .round .0)) _ (call-drop (a .s) (a .keys .now) (a .links .now) (a .certs .now) (a .order .now) (a .round .0) fk fl) _ (tested-no _ _ _ (c .before .before .counts-as-started .ensures) (c .before .if1 .taken)) (λ e. omega arith) _ (c .refused .ensures)
+returns c = drop-did _ _ (λ p. c .before .before .before .before .before .before .before .before .before .before .slice-known .given p .fits) (λ p. c .before .before .before .before .before .before .before .before .before .slice-known2 .given p .fits) _ (left-refused _ _ _ _ (tested-no _ _ _ (c .before .before .counts-as-started .ensures) (c .before .if1 .taken)) _ (c .refused .ensures))
 
 least-requires : tie.Need-least-requires
 least-requires c κs = search needs
@@ -84,15 +79,9 @@ same-length-8 : tie.Need-same-length-8
 same-length-8 c = search needs
 
 returns-2 : tie.Need-returns-2
-unfolding isRefused
 returns-2 c =
-    let a = c .before .before .before .before .before .before .before .before .before .before .before .before .before .before .before .before .before .before .before .before .before .before .before .before .before .before .before .before .before .before .before .args in
-    let fk : Fit (a .keys .now) = λ p. c .before .before .before .before .before .before .before .before .before .before .before .before .before .before .before .before .before .before .before .before .before .before .before .before .before .before .before .before .before .before .slice-known .given p .fits in
-    let fl : Fit (a .links .now) = λ p. c .before .before .before .before .before .before .before .before .before .before .before .before .before .before .before .before .before .before .before .before .before .before .before .before .before .before .before .before .before .slice-known2 .given p .fits in
     let k = c .before .before .before .before .before .before .before .before .before .drain-upto .ensures in
-    says-done (board (a .s) (a .keys .now) (a .links .now) (a .certs .now) (a .order .now)) (droppedBoard (a .s) (a .keys .now) (a .links .now) (a .certs .now) (a .order .now) (a .round .0)) (wholly (a .s) (a .keys .now) (a .links .now) (a .certs .now) (a .order .now) (a .round .0)) refl (dropTested (a .s) (a .keys .now) (a .links .now) (a .certs .now) (a .order .now) (a .round .0)) _ (call-drop (a .s) (a .keys .now) (a .links .now) (a .certs .now) (a .order .now) (a .round .0) fk fl) 0 (tested-by _ 0 0 _ (c .before .before .before .before .before .before .before .before .before .before .before .before .before .before .before .before .before .before .before .before .before .before .counts-as-started .ensures) (c .before .before .before .before .before .before .before .before .before .before .before .before .before .before .before .before .before .before .before .before .before .if1 .left) refl) refl _ _
-    (drop-outcome (a .s) (a .keys .now) (a .links .now) (a .certs .now) (a .order .now) (a .round .0) _ _ _ (c .before .before .before .before .before .before .before .before .before .before .before .before .before .before .before .before .before .before .least .ensures) (c .before .before .before .before .before .before .before .before .before .before .before .before .before .before .before .before .before .most .ensures) (c .before .before .before .before .before .before .before .before .before .before .before .before .before .before .cut .ensures) _ (c .dropped .ensures))
-    (drop-board (a .s) (a .keys .now) (a .links .now) (a .certs .now) (a .order .now) (a .round .0) _ _ _ (c .before .before .before .before .before .before .before .before .before .before .before .before .before .before .before .before .before .before .least .ensures) (c .before .before .before .before .before .before .before .before .before .before .before .before .before .before .before .before .before .most .ensures) (c .before .before .before .before .before .before .before .before .before .before .before .before .before .before .cut .ensures) _ (c .dropped .ensures) (k .0) (k .1 .0) (k .1 .1 .0) (k .1 .1 .1))
+    drop-did _ _ (λ p. c .before .before .before .before .before .before .before .before .before .before .before .before .before .before .before .before .before .before .before .before .before .before .before .before .before .before .before .before .before .before .slice-known .given p .fits) (λ p. c .before .before .before .before .before .before .before .before .before .before .before .before .before .before .before .before .before .before .before .before .before .before .before .before .before .before .before .before .before .slice-known2 .given p .fits) _ (left-done _ _ _ (tested-by _ _ _ (c .before .before .before .before .before .before .before .before .before .before .before .before .before .before .before .before .before .before .before .before .before .before .counts-as-started .ensures) (c .before .before .before .before .before .before .before .before .before .before .before .before .before .before .before .before .before .before .before .before .before .if1 .left) _ refl) _ (dropped-is _ _ _ _ _ (c .before .before .before .before .before .before .before .before .before .before .before .before .before .before .before .before .before .before .least .ensures) (c .before .before .before .before .before .before .before .before .before .before .before .before .before .before .before .before .before .most .ensures) (c .before .before .before .before .before .before .before .before .before .before .before .before .before .before .cut .ensures) _ (c .dropped .ensures) (k .0) (k .1 .0) (k .1 .1 .0) (k .1 .1 .1)))
 
 pub drop-upto-spec : {M : Type 1} → statement M
 drop-upto-spec =

@@ -1,8 +1,8 @@
-use mathlib.Core.Path.{_≡_, sym, ap, _∙_}
+use mathlib.Core.Path.{_≡_, refl, sym, _∙_}
 use lib.ListN.{length, length-map}
+use Rattle.commit_answer.specs.Answer.{left-same, tested-no, tested-by, left-refused, left-done}
+use Rattle.commit_rounds.specs.Round.{round-did, round-ready, round-small}
 use borrow.Author.Needs.{needs}
-use Rattle.commit_answer.specs.Answer.{doneWith, coded-unstarted, coded-refused, coded-done}
-use Rattle.commit_rounds.specs.Round.{round-all, round-ready, round-small}
 use Rattle.commit_rounds.proofs.extend_from_ahead.Statement.{statement}
 use Rattle.commit_rounds.proofs.extend_from_ahead.Tie as tie
 
@@ -17,36 +17,30 @@ refused-requires : tie.Need-refused-requires
 refused-requires c κs = search needs
 
 returns : tie.Need-returns
-returns c =
-    let b = c .before .before .before .before .before .before .before in
-    let a = b .args in
-    round-all (a .s) (a .keys .now) (a .links .now) (a .certs .now) (a .order .now) (a .round .0) (a .peers) (long b) _
-    (coded-unstarted _ _ _ _ _ (c .before .before .counts-as-started .ensures) _ (c .before .if1 .taken) (c .refused .ensures))
+returns c = round-did _ _ _ (long (c .before .before .before .before .before .before .before)) _ (left-refused _ _ _ _ (tested-no _ _ _ (c .before .before .counts-as-started .ensures) (c .before .if1 .taken)) _ (c .refused .ensures))
 
-round-code-requires : tie.Need-round-code-requires
-round-code-requires c κs = round-ready _ _ _ _ _ _ (c .before .before .before .counts-as-started .ensures) (c .before .before .if1 .left)
+check-round-requires : tie.Need-check-round-requires
+check-round-requires c κs = round-ready _ _ _ _ _ _ (c .before .before .before .counts-as-started .ensures) (c .before .before .if1 .left)
+
+enum-known-check : tie.Need-enum-known-check
+enum-known-check c = search needs
 
 refused-requires-2 : tie.Need-refused-requires-2
 refused-requires-2 c κs = search needs
 
 returns-2 : tie.Need-returns-2
-returns-2 c =
-    let b = c .before .before .before .before .before .before .before .before .before .before .before in
-    let a = b .args in
-    round-all (a .s) (a .keys .now) (a .links .now) (a .certs .now) (a .order .now) (a .round .0) (a .peers) (long b) _
-    (coded-refused _ _ _ _ _ (c .before .before .before .before .before .before .counts-as-started .ensures) _ _ (c .before .before .before .before .before .if1 .left) (c .before .before .round-code .ensures) (c .before .if2 .taken) (c .refused2 .ensures))
+returns-2 c = round-did _ _ _ (long (c .before .before .before .before .before .before .before .before .before .before .before .before .before)) _ (left-refused _ _ _ _ (tested-by _ _ _ (c .before .before .before .before .before .before .before .before .counts-as-started .ensures) (c .before .before .before .before .before .before .before .if1 .left) _ (sym (c .before .before .before .before .check-round .ensures) ∙ c .before .before .check .given .1)) _ (c .refused2 .ensures))
+
+enum-told : tie.Need-enum-told
+enum-told c = search needs
 
 with-round-requires : tie.Need-with-round-requires
 with-round-requires c κs =
-    let (k, m) = round-ready _ _ _ _ _ _ (c .before .before .before .before .before .counts-as-started .ensures) (c .before .before .before .before .if1 .left) in
-    (m, round-small _ _ _ _ (c .before .round-code .ensures) (c .if2 .left))
+    let (k, m) = round-ready _ _ _ _ _ _ (c .before .before .before .before .before .before .counts-as-started .ensures) (c .before .before .before .before .before .if1 .left) in
+    (m, round-small _ _ _ _ (c .before .before .check-round .ensures) (c .enum-told .given .1))
 
 returns-3 : tie.Need-returns-3
-returns-3 c =
-    let b = c .before .before .before .before .before .before .before .before .before .before .before in
-    let a = b .args in
-    round-all (a .s) (a .keys .now) (a .links .now) (a .certs .now) (a .order .now) (a .round .0) (a .peers) (long b) _
-    (coded-done _ _ _ _ _ (c .before .before .before .before .before .before .counts-as-started .ensures) _ _ (c .before .before .before .before .before .if1 .left) (c .before .before .round-code .ensures) (c .before .if2 .left) (ap doneWith (c .with-round .ensures)))
+returns-3 c = round-did _ _ _ (long (c .before .before .before .before .before .before .before .before .before .before .before .before)) _ (left-done _ _ _ (tested-by _ _ _ (c .before .before .before .before .before .before .before .counts-as-started .ensures) (c .before .before .before .before .before .before .if1 .left) _ (sym (c .before .before .before .check-round .ensures) ∙ c .before .enum-told .given .1)) _ (left-same refl (c .with-round .ensures) refl refl refl refl refl))
 
 pub extend-from-ahead-spec : {M : Type 1} → statement M
 extend-from-ahead-spec =
@@ -55,8 +49,10 @@ extend-from-ahead-spec =
     counts-as-started-requires
     refused-requires
     returns
-    round-code-requires
+    check-round-requires
+    enum-known-check
     refused-requires-2
     returns-2
+    enum-told
     with-round-requires
     returns-3)

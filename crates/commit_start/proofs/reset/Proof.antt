@@ -1,9 +1,7 @@
+use mathlib.Core.Path.{refl}
+use Rattle.commit_answer.specs.Answer.{left-same, tested-no, tested-by, left-refused, left-done}
+use Rattle.commit_start.specs.Start.{reset-did}
 use borrow.Author.Needs.{needs}
-use mathlib.Core.Path.{refl, ap}
-use native.Mathlib.Omega.{arith}
-use Rattle.commit_answer.specs.declared.answer.Answer.the-variants.{Done}
-use Rattle.commit_answer.specs.Answer.{isRefused, board, doneWith, board-same, tested-no, tested-by, says-refused, says-done}
-use Rattle.commit_start.specs.Start.{resetCode, clearedBoard, reset-is}
 use Rattle.commit_start.proofs.reset.Statement.{statement}
 use Rattle.commit_start.proofs.reset.Tie as tie
 
@@ -26,10 +24,7 @@ same-length-4 : tie.Need-same-length-4
 same-length-4 c = search needs
 
 returns : tie.Need-returns
-unfolding isRefused
-returns c =
-    let a = c .before .before .before .before .before .before .before .before .before .before .before .args in
-    says-refused (board (a .s) (a .keys .now) (a .links .now) (a .certs .now) (a .order .now)) (clearedBoard (a .s) (a .keys .now) (a .links .now) (a .certs .now) (a .order .now)) Done refl (resetCode (a .s) (a .keys .now) (a .links .now) (a .certs .now) (a .order .now)) _ (reset-is (a .s) (a .keys .now) (a .links .now) (a .certs .now) (a .order .now)) _ (tested-no _ _ _ (c .before .before .counts-as-started .ensures) (c .before .if1 .taken)) (λ e. omega arith) _ (c .refused .ensures)
+returns c = reset-did _ _ (left-refused _ _ _ _ (tested-no _ _ _ (c .before .before .counts-as-started .ensures) (c .before .if1 .taken)) _ (c .refused .ensures))
 
 clear-requires : tie.Need-clear-requires
 clear-requires c κs = search needs
@@ -50,12 +45,9 @@ same-length-8 : tie.Need-same-length-8
 same-length-8 c = search needs
 
 returns-2 : tie.Need-returns-2
-unfolding isRefused
 returns-2 c =
-    let a = c .before .before .before .before .before .before .before .before .before .before .before .before .before .before .before .before .before .before .before .before .before .before .before .before .args in
     let k = c .before .before .before .before .before .before .before .before .before .clear .ensures in
-    says-done (board (a .s) (a .keys .now) (a .links .now) (a .certs .now) (a .order .now)) (clearedBoard (a .s) (a .keys .now) (a .links .now) (a .certs .now) (a .order .now)) Done refl (resetCode (a .s) (a .keys .now) (a .links .now) (a .certs .now) (a .order .now)) _ (reset-is (a .s) (a .keys .now) (a .links .now) (a .certs .now) (a .order .now)) 0 (tested-by _ 0 0 _ (c .before .before .before .before .before .before .before .before .before .before .before .before .before .before .before .counts-as-started .ensures) (c .before .before .before .before .before .before .before .before .before .before .before .before .before .before .if1 .left) refl) refl _ _
-    (ap doneWith (c .cleared .ensures)) (board-same (c .cleared .ensures) (k .0) (k .1 .0) (k .1 .1 .0) (k .1 .1 .1))
+    reset-did _ _ (left-done _ _ _ (tested-by _ _ _ (c .before .before .before .before .before .before .before .before .before .before .before .before .before .before .before .counts-as-started .ensures) (c .before .before .before .before .before .before .before .before .before .before .before .before .before .before .if1 .left) _ refl) _ (left-same refl (c .cleared .ensures) (k .0) (k .1 .0) (k .1 .1 .0) (k .1 .1 .1) refl))
 
 pub reset-spec : {M : Type 1} → statement M
 reset-spec =

@@ -1,15 +1,14 @@
-use borrow.Author.Needs.{needs}
-use mathlib.Core.Path.{refl, ap, _∙_, subst}
-use native.Mathlib.Omega.{arith}
+use mathlib.Core.Path.{refl, sym, ap, _∙_, subst}
 use Rattle.models.specs.Digest.{Fit}
+use Rattle.models.specs.Refusal.{not-failed}
 use Rattle.dag_name.specs.Words.{id-fit}
 use Rattle.dag_told.specs.Told.{toldKeys, toldLinks}
-use Rattle.dag_told.specs.Ranged.{Ranged, info-ranged}
+use Rattle.dag_told.specs.Ranged.{info-ranged}
 use Rattle.dag_resolve.specs.After.{resolvedCerts}
-use Rattle.commit_answer.specs.declared.answer.Answer.the-variants.{Done}
-use Rattle.commit_answer.specs.Answer.{isRefused, board, board-same, tested-no, tested-by, says-refused, says-done}
-use Rattle.commit_points.specs.Name.{name-ready}
-use Rattle.commit_points.specs.Resolve.{resolveTested, resolvedBoard, call-resolve, resolve-ready, resolve-there}
+use Rattle.commit_answer.specs.Answer.{board, left-same, tested-no, tested-by, left-refused, left-done}
+use Rattle.commit_points.specs.Name.{name-ready, number-refused, number-passed}
+use Rattle.commit_points.specs.Resolve.{resolve-did, resolve-ready, resolve-there}
+use borrow.Author.Needs.{needs}
 use Rattle.commit_points.proofs.resolve.resolve.Statement.{statement}
 use Rattle.commit_points.proofs.resolve.resolve.Tie as tie
 
@@ -29,26 +28,14 @@ same-length-3 : tie.Need-same-length-3
 same-length-3 c = search needs
 
 returns : tie.Need-returns
-unfolding isRefused
 returns c =
-    let b = c .before .before .before .before .before .before .before .before .before .before .before in
-    let a = b .args in
-    let fk : Fit (a .keys .now) = λ p. c .before .before .before .before .before .before .before .before .before .before .slice-known .given p .fits in
-    let fl : Fit (a .links .now) = λ p. c .before .before .before .before .before .before .before .before .before .slice-known2 .given p .fits in
-    let fr : Fit (a .refs .now) = λ p. c .before .before .before .before .before .before .shared-slice-known2 .given p .fits in
-    let range : Ranged (a .info) = info-ranged (a .info) _ (b .good .1 .1 .1 .1 .1 .1 .0) in
-    let k = tested-no _ _ _ (c .before .before .counts-as-started .ensures) (c .before .if1 .taken) in
-    says-refused (board (a .s) (a .keys .now) (a .links .now) (a .certs .now) (a .order .now)) (resolvedBoard (a .s) (a .keys .now) (a .links .now) (a .certs .now) (a .order .now) (a .id) (a .info) (a .refs .now)) Done refl (resolveTested (a .s) (a .keys .now) (a .links .now) (a .certs .now) (a .order .now) (a .id) (a .info) (a .refs .now)) _ (call-resolve (a .s) (a .keys .now) (a .links .now) (a .certs .now) (a .order .now) (a .id) (a .info) (a .refs .now) fk fl range (id-fit _ _ (b .good .1 .1 .1 .1 .1 .0)) fr (λ e. absurd (let z = k ∙ e in omega arith))) _ k (λ e. omega arith) _ (c .refused .ensures)
+    let t = tested-no _ _ _ (c .before .before .counts-as-started .ensures) (c .before .if1 .taken) in
+    resolve-did _ _ _ _ (λ p. c .before .before .before .before .before .before .before .before .before .before .slice-known .given p .fits) (λ p. c .before .before .before .before .before .before .before .before .before .slice-known2 .given p .fits) (info-ranged _ _ (c .before .before .before .before .before .before .before .before .before .before .before .good .1 .1 .1 .1 .1 .1 .0)) (id-fit _ _ (c .before .before .before .before .before .before .before .before .before .before .before .good .1 .1 .1 .1 .1 .0)) (λ p. c .before .before .before .before .before .before .shared-slice-known2 .given p .fits) (λ e. absurd (not-failed _ (sym t ∙ e))) _ (left-refused _ _ _ _ t _ (c .refused .ensures))
 
 resolve-code-requires : tie.Need-resolve-code-requires
 resolve-code-requires c κs =
-    let b = c .before .before .before .before .before .before .before .before .before .before .before in
-    let a = b .args in
-    let fk : Fit (a .keys .now) = λ p. c .before .before .before .before .before .before .before .before .before .before .slice-known .given p .fits in
-    let fl : Fit (a .links .now) = λ p. c .before .before .before .before .before .before .before .before .before .slice-known2 .given p .fits in
-    let fr : Fit (a .refs .now) = λ p. c .before .before .before .before .before .before .shared-slice-known2 .given p .fits in
-    let range : Ranged (a .info) = info-ranged (a .info) _ (b .good .1 .1 .1 .1 .1 .1 .0) in
-    name-ready (a .s) (a .keys .now) (a .links .now) (a .certs .now) (a .order .now) (a .id) fk fl _ (c .before .before .counts-as-started .ensures) (c .before .if1 .left)
+    let a = c .before .before .before .before .before .before .before .before .before .before .before .args in
+    name-ready (board (a .s) (a .keys .now) (a .links .now) (a .certs .now) (a .order .now)) (λ p. c .before .before .before .before .before .before .before .before .before .before .slice-known .given p .fits) (λ p. c .before .before .before .before .before .before .before .before .before .slice-known2 .given p .fits) _ (c .before .before .counts-as-started .ensures) (c .before .if1 .left)
 
 refused-requires-2 : tie.Need-refused-requires-2
 refused-requires-2 c κs = search needs
@@ -63,36 +50,20 @@ same-length-6 : tie.Need-same-length-6
 same-length-6 c = search needs
 
 returns-2 : tie.Need-returns-2
-unfolding isRefused
 returns-2 c =
-    let b = c .before .before .before .before .before .before .before .before .before .before .before .before .before .before in
-    let a = b .args in
-    let fk : Fit (a .keys .now) = λ p. c .before .before .before .before .before .before .before .before .before .before .before .before .before .slice-known .given p .fits in
-    let fl : Fit (a .links .now) = λ p. c .before .before .before .before .before .before .before .before .before .before .before .before .slice-known2 .given p .fits in
-    let fr : Fit (a .refs .now) = λ p. c .before .before .before .before .before .before .before .before .before .shared-slice-known2 .given p .fits in
-    let range : Ranged (a .info) = info-ranged (a .info) _ (b .good .1 .1 .1 .1 .1 .1 .0) in
-    let k = tested-by _ _ _ _ (c .before .before .before .before .before .counts-as-started .ensures) (c .before .before .before .before .if1 .left) (c .before .before .resolve-code .ensures) in
-    says-refused (board (a .s) (a .keys .now) (a .links .now) (a .certs .now) (a .order .now)) (resolvedBoard (a .s) (a .keys .now) (a .links .now) (a .certs .now) (a .order .now) (a .id) (a .info) (a .refs .now)) Done refl (resolveTested (a .s) (a .keys .now) (a .links .now) (a .certs .now) (a .order .now) (a .id) (a .info) (a .refs .now)) _ (call-resolve (a .s) (a .keys .now) (a .links .now) (a .certs .now) (a .order .now) (a .id) (a .info) (a .refs .now) fk fl range (id-fit _ _ (b .good .1 .1 .1 .1 .1 .0)) fr (λ e. absurd (c .before .if2 .taken (k ∙ e)))) _ k (c .before .if2 .taken) _ (c .refused2 .ensures)
+    let t = tested-by _ _ _ (c .before .before .before .before .before .counts-as-started .ensures) (c .before .before .before .before .if1 .left) _ (number-refused _ _ (c .before .before .resolve-code .ensures) (c .before .if2 .taken)) in
+    resolve-did _ _ _ _ (λ p. c .before .before .before .before .before .before .before .before .before .before .before .before .before .slice-known .given p .fits) (λ p. c .before .before .before .before .before .before .before .before .before .before .before .before .slice-known2 .given p .fits) (info-ranged _ _ (c .before .before .before .before .before .before .before .before .before .before .before .before .before .before .good .1 .1 .1 .1 .1 .1 .0)) (id-fit _ _ (c .before .before .before .before .before .before .before .before .before .before .before .before .before .before .good .1 .1 .1 .1 .1 .0)) (λ p. c .before .before .before .before .before .before .before .before .before .shared-slice-known2 .given p .fits) (λ e. absurd (not-failed _ (sym t ∙ e))) _ (left-refused _ _ _ _ t _ (c .refused2 .ensures))
 
 point-place-requires : tie.Need-point-place-requires
 point-place-requires c κs =
-    let b = c .before .before .before .before .before .before .before .before .before .before .before .before .before .before in
-    let a = b .args in
-    let fk : Fit (a .keys .now) = λ p. c .before .before .before .before .before .before .before .before .before .before .before .before .before .slice-known .given p .fits in
-    let fl : Fit (a .links .now) = λ p. c .before .before .before .before .before .before .before .before .before .before .before .before .slice-known2 .given p .fits in
-    let fr : Fit (a .refs .now) = λ p. c .before .before .before .before .before .before .before .before .before .shared-slice-known2 .given p .fits in
-    let range : Ranged (a .info) = info-ranged (a .info) _ (b .good .1 .1 .1 .1 .1 .1 .0) in
-    (name-ready (a .s) (a .keys .now) (a .links .now) (a .certs .now) (a .order .now) (a .id) fk fl _ (c .before .before .before .before .before .counts-as-started .ensures) (c .before .before .before .before .if1 .left), resolve-there (a .s) (a .keys .now) (a .links .now) (a .certs .now) (a .order .now) (a .id) (a .info) (a .refs .now) _ (c .before .before .resolve-code .ensures) (c .before .if2 .left))
+    let a = c .before .before .before .before .before .before .before .before .before .before .before .before .before .before .args in
+    let d = board (a .s) (a .keys .now) (a .links .now) (a .certs .now) (a .order .now) in
+    (name-ready d (λ p. c .before .before .before .before .before .before .before .before .before .before .before .before .before .slice-known .given p .fits) (λ p. c .before .before .before .before .before .before .before .before .before .before .before .before .slice-known2 .given p .fits) _ (c .before .before .before .before .before .counts-as-started .ensures) (c .before .before .before .before .if1 .left), resolve-there (a .id) (a .info) (a .refs .now) d _ (c .before .before .resolve-code .ensures) (c .before .if2 .left))
 
 resolve-at-requires : tie.Need-resolve-at-requires
 resolve-at-requires c κs =
-    let b = c .before .before .before .before .before .before .before .before .before .before .before .before .before .before .before .before .before .before in
-    let a = b .args in
-    let fk : Fit (a .keys .now) = λ p. c .before .before .before .before .before .before .before .before .before .before .before .before .before .before .before .before .before .slice-known .given p .fits in
-    let fl : Fit (a .links .now) = λ p. c .before .before .before .before .before .before .before .before .before .before .before .before .before .before .before .before .slice-known2 .given p .fits in
-    let fr : Fit (a .refs .now) = λ p. c .before .before .before .before .before .before .before .before .before .before .before .before .before .shared-slice-known2 .given p .fits in
-    let range : Ranged (a .info) = info-ranged (a .info) _ (b .good .1 .1 .1 .1 .1 .1 .0) in
-    resolve-ready (a .s) (a .keys .now) (a .links .now) (a .certs .now) (a .order .now) (a .id) (a .info) (a .refs .now) fk fl range _ (c .before .before .before .before .before .before .before .before .before .counts-as-started .ensures) (c .before .before .before .before .before .before .before .before .if1 .left) _ _ (c .before .before .before .before .before .before .resolve-code .ensures) (c .before .before .before .before .before .if2 .left) (c .before .before .before .point-place .ensures)
+    let a = c .before .before .before .before .before .before .before .before .before .before .before .before .before .before .before .before .before .before .args in
+    resolve-ready (a .id) (a .info) (a .refs .now) (board (a .s) (a .keys .now) (a .links .now) (a .certs .now) (a .order .now)) (λ p. c .before .before .before .before .before .before .before .before .before .before .before .before .before .before .before .before .before .slice-known .given p .fits) (λ p. c .before .before .before .before .before .before .before .before .before .before .before .before .before .before .before .before .slice-known2 .given p .fits) (info-ranged _ _ (c .before .before .before .before .before .before .before .before .before .before .before .before .before .before .before .before .before .before .good .1 .1 .1 .1 .1 .1 .0)) _ (c .before .before .before .before .before .before .before .before .before .counts-as-started .ensures) (c .before .before .before .before .before .before .before .before .if1 .left) _ _ (c .before .before .before .before .before .before .resolve-code .ensures) (c .before .before .before .before .before .if2 .left) (c .before .before .before .point-place .ensures)
 
 same-length-7 : tie.Need-same-length-7
 same-length-7 c = search needs
@@ -104,20 +75,15 @@ same-length-9 : tie.Need-same-length-9
 same-length-9 c = search needs
 
 returns-3 : tie.Need-returns-3
-unfolding isRefused
 returns-3 c =
-    let b = c .before .before .before .before .before .before .before .before .before .before .before .before .before .before .before .before .before .before .before .before .before .before .before .before .before in
-    let a = b .args in
-    let fk : Fit (a .keys .now) = λ p. c .before .before .before .before .before .before .before .before .before .before .before .before .before .before .before .before .before .before .before .before .before .before .before .before .slice-known .given p .fits in
-    let fl : Fit (a .links .now) = λ p. c .before .before .before .before .before .before .before .before .before .before .before .before .before .before .before .before .before .before .before .before .before .before .before .slice-known2 .given p .fits in
-    let fr : Fit (a .refs .now) = λ p. c .before .before .before .before .before .before .before .before .before .before .before .before .before .before .before .before .before .before .before .before .shared-slice-known2 .given p .fits in
-    let range : Ranged (a .info) = info-ranged (a .info) _ (b .good .1 .1 .1 .1 .1 .1 .0) in
+    let a = c .before .before .before .before .before .before .before .before .before .before .before .before .before .before .before .before .before .before .before .before .before .before .before .before .before .args in
     let k = c .before .before .before .before .before .before .resolve-at .ensures in
     let e = c .before .before .before .before .before .before .before .before .before .before .point-place .ensures in
     let x = k .0 ∙ ap (λ q. toldKeys (a .keys .now) q (a .info)) e in
     let y = k .1 .0 ∙ ap (λ q. toldLinks (a .s) (a .keys .now) (a .links .now) (a .order .now) q (a .info) (a .refs .now)) e in
     let z = k .1 .1 ∙ ap (λ q. resolvedCerts (a .s) (a .keys .now) (a .links .now) (a .certs .now) (a .order .now) q (a .info) (a .refs .now)) e in
-    says-done (board (a .s) (a .keys .now) (a .links .now) (a .certs .now) (a .order .now)) (resolvedBoard (a .s) (a .keys .now) (a .links .now) (a .certs .now) (a .order .now) (a .id) (a .info) (a .refs .now)) Done refl (resolveTested (a .s) (a .keys .now) (a .links .now) (a .certs .now) (a .order .now) (a .id) (a .info) (a .refs .now)) _ (call-resolve (a .s) (a .keys .now) (a .links .now) (a .certs .now) (a .order .now) (a .id) (a .info) (a .refs .now) fk fl range (id-fit _ _ (b .good .1 .1 .1 .1 .1 .0)) fr (λ m. (subst Fit x (λ p. c .before .before .before .before .slice-known4 .given p .fits), subst Fit y (λ p. c .before .before .slice-known5 .given p .fits)))) _ (tested-by _ _ _ _ (c .before .before .before .before .before .before .before .before .before .before .before .before .before .before .before .before .counts-as-started .ensures) (c .before .before .before .before .before .before .before .before .before .before .before .before .before .before .before .if1 .left) (c .before .before .before .before .before .before .before .before .before .before .before .before .before .resolve-code .ensures)) (c .before .before .before .before .before .before .before .before .before .before .before .before .if2 .left) _ _ refl (board-same refl x y z refl)
+    resolve-did _ _ _ _ (λ p. c .before .before .before .before .before .before .before .before .before .before .before .before .before .before .before .before .before .before .before .before .before .before .before .before .slice-known .given p .fits) (λ p. c .before .before .before .before .before .before .before .before .before .before .before .before .before .before .before .before .before .before .before .before .before .before .before .slice-known2 .given p .fits) (info-ranged _ _ (c .before .before .before .before .before .before .before .before .before .before .before .before .before .before .before .before .before .before .before .before .before .before .before .before .before .good .1 .1 .1 .1 .1 .1 .0)) (id-fit _ _ (c .before .before .before .before .before .before .before .before .before .before .before .before .before .before .before .before .before .before .before .before .before .before .before .before .before .good .1 .1 .1 .1 .1 .0)) (λ p. c .before .before .before .before .before .before .before .before .before .before .before .before .before .before .before .before .before .before .before .before .shared-slice-known2 .given p .fits)
+    (λ m. (subst Fit x (λ p. c .before .before .before .before .slice-known4 .given p .fits), subst Fit y (λ p. c .before .before .slice-known5 .given p .fits))) _ (left-done _ _ _ (tested-by _ _ _ (c .before .before .before .before .before .before .before .before .before .before .before .before .before .before .before .before .counts-as-started .ensures) (c .before .before .before .before .before .before .before .before .before .before .before .before .before .before .before .if1 .left) _ (number-passed _ _ (c .before .before .before .before .before .before .before .before .before .before .before .before .before .resolve-code .ensures) (c .before .before .before .before .before .before .before .before .before .before .before .before .if2 .left))) _ (left-same refl refl x y z refl refl))
 
 pub resolve-spec : {M : Type 1} → statement M
 resolve-spec =

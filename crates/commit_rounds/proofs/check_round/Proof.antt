@@ -1,7 +1,7 @@
 use borrow.Author.Needs.{needs}
 use Rattle.commit_rounds.specs.Round.{round-beyond, round-last, round-old, round-full, round-new}
-use Rattle.commit_rounds.proofs.round_code.Statement.{statement}
-use Rattle.commit_rounds.proofs.round_code.Tie as tie
+use Rattle.commit_rounds.proofs.check_round.Statement.{statement}
+use Rattle.commit_rounds.proofs.check_round.Tie as tie
 
 -- src/calls.rt:51:8
 add-if1 : tie.Need-add-if1
@@ -35,6 +35,6 @@ returns-4 c = search round-full
 returns-5 : tie.Need-returns-5
 returns-5 c = search round-new
 
-pub round-code-spec : {M : Type 1} → statement M
-round-code-spec =
+pub check-round-spec : {M : Type 1} → statement M
+check-round-spec =
     tie.close (tie.spec add-if1 returns returns-2 returns-3 add-if4 sub-if4 returns-4 returns-5)
