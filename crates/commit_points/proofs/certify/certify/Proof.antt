@@ -22,8 +22,8 @@ returns c = certify-did _ _ (λ p. c .before .before .before .before .before .be
 
 point-code-requires : tie.Need-point-code-requires
 point-code-requires c κs =
-    let a = MISSING in
-    name-ready (board (a .s) (a .keys .now) (a .links .now) (a .certs .now) (a .order .now)) (λ p. MISSING .given p .fits) (λ p. MISSING .given p .fits) _ (MISSING .ensures) (MISSING .left)
+    let a = c .before .before .before .before .before .before .before .args in
+    name-ready (board (a .s) (a .keys .now) (a .links .now) (a .certs .now) (a .order .now)) (λ p. c .before .before .before .before .before .before .shared-slice-known .given p .fits) (λ p. c .before .before .before .before .before .shared-slice-known2 .given p .fits) _ (c .before .counts-as-started .ensures) (c .if1 .left)
 
 refused-requires-2 : tie.Need-refused-requires-2
 refused-requires-2 c κs = search needs
@@ -36,8 +36,8 @@ returns-2 c = certify-did _ _ (λ p. c .before .before .before .before .before .
 
 point-place-requires : tie.Need-point-place-requires
 point-place-requires c κs =
-    let a = MISSING in
-    (name-ready (board (a .s) (a .keys .now) (a .links .now) (a .certs .now) (a .order .now)) (λ p. MISSING .given p .fits) (λ p. MISSING .given p .fits) _ (MISSING .ensures) (MISSING .left), sym (MISSING .ensures) ∙ MISSING .left)
+    let a = c .before .before .before .before .before .before .before .before .before .args in
+    (name-ready (board (a .s) (a .keys .now) (a .links .now) (a .certs .now) (a .order .now)) (λ p. c .before .before .before .before .before .before .before .before .shared-slice-known .given p .fits) (λ p. c .before .before .before .before .before .before .before .shared-slice-known2 .given p .fits) _ (c .before .before .before .counts-as-started .ensures) (c .before .before .if1 .left), sym (c .before .point-code .ensures) ∙ c .if2 .left)
 
 certify-at-requires : tie.Need-certify-at-requires
 certify-at-requires c κs =

@@ -29,8 +29,9 @@ same-length-3 c = search needs
 
 returns : tie.Need-returns
 returns c =
+    let a = c .before .before .before .before .before .before .before .before .before .before .before .args in
     let t = tested-no _ _ _ (c .before .before .counts-as-started .ensures) (c .before .if1 .taken) in
-    resolve-did _ _ _ _ (λ p. c .before .before .before .before .before .before .before .before .before .before .slice-known .given p .fits) (λ p. c .before .before .before .before .before .before .before .before .before .slice-known2 .given p .fits) (info-ranged _ _ (c .before .before .before .before .before .before .before .before .before .before .before .good .1 .1 .1 .1 .1 .1 .0)) (id-fit _ _ (c .before .before .before .before .before .before .before .before .before .before .before .good .1 .1 .1 .1 .1 .0)) (λ p. c .before .before .before .before .before .before .shared-slice-known2 .given p .fits) (λ e. absurd (not-failed _ (sym t ∙ e))) _ (left-refused _ _ _ _ t _ (c .refused .ensures))
+    resolve-did _ _ _ _ (λ p. c .before .before .before .before .before .before .before .before .before .before .slice-known .given p .fits) (λ p. c .before .before .before .before .before .before .before .before .before .slice-known2 .given p .fits) (info-ranged (a .info) _ (c .before .before .before .before .before .before .before .before .before .before .before .good .1 .1 .1 .1 .1 .1 .0)) (id-fit _ _ (c .before .before .before .before .before .before .before .before .before .before .before .good .1 .1 .1 .1 .1 .0)) (λ p. c .before .before .before .before .before .before .shared-slice-known2 .given p .fits) (λ e. absurd (not-failed _ (sym t ∙ e))) _ (left-refused _ _ _ _ t _ (c .refused .ensures))
 
 resolve-code-requires : tie.Need-resolve-code-requires
 resolve-code-requires c κs =
@@ -51,8 +52,9 @@ same-length-6 c = search needs
 
 returns-2 : tie.Need-returns-2
 returns-2 c =
+    let a = c .before .before .before .before .before .before .before .before .before .before .before .before .before .before .args in
     let t = tested-by _ _ _ (c .before .before .before .before .before .counts-as-started .ensures) (c .before .before .before .before .if1 .left) _ (number-refused _ _ (c .before .before .resolve-code .ensures) (c .before .if2 .taken)) in
-    resolve-did _ _ _ _ (λ p. c .before .before .before .before .before .before .before .before .before .before .before .before .before .slice-known .given p .fits) (λ p. c .before .before .before .before .before .before .before .before .before .before .before .before .slice-known2 .given p .fits) (info-ranged _ _ (c .before .before .before .before .before .before .before .before .before .before .before .before .before .before .good .1 .1 .1 .1 .1 .1 .0)) (id-fit _ _ (c .before .before .before .before .before .before .before .before .before .before .before .before .before .before .good .1 .1 .1 .1 .1 .0)) (λ p. c .before .before .before .before .before .before .before .before .before .shared-slice-known2 .given p .fits) (λ e. absurd (not-failed _ (sym t ∙ e))) _ (left-refused _ _ _ _ t _ (c .refused2 .ensures))
+    resolve-did _ _ _ _ (λ p. c .before .before .before .before .before .before .before .before .before .before .before .before .before .slice-known .given p .fits) (λ p. c .before .before .before .before .before .before .before .before .before .before .before .before .slice-known2 .given p .fits) (info-ranged (a .info) _ (c .before .before .before .before .before .before .before .before .before .before .before .before .before .before .good .1 .1 .1 .1 .1 .1 .0)) (id-fit _ _ (c .before .before .before .before .before .before .before .before .before .before .before .before .before .before .good .1 .1 .1 .1 .1 .0)) (λ p. c .before .before .before .before .before .before .before .before .before .shared-slice-known2 .given p .fits) (λ e. absurd (not-failed _ (sym t ∙ e))) _ (left-refused _ _ _ _ t _ (c .refused2 .ensures))
 
 point-place-requires : tie.Need-point-place-requires
 point-place-requires c κs =
@@ -63,7 +65,7 @@ point-place-requires c κs =
 resolve-at-requires : tie.Need-resolve-at-requires
 resolve-at-requires c κs =
     let a = c .before .before .before .before .before .before .before .before .before .before .before .before .before .before .before .before .before .before .args in
-    resolve-ready (a .id) (a .info) (a .refs .now) (board (a .s) (a .keys .now) (a .links .now) (a .certs .now) (a .order .now)) (λ p. c .before .before .before .before .before .before .before .before .before .before .before .before .before .before .before .before .before .slice-known .given p .fits) (λ p. c .before .before .before .before .before .before .before .before .before .before .before .before .before .before .before .before .slice-known2 .given p .fits) (info-ranged _ _ (c .before .before .before .before .before .before .before .before .before .before .before .before .before .before .before .before .before .before .good .1 .1 .1 .1 .1 .1 .0)) _ (c .before .before .before .before .before .before .before .before .before .counts-as-started .ensures) (c .before .before .before .before .before .before .before .before .if1 .left) _ _ (c .before .before .before .before .before .before .resolve-code .ensures) (c .before .before .before .before .before .if2 .left) (c .before .before .before .point-place .ensures)
+    resolve-ready (a .id) (a .info) (a .refs .now) (board (a .s) (a .keys .now) (a .links .now) (a .certs .now) (a .order .now)) (λ p. c .before .before .before .before .before .before .before .before .before .before .before .before .before .before .before .before .before .slice-known .given p .fits) (λ p. c .before .before .before .before .before .before .before .before .before .before .before .before .before .before .before .before .slice-known2 .given p .fits) (info-ranged (a .info) _ (c .before .before .before .before .before .before .before .before .before .before .before .before .before .before .before .before .before .before .good .1 .1 .1 .1 .1 .1 .0)) _ (c .before .before .before .before .before .before .before .before .before .counts-as-started .ensures) (c .before .before .before .before .before .before .before .before .if1 .left) _ _ (c .before .before .before .before .before .before .resolve-code .ensures) (c .before .before .before .before .before .if2 .left) (c .before .before .before .point-place .ensures)
 
 same-length-7 : tie.Need-same-length-7
 same-length-7 c = search needs
@@ -82,7 +84,7 @@ returns-3 c =
     let x = k .0 ∙ ap (λ q. toldKeys (a .keys .now) q (a .info)) e in
     let y = k .1 .0 ∙ ap (λ q. toldLinks (a .s) (a .keys .now) (a .links .now) (a .order .now) q (a .info) (a .refs .now)) e in
     let z = k .1 .1 ∙ ap (λ q. resolvedCerts (a .s) (a .keys .now) (a .links .now) (a .certs .now) (a .order .now) q (a .info) (a .refs .now)) e in
-    resolve-did _ _ _ _ (λ p. c .before .before .before .before .before .before .before .before .before .before .before .before .before .before .before .before .before .before .before .before .before .before .before .before .slice-known .given p .fits) (λ p. c .before .before .before .before .before .before .before .before .before .before .before .before .before .before .before .before .before .before .before .before .before .before .before .slice-known2 .given p .fits) (info-ranged _ _ (c .before .before .before .before .before .before .before .before .before .before .before .before .before .before .before .before .before .before .before .before .before .before .before .before .before .good .1 .1 .1 .1 .1 .1 .0)) (id-fit _ _ (c .before .before .before .before .before .before .before .before .before .before .before .before .before .before .before .before .before .before .before .before .before .before .before .before .before .good .1 .1 .1 .1 .1 .0)) (λ p. c .before .before .before .before .before .before .before .before .before .before .before .before .before .before .before .before .before .before .before .before .shared-slice-known2 .given p .fits)
+    resolve-did _ _ _ _ (λ p. c .before .before .before .before .before .before .before .before .before .before .before .before .before .before .before .before .before .before .before .before .before .before .before .before .slice-known .given p .fits) (λ p. c .before .before .before .before .before .before .before .before .before .before .before .before .before .before .before .before .before .before .before .before .before .before .before .slice-known2 .given p .fits) (info-ranged (a .info) _ (c .before .before .before .before .before .before .before .before .before .before .before .before .before .before .before .before .before .before .before .before .before .before .before .before .before .good .1 .1 .1 .1 .1 .1 .0)) (id-fit _ _ (c .before .before .before .before .before .before .before .before .before .before .before .before .before .before .before .before .before .before .before .before .before .before .before .before .before .good .1 .1 .1 .1 .1 .0)) (λ p. c .before .before .before .before .before .before .before .before .before .before .before .before .before .before .before .before .before .before .before .before .shared-slice-known2 .given p .fits)
     (λ m. (subst Fit x (λ p. c .before .before .before .before .slice-known4 .given p .fits), subst Fit y (λ p. c .before .before .slice-known5 .given p .fits))) _ (left-done _ _ _ (tested-by _ _ _ (c .before .before .before .before .before .before .before .before .before .before .before .before .before .before .before .before .counts-as-started .ensures) (c .before .before .before .before .before .before .before .before .before .before .before .before .before .before .before .if1 .left) _ (number-passed _ _ (c .before .before .before .before .before .before .before .before .before .before .before .before .before .resolve-code .ensures) (c .before .before .before .before .before .before .before .before .before .before .before .before .if2 .left))) _ (left-same refl refl x y z refl refl))
 
 pub resolve-spec : {M : Type 1} → statement M
