@@ -1,13 +1,13 @@
 -- Answers and arguments as they cross the C boundary.
 use Prim.Native.Nat.{ℕ, _/_, _%_}
-use mathlib.Core.Path.{_≡_, refl, ap, _∙_}
+use mathlib.Core.Path.{_≡_, refl, sym, ap, subst, _∙_}
 use mathlib.Core.List.{List}
 use mathlib.Core.Bool.{Bool, true, not, cond}
 use lib.Dec.{eqb}
 use borrow.Author.Tests.{ne-eqb}
 use Rattle.spec.specs.Chain as chain
 use Rattle.spec.specs.Calls as calls
-use Rattle.spec.specs.Calls.{numberOf}
+use Rattle.spec.specs.Calls.{numberOf, lent}
 use Rattle.models.specs.declared.parts.Round.{Round}
 use Rattle.models.specs.declared.info.PointInfo.{PointInfo}
 use Rattle.dag_state.specs.declared.state.State.{State}
@@ -15,7 +15,7 @@ use Rattle.dag_state.specs.declared.back.UsedAuthor.{UsedAuthor}
 use Rattle.dag_state.specs.declared.back.UsedAuthor.the-variants.{Nobody, Peer}
 use Rattle.dag_state.specs.declared.back.Beginning.{Beginning}
 use Rattle.models.specs.Refusal.{refusalOf}
-use Rattle.commit_answer.specs.Answer.{Board, board, seen, leaves, answerOf, isRefused, Kept}
+use Rattle.commit_answer.specs.Answer.{Board, board, seen, Left, left, outcomeOf, answerOf, isIdle, Did}
 use Rattle.models.specs.declared.refusal.Refusal.{Refusal}
 use Rattle.models.specs.declared.refusal.Refusal.the-variants as why
 use Rattle.commit_answer.specs.declared.answer.Answer.{Answer}
@@ -50,9 +50,11 @@ replyOf o =
     let n = numbersOf (answerOf (o .answer)) in
     record { refused = n .refused; said = n .said; anchors = n .anchors; conflict = n .conflict; state = o .state }
 
--- what a call leaves: the numbers of 01's answer, 01's store, and after a refusal the board as it was
-abbrev pub Replies : Reply → Board → Board → calls.Call → Type 0
-Replies r b e x = (numbersIn r ≡ numbersOf (calls.call (seen b) x .answer)) × ((seen e ≡ calls.call (seen b) x .store) × ((r .refused ≡ 0 → ⊥) → e ≡ b))
+-- What a call for C has done. c, m, d: the call, its model and the board before it, as in Did; e, b: the board and the buffer after it.
+-- reply: the numbers of 01's answer. did: the call's own record, of the answer that the model gives.
+pub record Replies (c : calls.Call) (m : Board → Left) (d : Board) (r : Reply) (e : Board) (b : List ℕ) : Type 0 where
+  pub reply : numbersIn r ≡ numbersOf (calls.call (seen d) c .answer)
+  pub did : Did c m d (record { answer = m d .answer; tables = e; buffer = b })
 
 -- ---- arguments
 
@@ -84,20 +86,34 @@ infoIn t = record {
 
 -- ---- laws
 
--- a number that isn't 0 is a refusal's
-number-refused : (a : Answer) → (numbersOf (answerOf a) .refused ≡ 0 → ⊥) → isRefused a ≡ true
-unfolding numbersOf answerOf isRefused
-number-refused answer.Done n = absurd (n refl)
-number-refused (answer.Said b) n = absurd (n refl)
-number-refused (answer.Handed m) n = absurd (n refl)
-number-refused (answer.Refused w m) n = refl
+-- what the reply of an outcome says
+pub replies : (c : calls.Call) (m : Board → Left) (d : Board) (o : Outcome) (ks ls cs os b : List ℕ) (r : Reply) → r ≡ replyOf o → Did c m d (left o ks ls cs os b) → Replies c m d r (board (r .state) ks ls cs os) b
+unfolding replyOf outcomeOf
+replies c m d o ks ls cs os b r f h =
+    rw f (record {
+      reply = ap (λ (y : calls.Outcome). numbersOf (y .answer)) (h .answer);
+      did = subst (λ (a : Answer). Did c m d (record { answer = a; tables = board (o .state) ks ls cs os; buffer = b })) (ap (λ (x : Left). x .answer) (h .words)) h;
+    })
 
--- what the reply of an outcome says: X the outcome, W the board after it
-pub replies : (o X : Outcome) (b W : Board) (x : calls.Call) (ks ls cs os : List ℕ) (r : Reply) → r ≡ replyOf o → leaves (o .answer) (board (o .state) ks ls cs os) ≡ calls.call (seen b) x → o ≡ X
-    → board (o .state) ks ls cs os ≡ W → Kept (o .answer) b (board (o .state) ks ls cs os) → Replies r b (board (r .state) ks ls cs os) x × ((r ≡ replyOf X) × (board (r .state) ks ls cs os ≡ W))
-unfolding replyOf leaves
-replies o X b W x ks ls cs os r f h g w k =
-    ((rw f (ap (λ (y : calls.Outcome). numbersOf (y .answer)) h, (ap (λ (y : calls.Outcome). y .store) h, λ n. k (number-refused (o .answer) n)))), (f ∙ ap replyOf g, rw f w))
+-- of a call made with u, which equals v
+pub replies-with : {A : Type 0} (c : A → calls.Call) (m : A → Board → Left) (u v : A) → u ≡ v → (d : Board) (o : Outcome) (ks ls cs os b : List ℕ) (r : Reply) → r ≡ replyOf o
+    → Did (c u) (m u) d (left o ks ls cs os b) → Replies (c v) (m v) d r (board (r .state) ks ls cs os) b
+replies-with {A} c m u v e d o ks ls cs os b r f h = subst (λ (z : A). Replies (c z) (m z) d r (board (r .state) ks ls cs os) b) e (replies (c u) (m u) d o ks ls cs os b r f h)
+
+-- nothing was done, by the numbers: refused, or no anchor handed out, and none finished
+idle-is : (a : Answer) → ((numbersOf (answerOf a) .refused ≡ 0 → ⊥) → numbersOf (answerOf a) .anchors ≡ 0 → isIdle a ≡ true)
+unfolding numbersOf answerOf isIdle
+idle-is answer.Done n z = absurd (n refl)
+idle-is (answer.Said b) n z = absurd (n refl)
+idle-is (answer.Handed k) n z = absurd (n refl)
+idle-is (answer.Refused w k) n z = rw z refl
+
+-- a refused call that finished no anchor leaves all as it was
+pub refused-kept : (c : calls.Call) (m : Board → Left) (d : Board) (r : Reply) (e : Board) (b : List ℕ) → Replies c m d r e b → (r .refused ≡ 0 → ⊥) → r .anchors ≡ 0 → (e ≡ d) × (b ≡ lent c)
+unfolding outcomeOf
+refused-kept c m d r e b h n z =
+    let k : numbersIn r ≡ numbersOf (answerOf (m d .answer)) = h .reply ∙ sym (ap (λ (y : calls.Outcome). numbersOf (y .answer)) (h .did .answer)) in
+    h .did .kept (idle-is (m d .answer) (λ y. n (ap (λ (x : Numbers). x .refused) k ∙ y)) (sym (ap (λ (x : Numbers). x .anchors) k) ∙ z))
 
 -- by cases on the answer, and on the refusal
 module _ (w : Refusal) where

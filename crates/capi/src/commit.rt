@@ -1,11 +1,9 @@
 // Origin: none. Commit for C.
-ghost use mathlib.Core.Path.{_≡_};
 ghost use Rattle.spec.specs.Calls as calls;
 ghost use Rattle.models.specs.Parts.{idOf};
 ghost use Rattle.commit_answer.specs.Answer.{board};
-ghost use Rattle.commit_commit.specs.Commit.{committed, outcomeOf};
-ghost use Rattle.capi.specs.Reply.{replyOf};
-ghost use Rattle.capi.specs.Commit.{RepliesIn};
+ghost use Rattle.commit_commit.specs.Commit.{commitLeft};
+ghost use Rattle.capi.specs.Reply.{Replies};
 use crate::reply::Reply;
 use crate::reply::reply_of;
 use commit_commit::commit;
@@ -23,10 +21,9 @@ pub extern "C" fn committer_commit(
     id: PointId,
     b: &mut [u8],
 ) -> Reply
-    ensures answer { λ r. ⌜ RepliesIn r (board s (now (keys .entry)) (now (links .entry)) (now (certs .entry)) (now (order .entry))) (now (b .entry)) (board (r .state) (now (keys .entry)) (now (links .entry)) (now (certs .exit)) (now (order .entry))) (now (b .exit)) (calls.commit (idOf id) (now (b .entry))) ⌝ }
-    ensures outcome { λ r. ⌜ r ≡ replyOf (outcomeOf (committed s (now (keys .entry)) (now (links .entry)) (now (certs .entry)) (now (order .entry)) (idOf id) (now (b .entry)))) ⌝ }
-    ensures words { λ r. ⌜ now (certs .exit) ≡ committed s (now (keys .entry)) (now (links .entry)) (now (certs .entry)) (now (order .entry)) (idOf id) (now (b .entry)) .certs ⌝ }
-    ensures bytes { λ r. ⌜ now (b .exit) ≡ committed s (now (keys .entry)) (now (links .entry)) (now (certs .entry)) (now (order .entry)) (idOf id) (now (b .entry)) .buffer ⌝ }
+    ensures { λ r. ⌜ Replies (calls.commit (idOf id) (now (b .entry))) (commitLeft (idOf id) (now (b .entry)))
+        (board s (now (keys .entry)) (now (links .entry)) (now (certs .entry)) (now (order .entry))) r
+        (board (r .state) (now (keys .entry)) (now (links .entry)) (now (certs .exit)) (now (order .entry))) (now (b .exit)) ⌝ }
 {
     let o = commit(s, keys, links, certs, order, id, b);
     reply_of(o)

@@ -1,14 +1,14 @@
 // Origin: none. Name, resolve and certify for C.
 ghost use mathlib.Core.Path.{_≡_};
+ghost use mathlib.Core.List.{[]};
 ghost use Rattle.spec.specs.Calls as calls;
 ghost use Rattle.models.specs.Info.{infoOf};
 ghost use Rattle.models.specs.Parts.{idOf};
-ghost use Rattle.dag_name.specs.Name.{namedState};
-ghost use Rattle.commit_answer.specs.Answer.{board, answered, doneWith, after};
-ghost use Rattle.commit_points.specs.Name.{nameTested, namedBoard};
-ghost use Rattle.commit_points.specs.Resolve.{resolveTested, resolvedBoard};
-ghost use Rattle.commit_points.specs.Certify.{certifyTested, certifiedBoard};
-ghost use Rattle.capi.specs.Reply.{Replies, replyOf, infoIn};
+ghost use Rattle.commit_answer.specs.Answer.{board};
+ghost use Rattle.commit_points.specs.Name.{nameLeft};
+ghost use Rattle.commit_points.specs.Resolve.{resolveLeft};
+ghost use Rattle.commit_points.specs.Certify.{certifyLeft};
+ghost use Rattle.capi.specs.Reply.{Replies, infoIn};
 use crate::reply::Reply;
 use crate::reply::reply_of;
 use commit_points::certify::certify;
@@ -55,9 +55,9 @@ pub extern "C" fn committer_name(
     order: &mut [u64],
     id: PointId,
 ) -> Reply
-    ensures answer { λ r. ⌜ Replies r (board s (now (keys .entry)) (now (links .entry)) (now (certs .entry)) (now (order .entry))) (board (r .state) (now (keys .exit)) (now (links .entry)) (now (certs .exit)) (now (order .exit))) (calls.name (idOf id)) ⌝ }
-    ensures outcome { λ r. ⌜ r ≡ replyOf (answered (nameTested s (now (keys .entry)) (now (links .entry)) (now (certs .entry)) (now (order .entry)) id) s (doneWith (namedState s))) ⌝ }
-    ensures words { λ r. ⌜ board (r .state) (now (keys .exit)) (now (links .entry)) (now (certs .exit)) (now (order .exit)) ≡ after (nameTested s (now (keys .entry)) (now (links .entry)) (now (certs .entry)) (now (order .entry)) id) (board s (now (keys .entry)) (now (links .entry)) (now (certs .entry)) (now (order .entry))) (namedBoard s (now (keys .entry)) (now (links .entry)) (now (certs .entry)) (now (order .entry)) id) ⌝ }
+    ensures { λ r. ⌜ Replies (calls.name (idOf id)) (nameLeft id)
+        (board s (now (keys .entry)) (now (links .entry)) (now (certs .entry)) (now (order .entry))) r
+        (board (r .state) (now (keys .exit)) (now (links .entry)) (now (certs .exit)) (now (order .exit))) [] ⌝ }
 {
     let o = add_dependency(s, keys, links, certs, order, id);
     reply_of(o)
@@ -75,9 +75,9 @@ pub extern "C" fn committer_resolve(
     told: Told,
     refs: &[u64],
 ) -> Reply
-    ensures answer { λ r. ⌜ Replies r (board s (now (keys .entry)) (now (links .entry)) (now (certs .entry)) (now (order .entry))) (board (r .state) (now (keys .exit)) (now (links .exit)) (now (certs .exit)) (now (order .entry))) (calls.resolve (idOf id) (infoOf (infoIn told) (now (refs .entry)))) ⌝ }
-    ensures outcome { λ r. ⌜ r ≡ replyOf (answered (resolveTested s (now (keys .entry)) (now (links .entry)) (now (certs .entry)) (now (order .entry)) id (infoIn told) (now (refs .entry))) s (doneWith s)) ⌝ }
-    ensures words { λ r. ⌜ board (r .state) (now (keys .exit)) (now (links .exit)) (now (certs .exit)) (now (order .entry)) ≡ after (resolveTested s (now (keys .entry)) (now (links .entry)) (now (certs .entry)) (now (order .entry)) id (infoIn told) (now (refs .entry))) (board s (now (keys .entry)) (now (links .entry)) (now (certs .entry)) (now (order .entry))) (resolvedBoard s (now (keys .entry)) (now (links .entry)) (now (certs .entry)) (now (order .entry)) id (infoIn told) (now (refs .entry))) ⌝ }
+    ensures { λ r. ⌜ Replies (calls.resolve (idOf id) (infoOf (infoIn told) (now (refs .entry)))) (resolveLeft id (infoIn told) (now (refs .entry)))
+        (board s (now (keys .entry)) (now (links .entry)) (now (certs .entry)) (now (order .entry))) r
+        (board (r .state) (now (keys .exit)) (now (links .exit)) (now (certs .exit)) (now (order .entry))) [] ⌝ }
 {
     let info = info_in(told);
     let o = resolve(s, keys, links, certs, order, id, info, refs);
@@ -93,9 +93,9 @@ pub extern "C" fn committer_certify(
     order: &[u64],
     id: PointId,
 ) -> Reply
-    ensures answer { λ r. ⌜ Replies r (board s (now (keys .entry)) (now (links .entry)) (now (certs .entry)) (now (order .entry))) (board (r .state) (now (keys .entry)) (now (links .entry)) (now (certs .exit)) (now (order .entry))) (calls.certify (idOf id)) ⌝ }
-    ensures outcome { λ r. ⌜ r ≡ replyOf (answered (certifyTested s (now (keys .entry)) (now (links .entry)) (now (certs .entry)) (now (order .entry)) id) s (doneWith s)) ⌝ }
-    ensures words { λ r. ⌜ board (r .state) (now (keys .entry)) (now (links .entry)) (now (certs .exit)) (now (order .entry)) ≡ after (certifyTested s (now (keys .entry)) (now (links .entry)) (now (certs .entry)) (now (order .entry)) id) (board s (now (keys .entry)) (now (links .entry)) (now (certs .entry)) (now (order .entry))) (certifiedBoard s (now (keys .entry)) (now (links .entry)) (now (certs .entry)) (now (order .entry)) id) ⌝ }
+    ensures { λ r. ⌜ Replies (calls.certify (idOf id)) (certifyLeft id)
+        (board s (now (keys .entry)) (now (links .entry)) (now (certs .entry)) (now (order .entry))) r
+        (board (r .state) (now (keys .entry)) (now (links .entry)) (now (certs .exit)) (now (order .entry))) [] ⌝ }
 {
     let o = certify(s, keys, links, certs, order, id);
     reply_of(o)

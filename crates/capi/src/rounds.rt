@@ -1,16 +1,14 @@
 // Origin: none. Start, reset, round, gap question and drop for C.
 ghost use mathlib.Core.Path.{_≡_};
+ghost use mathlib.Core.List.{[]};
 ghost use Rattle.spec.specs.Calls as calls;
-ghost use Rattle.spec.specs.Rules.{counts};
-ghost use Rattle.dag_state.specs.Back.{clearedState};
 ghost use Rattle.dag_state.specs.Reads.{beginningOf};
-ghost use Rattle.dag_test.specs.View.{view};
-ghost use Rattle.commit_answer.specs.Answer.{board, answered, doneWith, after};
-ghost use Rattle.commit_start.specs.Start.{startCode, startOutcome, begunBoard, resetCode, clearedBoard};
-ghost use Rattle.commit_rounds.specs.Gap.{gapOutcome};
-ghost use Rattle.commit_rounds.specs.Round.{roundOutcome};
-ghost use Rattle.commit_rounds.specs.Drop.{droppedBoard, wholly, dropTested};
-ghost use Rattle.capi.specs.Reply.{Replies, replyOf, beginningIn, usedIn};
+ghost use Rattle.commit_answer.specs.Answer.{board};
+ghost use Rattle.commit_start.specs.Start.{startLeft, resetLeft};
+ghost use Rattle.commit_rounds.specs.Gap.{gapLeft};
+ghost use Rattle.commit_rounds.specs.Round.{roundLeft};
+ghost use Rattle.commit_rounds.specs.Drop.{dropLeft};
+ghost use Rattle.capi.specs.Reply.{Replies, beginningIn, usedIn};
 use crate::reply::Reply;
 use crate::reply::reply_of;
 use commit_rounds::drop_upto;
@@ -68,9 +66,9 @@ pub extern "C" fn committer_start(
     order: &mut [u64],
     with: Start,
 ) -> Reply
-    ensures answer { λ r. ⌜ Replies r (board s (now (keys .entry)) (now (links .entry)) (now (certs .entry)) (now (order .entry))) (board (r .state) (now (keys .exit)) (now (links .exit)) (now (certs .exit)) (now (order .exit))) (calls.start (beginningOf (beginningIn with))) ⌝ }
-    ensures outcome { λ r. ⌜ r ≡ replyOf (startOutcome s (now (keys .entry)) (now (links .entry)) (now (certs .entry)) (now (order .entry)) (beginningIn with)) ⌝ }
-    ensures words { λ r. ⌜ board (r .state) (now (keys .exit)) (now (links .exit)) (now (certs .exit)) (now (order .exit)) ≡ after (startCode (view s (now (keys .entry)) (now (links .entry)) (now (certs .entry)) (now (order .entry))) (beginningIn with)) (board s (now (keys .entry)) (now (links .entry)) (now (certs .entry)) (now (order .entry))) (begunBoard s (now (keys .entry)) (now (links .entry)) (now (certs .entry)) (now (order .entry)) (beginningIn with)) ⌝ }
+    ensures { λ r. ⌜ Replies (calls.start (beginningOf (beginningIn with))) (startLeft (beginningIn with))
+        (board s (now (keys .entry)) (now (links .entry)) (now (certs .entry)) (now (order .entry))) r
+        (board (r .state) (now (keys .exit)) (now (links .exit)) (now (certs .exit)) (now (order .exit))) [] ⌝ }
 {
     let beginning = beginning_in(with);
     let o = init(s, keys, links, certs, order, beginning);
@@ -85,9 +83,9 @@ pub extern "C" fn committer_reset(
     certs: &mut [u64],
     order: &mut [u64],
 ) -> Reply
-    ensures answer { λ r. ⌜ Replies r (board s (now (keys .entry)) (now (links .entry)) (now (certs .entry)) (now (order .entry))) (board (r .state) (now (keys .exit)) (now (links .exit)) (now (certs .exit)) (now (order .exit))) calls.resetAll ⌝ }
-    ensures outcome { λ r. ⌜ r ≡ replyOf (answered (resetCode s (now (keys .entry)) (now (links .entry)) (now (certs .entry)) (now (order .entry))) s (doneWith (clearedState s))) ⌝ }
-    ensures words { λ r. ⌜ board (r .state) (now (keys .exit)) (now (links .exit)) (now (certs .exit)) (now (order .exit)) ≡ after (resetCode s (now (keys .entry)) (now (links .entry)) (now (certs .entry)) (now (order .entry))) (board s (now (keys .entry)) (now (links .entry)) (now (certs .entry)) (now (order .entry))) (clearedBoard s (now (keys .entry)) (now (links .entry)) (now (certs .entry)) (now (order .entry))) ⌝ }
+    ensures { λ r. ⌜ Replies calls.resetAll resetLeft
+        (board s (now (keys .entry)) (now (links .entry)) (now (certs .entry)) (now (order .entry))) r
+        (board (r .state) (now (keys .exit)) (now (links .exit)) (now (certs .exit)) (now (order .exit))) [] ⌝ }
 {
     let o = reset(s, keys, links, certs, order);
     reply_of(o)
@@ -103,8 +101,9 @@ pub extern "C" fn committer_round(
     round: u32,
     peers: u32,
 ) -> Reply
-    ensures answer { λ r. ⌜ Replies r (board s (now (keys .entry)) (now (links .entry)) (now (certs .entry)) (now (order .entry))) (board (r .state) (now (keys .entry)) (now (links .entry)) (now (certs .entry)) (now (order .entry))) (calls.round round peers) ⌝ }
-    ensures outcome { λ r. ⌜ r ≡ replyOf (roundOutcome s (now (keys .entry)) (now (links .entry)) (now (certs .entry)) (now (order .entry)) round peers) ⌝ }
+    ensures { λ r. ⌜ Replies (calls.round round peers) (roundLeft round peers)
+        (board s (now (keys .entry)) (now (links .entry)) (now (certs .entry)) (now (order .entry))) r
+        (board (r .state) (now (keys .entry)) (now (links .entry)) (now (certs .entry)) (now (order .entry))) [] ⌝ }
 {
     let o = extend_from_ahead(s, keys, links, certs, order, Round(round), peers);
     reply_of(o)
@@ -118,8 +117,9 @@ pub extern "C" fn committer_gap(
     certs: &[u64],
     order: &[u64],
 ) -> Reply
-    ensures answer { λ r. ⌜ Replies r (board s (now (keys .entry)) (now (links .entry)) (now (certs .entry)) (now (order .entry))) (board (r .state) (now (keys .entry)) (now (links .entry)) (now (certs .entry)) (now (order .entry))) calls.ask ⌝ }
-    ensures outcome { λ r. ⌜ r ≡ replyOf (gapOutcome (counts (view s (now (keys .entry)) (now (links .entry)) (now (certs .entry)) (now (order .entry)))) s) ⌝ }
+    ensures { λ r. ⌜ Replies calls.ask gapLeft
+        (board s (now (keys .entry)) (now (links .entry)) (now (certs .entry)) (now (order .entry))) r
+        (board (r .state) (now (keys .entry)) (now (links .entry)) (now (certs .entry)) (now (order .entry))) [] ⌝ }
 {
     let o = is_once_after_gap(s, keys, links, certs, order);
     reply_of(o)
@@ -134,9 +134,9 @@ pub extern "C" fn committer_drop(
     order: &mut [u64],
     round: u32,
 ) -> Reply
-    ensures answer { λ r. ⌜ Replies r (board s (now (keys .entry)) (now (links .entry)) (now (certs .entry)) (now (order .entry))) (board (r .state) (now (keys .exit)) (now (links .exit)) (now (certs .exit)) (now (order .exit))) (calls.drop round) ⌝ }
-    ensures outcome { λ r. ⌜ r ≡ replyOf (answered (dropTested s (now (keys .entry)) (now (links .entry)) (now (certs .entry)) (now (order .entry)) round) s (record { answer = wholly s (now (keys .entry)) (now (links .entry)) (now (certs .entry)) (now (order .entry)) round; state = droppedBoard s (now (keys .entry)) (now (links .entry)) (now (certs .entry)) (now (order .entry)) round .state })) ⌝ }
-    ensures words { λ r. ⌜ board (r .state) (now (keys .exit)) (now (links .exit)) (now (certs .exit)) (now (order .exit)) ≡ after (dropTested s (now (keys .entry)) (now (links .entry)) (now (certs .entry)) (now (order .entry)) round) (board s (now (keys .entry)) (now (links .entry)) (now (certs .entry)) (now (order .entry))) (droppedBoard s (now (keys .entry)) (now (links .entry)) (now (certs .entry)) (now (order .entry)) round) ⌝ }
+    ensures { λ r. ⌜ Replies (calls.drop round) (dropLeft round)
+        (board s (now (keys .entry)) (now (links .entry)) (now (certs .entry)) (now (order .entry))) r
+        (board (r .state) (now (keys .exit)) (now (links .exit)) (now (certs .exit)) (now (order .exit))) [] ⌝ }
 {
     let o = drop_upto(s, keys, links, certs, order, Round(round));
     reply_of(o)

@@ -5,7 +5,7 @@ use mathlib.Core.List.{List}
 use mathlib.Core.Bool.{Bool, true, false, not, cond}
 use mathlib.Core.Option.{Option, none, some}
 use native.Mathlib.Omega.{arith}
-use borrow.Author.Tests.{eq-eqb, ne-eqb, not-true, not-false}
+use borrow.Author.Tests.{eqb-true, eq-eqb, ne-eqb, not-true, not-false}
 use Rattle.laws.specs.Test.{byTest}
 use Rattle.spec.specs.Ids.{Id}
 use Rattle.spec.specs.Store.{Store}
@@ -18,7 +18,6 @@ use Rattle.spec.specs.Started.{Wf, counts-elim}
 use Rattle.spec.specs.Kept.{anchors-rising}
 use Rattle.spec.specs.Calls as calls
 use Rattle.spec.specs.Calls.{call, act, isStart, lent, doCommit, commitEnd}
-use Rattle.spec.specs.Demand.{finished}
 use Rattle.models.specs.Digest.{Fit}
 use Rattle.dag_state.specs.declared.state.State.{State}
 use Rattle.dag_test.specs.View.{view}
@@ -35,7 +34,8 @@ use Rattle.commit_answer.specs.declared.answer.Answer.{Answer}
 use Rattle.commit_answer.specs.declared.answer.Answer.the-variants.{Handed, Refused}
 use Rattle.commit_answer.specs.declared.answer.Outcome.{Outcome}
 use Rattle.models.specs.Refusal.{refusalOf}
-use Rattle.commit_answer.specs.Answer.{answerOf, Board, board, board-same, leavesIn, byTables, call-by}
+use Rattle.commit_answer.specs.Answer as answers
+use Rattle.commit_answer.specs.Answer.{answerOf, Board, board, left, isIdle, Did, byTables, call-by}
 
 -- ---- mirrors
 
@@ -72,11 +72,11 @@ afterWalk ks ls os s cs b (good es) = allOf ks ls os s cs b 0 0 es
 unfoldable pub committed : State → List ℕ → List ℕ → List ℕ → List ℕ → Id → List ℕ → Left
 committed s ks ls cs os i b = afterWalk ks ls os s cs b (walked (view s ks ls cs os) i)
 
--- ---- answers
+-- the same as the record of a call has it
+abbrev pub commitLeft : Id → List ℕ → Board → answers.Left
+commitLeft i b d = let x = committed (d .state) (d .keys) (d .links) (d .certs) (d .order) i b in left (outcomeOf x) (d .keys) (d .links) (x .certs) (d .order) (x .buffer)
 
--- a call that finished no anchor leaves the board and the buffer as they were
-abbrev pub KeptIn : Answer → Board → List ℕ → Board → List ℕ → Type 0
-KeptIn a d b d′ b′ = finished (answerOf a) ≡ 0 → (d′ ≡ d) × (b′ ≡ b)
+-- ---- answers
 
 -- the code's refusal is 01's again
 why-is : (r : chain.Refusal) → refusalOf (whyFrom r) ≡ r
@@ -84,11 +84,11 @@ unfolding refusalOf whyFrom
 why-is (number n) = refl
 why-is (conflict r) = refl
 
--- the number of anchors, whatever stopped them
-anchors-is : (o : Option chain.Refusal) (n : ℕ) → finished (answerOf (answerFrom o n)) ≡ n
-unfolding finished answerOf answerFrom
-anchors-is none n = refl
-anchors-is (some r) n = refl
+-- nothing was done: no anchor is finished, whatever stopped them
+idle-none : (o : Option chain.Refusal) (n : ℕ) → isIdle (answerFrom o n) ≡ true → n ≡ 0
+unfolding isIdle answerFrom
+idle-none none n e = eqb-true n 0 e
+idle-none (some r) n e = eqb-true n 0 e
 
 -- what a finished chain leaves is what 01's commit ends with
 end-is : (o : Option chain.Refusal) (f : Finished) → f .stopped ≡ o → record { answer = answerOf (answerFrom o (f .anchors)); store = f .store; buffer = f .buffer } ≡ commitEnd f
@@ -185,34 +185,23 @@ module _ (s : State) (ks ls cs os : List ℕ) (i : Id) (b : List ℕ) where
 
   -- what the contract says of an outcome, the certificate words and the buffer
   abbrev Says : Outcome → List ℕ → List ℕ → Type 0
-  Says o cs′ b′ =
-      (leavesIn (o .answer) (board (o .state) ks ls cs′ os) b′ ≡ call v (calls.commit i b))
-      × ((o ≡ outcomeOf (committed s ks ls cs os i b)) × ((cs′ ≡ committed s ks ls cs os i b .certs) × ((b′ ≡ committed s ks ls cs os i b .buffer)
-      × KeptIn (o .answer) (board s ks ls cs os) b (board (o .state) ks ls cs′ os) b′)))
+  Says o cs′ b′ = Did (calls.commit i b) (commitLeft i b) (board s ks ls cs os) (left o ks ls cs′ os b′)
 
   -- from what is left
-  says : (x : Left) → x ≡ committed s ks ls cs os i b → leavesIn (answerFrom (x .stopped) (x .finished)) (board (x .state) ks ls (x .certs) os) (x .buffer) ≡ call v (calls.commit i b)
+  says : (x : Left) → x ≡ committed s ks ls cs os i b → answers.outcomeOf (left (outcomeOf x) ks ls (x .certs) os (x .buffer)) ≡ call v (calls.commit i b)
       → (x .finished ≡ 0 → (x .state ≡ s) × (x .certs ≡ cs) × (x .buffer ≡ b)) → (o : Outcome) → o ≡ outcomeOf x → Says o (x .certs) (x .buffer)
-  unfolding outcomeOf
-  says x is h k o f = (
-    ap (λ (y : Outcome). leavesIn (y .answer) (board (y .state) ks ls (x .certs) os) (x .buffer)) f ∙ h,
-    (
-      f ∙ ap outcomeOf is,
-      (
-        ap (λ (y : Left). y .certs) is,
-        (
-          ap (λ (y : Left). y .buffer) is,
-          λ z.
-              let (a, c, d) = k (sym (anchors-is (x .stopped) (x .finished)) ∙ (ap (λ (y : Outcome). finished (answerOf (y .answer))) (sym f) ∙ z)) in
-              (board-same (ap (λ (y : Outcome). y .state) f ∙ a) refl refl c refl, d),
-        ),
-      ),
-    ),
-  )
+  unfolding outcomeOf lent
+  says x is h k o f = record {
+    answer = ap (λ (y : Outcome). answers.outcomeOf (left y ks ls (x .certs) os (x .buffer))) f ∙ h;
+    words = ap (λ (y : Outcome). left y ks ls (x .certs) os (x .buffer)) f ∙ ap (λ (y : Left). left (outcomeOf y) ks ls (y .certs) os (y .buffer)) is;
+    kept = λ z.
+        let (a, c, d) = k (idle-none (x .stopped) (x .finished) (ap (λ (y : Outcome). isIdle (y .answer)) (sym f) ∙ z)) in
+        ((λ j. board ((ap (λ (y : Outcome). y .state) f ∙ a) j) ks ls (c j) os), d);
+  }
 
   -- refused before the first anchor
   pub says-refused : (r : chain.Refusal) → walked v i ≡ bad r → (o : Outcome) → o ≡ record { answer = Refused (whyFrom r) 0; state = s } → Says o cs b
-  unfolding committed afterWalk leavesIn answerOf answerFrom outcomeOf
+  unfolding committed afterWalk answers.outcomeOf answerOf answerFrom outcomeOf
   says-refused r e o f =
       says (record { state = s; certs = cs; buffer = b; finished = 0; stopped = some r }) (sym (ap (afterWalk ks ls os s cs b) e))
       (ap (λ (y : chain.Refusal). record { answer = calls.refused y 0; store = v; buffer = b }) (why-is r) ∙ sym (call-is ∙ ap leaveBy e))
@@ -220,7 +209,7 @@ module _ (s : State) (ks ls cs os : List ℕ) (i : Id) (b : List ℕ) where
 
   -- the anchors of the chain were gone through
   pub says-ended : (es : List Enqueued) → walked v i ≡ good es → (o : Outcome) (cs′ b′ : List ℕ) → Ended ks ls os s cs b es o cs′ b′ → Says o cs′ b′
-  unfolding committed afterWalk leavesIn finishedOf
+  unfolding committed afterWalk answers.outcomeOf outcomeOf finishedOf
   says-ended es e o cs′ b′ (f, c, d, g) =
       let x = allOf ks ls os s cs b 0 0 es in
       let h = says x (sym (ap (afterWalk ks ls os s cs b) e)) (end-is (x .stopped) (finishedOf ks ls os x) refl ∙ (ap commitEnd g ∙ sym (call-is ∙ ap leaveBy e))) (all-kept ks ls os s cs b 0 0 es) o f in

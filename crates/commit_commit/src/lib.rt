@@ -8,8 +8,8 @@ ghost use Rattle.spec.specs.Walk.{Rising};
 ghost use Rattle.models.specs.Parts.{idOf};
 ghost use Rattle.dag_test.specs.View.{view};
 ghost use Rattle.back_chain.specs.Chain.{chainOf};
-ghost use Rattle.commit_answer.specs.Answer.{board, leavesIn};
-ghost use Rattle.commit_commit.specs.Commit.{whyOf, endedOf, Ended, committed, outcomeOf, KeptIn};
+ghost use Rattle.commit_answer.specs.Answer.{Did, board, left};
+ghost use Rattle.commit_commit.specs.Commit.{whyOf, endedOf, Ended, commitLeft};
 use back_chain::Chain;
 use back_chain::chain_of;
 use commit_anchor::all::commit_all;
@@ -20,6 +20,7 @@ use dag_state::state::State;
 use dag_test::counts_as_started;
 use models::parts::PointId;
 use models::parts::Round;
+use models::refusal::NOT_STARTED;
 use models::refusal::Refusal;
 
 // A refusal with this number; 13, the history conflict, holds its round.
@@ -81,14 +82,12 @@ pub fn commit(
     id: PointId,
     b: &mut [u8],
 ) -> Outcome
-    ensures answer { λ r. ⌜ leavesIn (r .answer) (board (r .state) (now (keys .entry)) (now (links .entry)) (now (certs .exit)) (now (order .entry))) (now (b .exit)) ≡ calls.call (view s (now (keys .entry)) (now (links .entry)) (now (certs .entry)) (now (order .entry))) (calls.commit (idOf id) (now (b .entry))) ⌝ }
-    ensures outcome { λ r. ⌜ r ≡ outcomeOf (committed s (now (keys .entry)) (now (links .entry)) (now (certs .entry)) (now (order .entry)) (idOf id) (now (b .entry))) ⌝ }
-    ensures words { λ r. ⌜ now (certs .exit) ≡ committed s (now (keys .entry)) (now (links .entry)) (now (certs .entry)) (now (order .entry)) (idOf id) (now (b .entry)) .certs ⌝ }
-    ensures bytes { λ r. ⌜ now (b .exit) ≡ committed s (now (keys .entry)) (now (links .entry)) (now (certs .entry)) (now (order .entry)) (idOf id) (now (b .entry)) .buffer ⌝ }
-    ensures kept { λ r. ⌜ KeptIn (r .answer) (board s (now (keys .entry)) (now (links .entry)) (now (certs .entry)) (now (order .entry))) (now (b .entry)) (board (r .state) (now (keys .entry)) (now (links .entry)) (now (certs .exit)) (now (order .entry))) (now (b .exit)) ⌝ }
+    ensures { λ r. ⌜ Did (calls.commit (idOf id) (now (b .entry))) (commitLeft (idOf id) (now (b .entry)))
+        (board s (now (keys .entry)) (now (links .entry)) (now (certs .entry)) (now (order .entry)))
+        (left r (now (keys .entry)) (now (links .entry)) (now (certs .exit)) (now (order .entry)) (now (b .exit))) ⌝ }
 {
     if !counts_as_started(s, keys, links, certs, order) {
-        return refused(s, 2);
+        return refused(s, Refusal::Number(NOT_STARTED));
     }
     let c = chain_of(s, keys, links, certs, order, id);
     let round = c.round;

@@ -1,25 +1,26 @@
 -- Calls made with what was read of the fields.
 use Prim.Native.Nat.{ℕ, _+_, _*_, _≤_}
-use mathlib.Core.Path.{_≡_, sym, ap, ap₂, _∙_}
+use mathlib.Core.Path.{_≡_, sym, ap, subst, _∙_}
 use mathlib.Core.List.{List}
 use native.Mathlib.Omega.{arith}
 use lib.ListN.{length, take}
 use lib.Seq.{length-take-le}
 use Rattle.laws.specs.Bytes.{written, written-length}
-use Rattle.spec.specs.Store.{Store}
 use Rattle.spec.specs.Calls as calls
 use Rattle.models.specs.declared.info.PointInfo.{PointInfo}
 use Rattle.models.specs.Info.{infoOf}
+use Rattle.commit_answer.specs.Answer.{Board, Left, Did}
 use Rattle.trace.specs.Head.{linksIn}
 use Rattle.trace.specs.Fields.{toldIn}
 use Rattle.trace.specs.Links.{linksWords, told-is}
 
 -- a call is made with what equals what was read
-pub made : {A : Type 0} (c : A → calls.Call) (o : calls.Outcome) (v : Store) (x y : A) → o ≡ calls.call v (c x) → x ≡ y → o ≡ calls.call v (c y)
-made c o v x y h e = h ∙ ap (λ z. calls.call v (c z)) e
+module _ (m : Board → Left) (d : Board) (o : Left) where
+  pub made : {A : Type 0} (c : A → calls.Call) (x y : A) → Did (c x) m d o → x ≡ y → Did (c y) m d o
+  made c x y h e = subst (λ z. Did (c z) m d o) e h
 
-pub made-two : {A B : Type 0} (c : A → B → calls.Call) (o : calls.Outcome) (v : Store) (x y : A) (p q : B) → o ≡ calls.call v (c x p) → x ≡ y → p ≡ q → o ≡ calls.call v (c y q)
-made-two c o v x y p q h e g = h ∙ ap₂ (λ z w. calls.call v (c z w)) e g
+  pub made-two : {A B : Type 0} (c : A → B → calls.Call) (x y : A) (p q : B) → Did (c x p) m d o → x ≡ y → p ≡ q → Did (c y q) m d o
+  made-two c x y p q h e g = subst (λ z. Did (c y z) m d o) g (subst (λ z. Did (c z p) m d o) e h)
 
 -- the words of at most 121 links, in 605 words
 module _ (f b r : List ℕ) (i : PointInfo) (e : r ≡ written b 0 (linksWords f (linksIn f))) (l : length b ≡ 605) (n : i .includes + i .witness ≡ linksIn f) (m : linksIn f ≤ 121) where

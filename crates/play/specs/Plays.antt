@@ -1,6 +1,6 @@
 -- What a record that is played answers and leaves.
 use Prim.Native.Nat.{ℕ}
-use mathlib.Core.Path.{_≡_, refl, sym, ap, _∙_}
+use mathlib.Core.Path.{_≡_, refl, sym, subst}
 use mathlib.Core.List.{List}
 use mathlib.Core.Bool.{Bool, true, false, cond}
 use Rattle.laws.specs.Test.{clash, cond-yes, cond-no}
@@ -10,11 +10,12 @@ use Rattle.spec.specs.Demand.{finished}
 use Rattle.models.specs.declared.parts.Round.{Round}
 use Rattle.dag_state.specs.declared.state.State.{State}
 use Rattle.models.specs.Refusal.{refusalOf}
-use Rattle.commit_answer.specs.Answer.{Board, board, seen, leaves, leavesIn, answerOf}
+use Rattle.commit_answer.specs.Answer.{Board, board, Left, left, answerOf, Did}
 use Rattle.models.specs.declared.refusal.Refusal.{Refusal}
 use Rattle.models.specs.declared.refusal.Refusal.the-variants as why
 use Rattle.commit_answer.specs.declared.answer.Answer.{Answer}
 use Rattle.commit_answer.specs.declared.answer.Answer.the-variants as answer
+use Rattle.commit_answer.specs.declared.answer.Outcome.{Outcome}
 use Rattle.trace.specs.Head.{part}
 use Rattle.trace.specs.Fields.{callBy}
 use Rattle.trace.specs.declared.head.Kind.{Kind}
@@ -55,17 +56,20 @@ noOf k = elim k [ kind.Start ↦ line.Ok | kind.Round ↦ line.Ok | kind.Name �
 abbrev pub idle : Kind → Line
 idle k = elim k [ kind.Start ↦ line.Unsupported | kind.Round ↦ line.Unsupported | kind.Name ↦ line.Unsupported | kind.Resolve ↦ line.Unsupported | kind.Certify ↦ line.Unsupported | kind.Commit ↦ line.Unsupported | kind.Remove ↦ line.Unsupported | kind.Drop ↦ line.Unsupported | kind.Gap ↦ line.Unsupported | kind.Reset ↦ line.Unsupported | kind.Outlook ↦ line.Unsupported | kind.Broken ↦ line.Broken ]
 
--- 01's outcome of the call of a kind and its fields, with the buffer w
-abbrev pub outcomeOf : Kind → Board → List ℕ → List ℕ → calls.Outcome
-outcomeOf k b w f = calls.call (seen b) (callBy k f w)
+-- A call that was made: w is the buffer that is there, c and v are the board and the buffer after it. The call did what its contract says;
+-- line and anchors are those of its answer; the buffer stays unless the call takes it.
+pub record Made (k : Kind) (b : Board) (w f : List ℕ) (t : Step) (c : Board) (v : List ℕ) : Type 0 where
+  pub left : Left
+  pub model : Board → Left
+  pub did : Did (callBy k f w) model b left
+  pub tables : c ≡ left .tables
+  pub line : t .line ≡ lineSaid (yesOf k) (noOf k) (answerOf (left .answer))
+  pub anchors : t .anchors ≡ finished (answerOf (left .answer))
+  pub buffer : v ≡ cond (isLent k) (left .buffer) w
 
--- a call that is made leaves the store of 01's outcome, and its buffer if it takes one; line and anchors are those of its answer. Else
--- board and buffer stay
+-- a record whose call is made, or all stays
 unfoldable pub Plays : Kind → Board → List ℕ → List ℕ → Step → Board → List ℕ → Type 0
-Plays k b w f t c v =
-    let o = outcomeOf k b w f in
-    (isMade k ≡ true → (seen c ≡ o .store) × (t .line ≡ lineSaid (yesOf k) (noOf k) (o .answer)) × (t .anchors ≡ finished (o .answer)) × (v ≡ cond (isLent k) (o .buffer) w))
-    × (isMade k ≡ false → (c ≡ b) × (t .line ≡ idle k) × (t .anchors ≡ 0) × (v ≡ w))
+Plays k b w f t c v = (isMade k ≡ true → Made k b w f t c v) × (isMade k ≡ false → (c ≡ b) × (t .line ≡ idle k) × (t .anchors ≡ 0) × (v ≡ w))
 
 -- a call that takes no buffer, whatever buffer there is
 abbrev pub PlaysPlain : Kind → Board → List ℕ → Step → Board → Type 0
@@ -130,31 +134,24 @@ step-is l m n k s e h = rw (e, h) refl
 abbrev pub stepOf : Kind → Answer → State → Step
 stepOf j a s = record { line = lineSaid (yesOf j) (noOf j) (answerOf a); anchors = finished (answerOf a); state = s }
 
--- a call that is made
-module _ (j : Kind) (b c : Board) (f : List ℕ) (a : Answer) (t : Step) (m : isMade j ≡ true) (g : t ≡ stepOf j a (c .state)) where
-  abbrev left : Board
-  left = board (t .state) (c .keys) (c .links) (c .certs) (c .order)
-
-  said-is : (w v : List ℕ) → answerOf a ≡ outcomeOf j b w f .answer → seen c ≡ outcomeOf j b w f .store → v ≡ cond (isLent j) (outcomeOf j b w f .buffer) w → Plays j b w f t left v
+-- a call that is made, with the outcome o
+module _ (j : Kind) (m : Board → Left) (b : Board) (f : List ℕ) (o : Outcome) (ks ls cs os : List ℕ) (t : Step) (y : isMade j ≡ true) (g : t ≡ stepOf j (o .answer) (o .state)) (w v : List ℕ) where
+  plays : (u : List ℕ) → Did (callBy j f w) m b (left o ks ls cs os v) → u ≡ cond (isLent j) v w → Plays j b w f t (board (t .state) ks ls cs os) u
   unfolding Plays
-  said-is w v h s u =
-      rw g
-      (λ _. (s, ap (lineSaid (yesOf j) (noOf j)) h, ap finished h, u), λ n. absurd (clash m n))
+  plays u h e = rw g (λ _. record { left = left o ks ls cs os v; model = m; did = h; tables = refl; line = refl; anchors = refl; buffer = e }, λ n. absurd (clash y n))
 
   -- without a buffer
-  pub plays-plain : (w : List ℕ) → isLent j ≡ false → leaves a c ≡ outcomeOf j b w f → Plays j b w f t left w
-  unfolding leaves
-  plays-plain w l h = said-is w w (ap (λ (o : calls.Outcome). o .answer) h) (ap (λ (o : calls.Outcome). o .store) h) (sym (cond-no _ _ _ l refl))
+  pub plays-plain : isLent j ≡ false → Did (callBy j f w) m b (left o ks ls cs os v) → Plays j b w f t (board (t .state) ks ls cs os) w
+  plays-plain l h = plays w h (sym (cond-no _ _ _ l refl))
 
   -- with one
-  pub plays-lent : (w v : List ℕ) → isLent j ≡ true → leavesIn a c v ≡ outcomeOf j b w f → Plays j b w f t left v
-  unfolding leavesIn
-  plays-lent w v l h = said-is w v (ap (λ (o : calls.Outcome). o .answer) h) (ap (λ (o : calls.Outcome). o .store) h) (ap (λ (o : calls.Outcome). o .buffer) h ∙ sym (cond-yes _ _ _ l refl))
+  pub plays-lent : isLent j ≡ true → Did (callBy j f w) m b (left o ks ls cs os v) → Plays j b w f t (board (t .state) ks ls cs os) v
+  plays-lent l h = plays v h (sym (cond-yes _ _ _ l refl))
 
 -- a record of that kind, its fields also others that make the same call
 pub plays-at : (k j : Kind) (b c : Board) (w v f g : List ℕ) (t : Step) → k ≡ j → callBy j g w ≡ callBy j f w → Plays j b w g t c v → Plays k b w f t c v
 unfolding Plays
-plays-at k j b c w v f g t e h p = rw (e, sym h) p
+plays-at k j b c w v f g t e h p = rw e (λ y. let m = p .0 y in record { left = m .left; model = m .model; did = subst (λ x. Did x (m .model) b (m .left)) h (m .did); tables = m .tables; line = m .line; anchors = m .anchors; buffer = m .buffer }, p .1)
 
 -- one that isn't
 pub plays-unmade : (k j : Kind) (b : Board) (w f : List ℕ) (t : Step) → k ≡ j → isMade j ≡ false → t ≡ record { line = idle j; anchors = 0; state = b .state }

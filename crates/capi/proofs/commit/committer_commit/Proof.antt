@@ -1,6 +1,4 @@
-use mathlib.Core.Path.{ap, _∙_}
-use Rattle.capi.specs.Reply.{replyOf}
-use Rattle.capi.specs.Commit.{replies-in}
+use Rattle.capi.specs.Reply.{replies}
 use borrow.Author.Needs.{needs}
 use Rattle.capi.proofs.commit.committer_commit.Statement.{statement}
 use Rattle.capi.proofs.commit.committer_commit.Tie as tie
@@ -18,7 +16,7 @@ same-length-2 : tie.Need-same-length-2
 same-length-2 c = search needs
 
 returns : tie.Need-returns
-returns c = let e = c .before .before .before .before .before .commit .ensures in (replies-in _ _ _ _ _ _ _ _ _ _ (c .reply-of .ensures) (e .0) (e .1 .1 .1 .1), (c .reply-of .ensures ∙ ap replyOf (e .1 .0), (e .1 .1 .0, e .1 .1 .1 .0)))
+returns c = replies _ _ _ _ _ _ _ _ _ _ (c .reply-of .ensures) (c .before .before .before .before .before .commit .ensures)
 
 pub committer-commit-spec : {M : Type 1} → statement M
 committer-commit-spec =

@@ -1,4 +1,4 @@
-use Rattle.capi.specs.Made.{says}
+use Rattle.capi.specs.Reply.{replies}
 use borrow.Author.Needs.{needs}
 use Rattle.capi.proofs.points.committer_certify.Statement.{statement}
 use Rattle.capi.proofs.points.committer_certify.Tie as tie
@@ -13,7 +13,7 @@ same-length : tie.Need-same-length
 same-length c = search needs
 
 returns : tie.Need-returns
-returns c = says _ _ _ _ _ _ _ _ _ _ _ _ _ _ (c .reply-of .ensures) (c .before .before .before .certify .ensures)
+returns c = replies _ _ _ _ _ _ _ _ _ _ (c .reply-of .ensures) (c .before .before .before .certify .ensures)
 
 pub committer-certify-spec : {M : Type 1} → statement M
 committer-certify-spec =

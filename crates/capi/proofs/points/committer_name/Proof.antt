@@ -1,4 +1,4 @@
-use Rattle.capi.specs.Made.{says}
+use Rattle.capi.specs.Reply.{replies}
 use borrow.Author.Needs.{needs}
 use Rattle.capi.proofs.points.committer_name.Statement.{statement}
 use Rattle.capi.proofs.points.committer_name.Tie as tie
@@ -19,7 +19,7 @@ same-length-3 : tie.Need-same-length-3
 same-length-3 c = search needs
 
 returns : tie.Need-returns
-returns c = says _ _ _ _ _ _ _ _ _ _ _ _ _ _ (c .reply-of .ensures) (c .before .before .before .before .before .before .before .add-dependency .ensures)
+returns c = replies _ _ _ _ _ _ _ _ _ _ (c .reply-of .ensures) (c .before .before .before .before .before .before .before .add-dependency .ensures)
 
 pub committer-name-spec : {M : Type 1} → statement M
 committer-name-spec =

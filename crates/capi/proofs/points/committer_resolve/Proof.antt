@@ -1,4 +1,9 @@
-use Rattle.capi.specs.Made.{says-resolve}
+use Rattle.spec.specs.Calls as calls
+use Rattle.models.specs.Info.{infoOf}
+use Rattle.models.specs.Parts.{idOf}
+use Rattle.models.specs.declared.info.PointInfo.{PointInfo}
+use Rattle.commit_points.specs.Resolve.{resolveLeft}
+use Rattle.capi.specs.Reply.{replies-with}
 use borrow.Author.Needs.{needs}
 use Rattle.capi.proofs.points.committer_resolve.Statement.{statement}
 use Rattle.capi.proofs.points.committer_resolve.Tie as tie
@@ -22,7 +27,9 @@ same-length-3 : tie.Need-same-length-3
 same-length-3 c = search needs
 
 returns : tie.Need-returns
-returns c = says-resolve _ _ _ _ _ _ _ _ _ _ _ _ _ _ _ (c .before .before .before .before .before .before .before .before .before .before .before .info-in .ensures) (c .reply-of .ensures) (c .before .before .before .before .before .before .before .resolve .ensures)
+returns c =
+    let a = c .before .before .before .before .before .before .before .before .before .before .before .before .before .before .before .before .before .args in
+    replies-with (λ (u : PointInfo). calls.resolve (idOf (a .id)) (infoOf u (a .refs .now))) (λ (u : PointInfo). resolveLeft (a .id) u (a .refs .now)) _ _ (c .before .before .before .before .before .before .before .before .before .before .before .info-in .ensures) _ _ _ _ _ _ _ _ (c .reply-of .ensures) (c .before .before .before .before .before .before .before .resolve .ensures)
 
 pub committer-resolve-spec : {M : Type 1} → statement M
 committer-resolve-spec =

@@ -1,4 +1,4 @@
-use Rattle.capi.specs.Made.{says}
+use Rattle.capi.specs.Reply.{replies}
 use borrow.Author.Needs.{needs}
 use Rattle.capi.proofs.rounds.committer_reset.Statement.{statement}
 use Rattle.capi.proofs.rounds.committer_reset.Tie as tie
@@ -22,7 +22,7 @@ same-length-4 : tie.Need-same-length-4
 same-length-4 c = search needs
 
 returns : tie.Need-returns
-returns c = says _ _ _ _ _ _ _ _ _ _ _ _ _ _ (c .reply-of .ensures) (c .before .before .before .before .before .before .before .before .before .reset .ensures)
+returns c = replies _ _ _ _ _ _ _ _ _ _ (c .reply-of .ensures) (c .before .before .before .before .before .before .before .before .before .reset .ensures)
 
 pub committer-reset-spec : {M : Type 1} → statement M
 committer-reset-spec =

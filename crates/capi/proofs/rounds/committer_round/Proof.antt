@@ -1,4 +1,3 @@
-use mathlib.Core.Path.{refl}
 use Rattle.capi.specs.Reply.{replies}
 use borrow.Author.Needs.{needs}
 use Rattle.capi.proofs.rounds.committer_round.Statement.{statement}
@@ -11,7 +10,7 @@ reply-of-requires : tie.Need-reply-of-requires
 reply-of-requires c κs = search needs
 
 returns : tie.Need-returns
-returns c = let e = c .before .extend-from-ahead .ensures in let t = replies _ _ _ _ _ _ _ _ _ _ (c .reply-of .ensures) (e .0) (e .1 .0) refl (e .1 .1) in (t .0, t .1 .0)
+returns c = replies _ _ _ _ _ _ _ _ _ _ (c .reply-of .ensures) (c .before .extend-from-ahead .ensures)
 
 pub committer-round-spec : {M : Type 1} → statement M
 committer-round-spec = tie.close (tie.spec extend-from-ahead-requires reply-of-requires returns)

@@ -1,4 +1,8 @@
-use Rattle.capi.specs.Made.{says-start}
+use Rattle.spec.specs.Calls as calls
+use Rattle.dag_state.specs.declared.back.Beginning.{Beginning}
+use Rattle.dag_state.specs.Reads.{beginningOf}
+use Rattle.commit_start.specs.Start.{startLeft}
+use Rattle.capi.specs.Reply.{replies-with}
 use borrow.Author.Needs.{needs}
 use Rattle.capi.proofs.rounds.committer_start.Statement.{statement}
 use Rattle.capi.proofs.rounds.committer_start.Tie as tie
@@ -25,7 +29,7 @@ same-length-4 : tie.Need-same-length-4
 same-length-4 c = search needs
 
 returns : tie.Need-returns
-returns c = says-start _ _ _ _ _ _ _ _ _ _ _ _ _ (c .before .before .before .before .before .before .before .before .before .before .before .before .before .before .beginning-in .ensures) (c .reply-of .ensures) (c .before .before .before .before .before .before .before .before .before .init .ensures)
+returns c = replies-with (λ (u : Beginning). calls.start (beginningOf u)) startLeft _ _ (c .before .before .before .before .before .before .before .before .before .before .before .before .before .before .beginning-in .ensures) _ _ _ _ _ _ _ _ (c .reply-of .ensures) (c .before .before .before .before .before .before .before .before .before .init .ensures)
 
 pub committer-start-spec : {M : Type 1} → statement M
 committer-start-spec =

@@ -22,7 +22,7 @@ same-length c = search needs
 
 returns : tie.Need-returns
 unfolding callBy
-returns c w = plays-plain kind.Certify _ _ _ _ (c .step-of .result) refl (c .step-of .ensures) w refl (made calls.certify _ _ _ _ (c .before .before .before .certify .ensures .0) (c .before .before .before .before .before .id-of .ensures))
+returns c w = plays-plain kind.Certify _ _ _ _ _ _ _ _ (c .step-of .result) refl (c .step-of .ensures) w _ refl (made _ _ _ calls.certify _ _ (c .before .before .before .certify .ensures) (c .before .before .before .before .before .id-of .ensures))
 
 pub play-certify-spec : {M : Type 1} → statement M
 play-certify-spec =

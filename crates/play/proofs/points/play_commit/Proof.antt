@@ -25,7 +25,7 @@ same-length-2 c = search needs
 
 returns : tie.Need-returns
 unfolding callBy
-returns c = plays-lent kind.Commit _ _ _ _ (c .step-of .result) refl (c .step-of .ensures) _ _ refl (made-two calls.commit _ _ _ _ _ _ (c .before .before .before .before .before .commit .ensures .0) (c .before .before .before .before .before .before .before .before .id-of .ensures) refl)
+returns c = plays-lent kind.Commit _ _ _ _ _ _ _ _ (c .step-of .result) refl (c .step-of .ensures) _ _ refl (made-two _ _ _ calls.commit _ _ _ _ (c .before .before .before .before .before .commit .ensures) (c .before .before .before .before .before .before .before .before .id-of .ensures) refl)
 
 pub play-commit-spec : {M : Type 1} → statement M
 play-commit-spec =

@@ -28,7 +28,7 @@ same-length-3 c = search needs
 
 returns : tie.Need-returns
 unfolding callBy
-returns c w = plays-plain kind.Name _ _ _ _ (c .step-of .result) refl (c .step-of .ensures) w refl (made calls.name _ _ _ _ (c .before .before .before .before .before .before .before .add-dependency .ensures .0) (c .before .before .before .before .before .before .before .before .before .before .before .id-of .ensures))
+returns c w = plays-plain kind.Name _ _ _ _ _ _ _ _ (c .step-of .result) refl (c .step-of .ensures) w _ refl (made _ _ _ calls.name _ _ (c .before .before .before .before .before .before .before .add-dependency .ensures) (c .before .before .before .before .before .before .before .before .before .before .before .id-of .ensures))
 
 pub play-name-spec : {M : Type 1} → statement M
 play-name-spec =

@@ -31,7 +31,7 @@ same-length-4 c = search needs
 
 returns : tie.Need-returns
 unfolding callBy
-returns c w = plays-plain kind.Drop _ _ _ _ (c .step-of .result) refl (c .step-of .ensures) w refl (made calls.drop _ _ _ _ (c .before .before .before .before .before .before .before .before .before .drop-upto .ensures .0) (c .before .before .before .before .before .before .before .before .before .before .before .before .before .before .number-of .ensures))
+returns c w = plays-plain kind.Drop _ _ _ _ _ _ _ _ (c .step-of .result) refl (c .step-of .ensures) w _ refl (made _ _ _ calls.drop _ _ (c .before .before .before .before .before .before .before .before .before .drop-upto .ensures) (c .before .before .before .before .before .before .before .before .before .before .before .before .before .before .number-of .ensures))
 
 pub play-drop-spec : {M : Type 1} → statement M
 play-drop-spec =

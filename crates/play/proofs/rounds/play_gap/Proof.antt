@@ -14,7 +14,7 @@ step-of-requires c κs = search needs
 
 returns : tie.Need-returns
 unfolding callBy
-returns c w = plays-plain kind.Gap _ _ _ _ (c .step-of .result) refl (c .step-of .ensures) w refl (c .before .is-once-after-gap .ensures .0)
+returns c w = plays-plain kind.Gap _ _ _ _ _ _ _ _ (c .step-of .result) refl (c .step-of .ensures) w _ refl (c .before .is-once-after-gap .ensures)
 
 pub play-gap-spec : {M : Type 1} → statement M
 play-gap-spec = tie.close (tie.spec is-once-after-gap-requires step-of-requires returns)

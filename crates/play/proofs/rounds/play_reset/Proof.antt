@@ -26,7 +26,7 @@ same-length-4 c = search needs
 
 returns : tie.Need-returns
 unfolding callBy
-returns c w = plays-plain kind.Reset _ _ _ _ (c .step-of .result) refl (c .step-of .ensures) w refl (c .before .before .before .before .before .before .before .before .before .reset .ensures .0)
+returns c w = plays-plain kind.Reset _ _ _ _ _ _ _ _ (c .step-of .result) refl (c .step-of .ensures) w _ refl (c .before .before .before .before .before .before .before .before .before .reset .ensures)
 
 pub play-reset-spec : {M : Type 1} → statement M
 play-reset-spec =

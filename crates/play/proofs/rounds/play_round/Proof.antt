@@ -19,7 +19,7 @@ step-of-requires c κs = search needs
 
 returns : tie.Need-returns
 unfolding callBy
-returns c w = plays-plain kind.Round _ _ _ _ (c .step-of .result) refl (c .step-of .ensures) w refl (made-two calls.round _ _ _ _ _ _ (c .before .extend-from-ahead .ensures .0) (c .before .before .before .round-of .ensures .0) (c .before .before .before .round-of .ensures .1))
+returns c w = plays-plain kind.Round _ _ _ _ _ _ _ _ (c .step-of .result) refl (c .step-of .ensures) w _ refl (made-two _ _ _ calls.round _ _ _ _ (c .before .extend-from-ahead .ensures) (c .before .before .before .round-of .ensures .0) (c .before .before .before .round-of .ensures .1))
 
 pub play-round-spec : {M : Type 1} → statement M
 play-round-spec =

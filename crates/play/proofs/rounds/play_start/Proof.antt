@@ -31,7 +31,7 @@ same-length-4 c = search needs
 
 returns : tie.Need-returns
 unfolding callBy
-returns c w = plays-plain kind.Start _ _ _ _ (c .step-of .result) refl (c .step-of .ensures) w refl (made calls.start _ _ _ _ (c .before .before .before .before .before .before .before .before .before .init .ensures .0) (c .before .before .before .before .before .before .before .before .before .before .before .before .before .before .start-of .ensures))
+returns c w = plays-plain kind.Start _ _ _ _ _ _ _ _ (c .step-of .result) refl (c .step-of .ensures) w _ refl (made _ _ _ calls.start _ _ (c .before .before .before .before .before .before .before .before .before .init .ensures) (c .before .before .before .before .before .before .before .before .before .before .before .before .before .before .start-of .ensures))
 
 pub play-start-spec : {M : Type 1} → statement M
 play-start-spec =
