@@ -1,5 +1,5 @@
 -- Bytes that are written or only counted.
-use Prim.Native.Nat.{ℕ, zero, suc, _+_, _/_, _%_, _<_, _≤_}
+use Prim.Native.Nat.{ℕ, zero, suc, _+_, _/_, _%_, _≤_}
 use mathlib.Core.Path.{_≡_, refl, sym, ap, _∙_}
 use mathlib.Core.List.{List, [], _∷_, _++_}
 use mathlib.Core.Bool.{Bool, true, false, cond}
@@ -49,10 +49,6 @@ module _ (w : Bool) (b : List ℕ) (at : ℕ) where
   pub sent-length : (xs : List ℕ) (r : ℕ) (b′ : List ℕ) → Sent w b at xs r b′ → length b′ ≡ length b
   unfolding kept
   sent-length xs r b′ x = ap length (x .left) ∙ byTest w (λ t. rw t (written-length b at xs)) (λ f. rw f refl)
-
-  -- after a number of this width
-  pub next-by : (n v r : ℕ) (b′ : List ℕ) → Sent w b at (be n v) r b′ → r ≡ at + n
-  next-by n v r b′ s = s .next ∙ ap (λ k. at + k) (be-length n v)
 
   -- the room left after some bytes
   pub room-after : (n k m : ℕ) (xs : List ℕ) (e : ℕ) (b₁ : List ℕ) → Sent w b at xs e b₁ → length xs ≡ m → m + k ≤ n → Room w b at n → Room w b₁ e k

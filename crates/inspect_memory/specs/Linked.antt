@@ -1,12 +1,12 @@
 -- What the trusted points of a peer at one round refer to (01: inspector.rs).
 use Prim.Native.Nat.{ℕ, zero, suc, _+_, _-_, _<_, _≤_}
-use mathlib.Core.Path.{_≡_, refl, sym, ap, ap₂, _∙_}
+use mathlib.Core.Path.{_≡_, refl, sym, ap, _∙_}
 use mathlib.Core.List.{List}
 use mathlib.Core.Bool.{Bool, true, false, not, _&&_, _||_}
 use native.Mathlib.Omega.{arith}
 use lib.Dec.{eqb}
-use borrow.Author.Tests.{ne-eqb, not-true, not-false}
-use Rattle.laws.specs.Test.{byTest, clash, sameOr, and-r}
+use borrow.Author.Tests.{not-true, not-false}
+use Rattle.laws.specs.Test.{clash, sameOr, and-r}
 use Rattle.laws.specs.Scan.{any, any-intro, any-same}
 use Rattle.laws.specs.Lists.{has, has-append, upTo}
 use Rattle.spec.specs.Ids.{Ref}

@@ -20,7 +20,6 @@ use Rattle.dag_state.specs.declared.state.State.{State}
 use Rattle.dag_test.specs.Tested.{shape-says, places-says}
 use Rattle.dag_test.specs.View.{view}
 use Rattle.dag_test.specs.Counts.{Started}
-use Rattle.dag_name.specs.Name.{count-yes, count-no}
 use Rattle.dag_drain.specs.Cut.{below, below-le, below-low, below-high}
 use Rattle.back_history.specs.Sweep.{Range}
 use Rattle.back_history.specs.History.{one, picked}

@@ -1,11 +1,10 @@
 -- The counts of all authors by one pass over a round (01: stats.rs).
-use Prim.Native.Nat.{ℕ, suc, _+_, _*_, _-_, _<_, _≤_}
+use Prim.Native.Nat.{ℕ, _+_, _<_, _≤_}
 use mathlib.Core.Path.{_≡_, refl, sym, ap, subst, _∙_}
 use mathlib.Core.List.{List}
-use mathlib.Core.Bool.{Bool, true, false, _&&_, cond}
+use mathlib.Core.Bool.{Bool}
 use native.Mathlib.Omega.{arith}
 use native.Mathlib.Numerals.{add-one}
-use lib.Dec.{eqb}
 use lib.ListN.{getD, set, length, length-set, replicate, length-replicate, getD-replicate}
 use lib.Seq.{getD-set-same, getD-set-other}
 use borrow.Author.Tests.{eq-eqb, ne-eqb}
@@ -14,7 +13,7 @@ use Rattle.laws.specs.Scan.{those, those-yes, those-no, those-most}
 use Rattle.spec.specs.Inspect.{one}
 use Rattle.models.specs.Tables.{authorAt, placeAt}
 use Rattle.inspect_round.specs.Tests.{versionAt, inspected, chosen, passes}
-use Rattle.inspect_round.specs.Count.{passesAt, countOf}
+use Rattle.inspect_round.specs.Count.{passesAt}
 use Rattle.inspect_round.specs.declared.tests.PointTest.{PointTest}
 use Rattle.inspect_round.specs.declared.tests.PointTest.the-variants.{Found, Valid, Proved, TransInvalid, Invalid, IllFormed}
 use Rattle.inspect_round.specs.declared.tests.Passed.{Passed}

@@ -9,7 +9,7 @@ use lib.Dec.{eqb, leb}
 use borrow.Author.Tests.{eqb-true, eq-eqb, leb-true, leb-false, le-leb}
 use Rattle.laws.specs.Test.{both, and-l, and-r, sameOr, leOr}
 use Rattle.laws.specs.Scan.{those, those-elim, those-intro, those-nodup}
-use Rattle.laws.specs.Lists.{NoDup, Pairs}
+use Rattle.laws.specs.Lists.{Pairs}
 use Rattle.laws.specs.Sort.{sort-mem, sort-once, sort-rises}
 use Rattle.spec.specs.Order.{strict}
 use Rattle.spec.specs.Store as store

@@ -1,7 +1,7 @@
 // Origin: dag/commit/inspector.rs (inspect: the loop over an author's versions). How many points of each author pass each test, by one pass
 // over a round.
 ghost use mathlib.Core.Path.{_≡_};
-ghost use Prim.Native.Nat.{_+_, _*_, _-_, _<_, _≤_};
+ghost use Prim.Native.Nat.{_+_, _*_, _-_, _<_};
 ghost use lib.ListN.{length};
 ghost use Rattle.spec.specs.Inspect.{one};
 ghost use Rattle.back_history.specs.Sweep.{Range};

@@ -1,8 +1,6 @@
 use Prim.Native.Nat.{_-_, _≤_}
-use mathlib.Core.Path.{sym, ap, _∙_}
 use mathlib.Core.Logic.{⊎-elim}
 use native.Mathlib.Omega.{arith}
-use lib.ListN.{replicate}
 use Rattle.inspect_round.specs.Counts.{Counted, counted-start, counted-end, counted-yes, counted-no, cell-few}
 use borrow.Author.Needs.{needs}
 use Rattle.inspect_round.proofs.counts.round_counts.Statement.{statement}
