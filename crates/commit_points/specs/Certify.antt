@@ -9,13 +9,13 @@ use Rattle.models.specs.Digest.{Fit}
 use Rattle.models.specs.Parts.{idOf}
 use Rattle.models.specs.declared.parts.PointId.{PointId}
 use Rattle.dag_test.specs.Tested.{passed}
+use Rattle.dag_name.specs.Codes.{unless-numbered}
 use Rattle.dag_name.specs.Name.{idWords}
 use Rattle.dag_settle.specs.Point.{pointCode, placeFor, point-used}
 use Rattle.dag_settle.specs.Certs.{certifiedCerts, Certifiable}
 use Rattle.dag_settle.specs.Certified.{certifiable, certified-view, certify-is}
 use Rattle.models.specs.Refusal.{numbered, numbered-passed}
 use Rattle.commit_answer.specs.Answer.{Board, board, seen, Left, Did, unlessRefused, doneWith, tested, tested-yes, call-tested, did-done}
-use Rattle.commit_points.specs.Name.{unless-numbered}
 
 -- the board after it, if it isn't refused
 abbrev pub certifiedBoard : PointId → Board → Board

@@ -1,11 +1,9 @@
 -- A point is named (01: parts.rs, 'Refusals' 5 to 8 and 4).
-use Prim.Native.Nat.{ℕ, zero, suc}
-use mathlib.Core.Path.{_≡_, refl, sym, _∙_, ap}
+use mathlib.Core.Path.{_≡_, refl, _∙_}
 use mathlib.Core.Bool.{Bool, not, false}
 use lib.ListN.{length}
 use Rattle.spec.specs.Store.{Store}
 use Rattle.spec.specs.Rules.{counts}
-use Rattle.spec.specs.Chain.{Out}
 use Rattle.spec.specs.Calls.{name, act, isStart, lent, nameAt}
 use Rattle.models.specs.Digest.{Fit}
 use Rattle.models.specs.Parts.{idOf}
@@ -15,33 +13,9 @@ use Rattle.dag_test.specs.Counts.{shape-of}
 use Rattle.dag_name.specs.Name.{Ready, idWords, nameCode, taken, namedState, namedKeys, namedCerts, namedOrder}
 use Rattle.dag_name.specs.Tests.{ready, name-is}
 use Rattle.dag_name.specs.After.{named-view}
-use Rattle.dag_name.specs.Codes.{unless}
-use Rattle.models.specs.Refusal.{numbered, unlessFailed, refusalOf, failed, numbered-passed}
-use Rattle.models.specs.declared.refusal.Check.the-variants.{Passed}
+use Rattle.dag_name.specs.Codes.{unless-numbered}
+use Rattle.models.specs.Refusal.{numbered, numbered-passed}
 use Rattle.commit_answer.specs.Answer.{Board, board, seen, Left, Did, unlessRefused, doneWith, tested, tested-yes, call-tested, did-done}
-
--- ---- tests by number
-
-pub unless-numbered : {A : Type 0} (n : ℕ) (o : Out A) → unless n o ≡ unlessFailed (numbered n) o
-unfolding unless numbered unlessFailed refusalOf
-unless-numbered zero o = refl
-unless-numbered (suc n) o = refl
-
--- one law for each way out of the code
-module _ (n k : ℕ) (e : k ≡ n) where
-  pub number-refused : (k ≡ 0 → ⊥) → numbered n ≡ failed k
-  unfolding numbered
-  number-refused d = ap numbered (sym e) ∙ by k d
-    where
-      by : (m : ℕ) → (m ≡ 0 → ⊥) → numbered m ≡ failed m
-      by zero z = absurd (z refl)
-      by (suc m) z = refl
-
-  pub number-passed : k ≡ 0 → numbered n ≡ Passed
-  unfolding numbered
-  number-passed z = ap numbered (sym e ∙ z)
-
--- ---- name
 
 -- the board after it, if it isn't refused
 abbrev pub namedBoard : PointId → Board → Board

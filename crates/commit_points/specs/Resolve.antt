@@ -1,6 +1,6 @@
 -- A point is resolved (01: info.rs, cert.rs, 'Refusals' 5, 6, 9 to 12).
 use Prim.Native.Nat.{ℕ}
-use mathlib.Core.Path.{_≡_, refl, sym, _∙_, subst}
+use mathlib.Core.Path.{_≡_, refl, sym, _∙_, ap, subst}
 use mathlib.Core.List.{List}
 use mathlib.Core.Bool.{Bool, not, false}
 use Rattle.spec.specs.Store.{Store}
@@ -13,15 +13,16 @@ use Rattle.models.specs.declared.info.PointInfo.{PointInfo}
 use Rattle.models.specs.declared.parts.PointId.{PointId}
 use Rattle.models.specs.declared.refusal.Check.the-variants.{Passed}
 use Rattle.dag_test.specs.Tested.{passed}
+use Rattle.dag_name.specs.Codes.{unless-numbered, numbered-else-first, numbered-else-next}
 use Rattle.dag_name.specs.Name.{idWords, else-zero}
 use Rattle.dag_settle.specs.Point.{pointCode, placeFor, point-used}
 use Rattle.dag_told.specs.Told.{toldKeys, toldLinks}
 use Rattle.dag_told.specs.Ranged.{Ranged}
 use Rattle.dag_resolve.specs.Code.{infoCode, resolveCode, Accepted, info-accepted, resolve-is}
 use Rattle.dag_resolve.specs.After.{resolvedCerts, Resolvable, resolvable, resolved-view}
-use Rattle.models.specs.Refusal.{numbered, numbered-passed}
+use Rattle.models.specs.Refusal.{numbered, failed, numbered-passed}
+use Rattle.models.specs.declared.refusal.Check.{Check}
 use Rattle.commit_answer.specs.Answer.{Board, board, seen, Left, Did, unlessRefused, doneWith, tested, tested-yes, call-tested, did-done}
-use Rattle.commit_points.specs.Name.{unless-numbered}
 
 -- the board after it, if it isn't refused
 abbrev pub resolvedBoard : PointId → PointInfo → List ℕ → Board → Board
@@ -63,11 +64,17 @@ module _ (i : PointId) (info : PointInfo) (rs : List ℕ) (d : Board) where
         resolved-view (d .state) (d .keys) (d .links) (d .certs) (d .order) fk fl h q (point-used (d .state) (d .keys) (d .order) i p) info rs (a .formed) (a .includes) (a .witness) range (a .unresolved) x y)
 
     -- what the code is given where the tests pass
-    pub resolve-ready : (r : Bool) → r ≡ counts (seen d) → not r ≡ false → (k p : ℕ) → k ≡ code → k ≡ 0 → p ≡ q → Resolvable (d .state) (d .keys) (d .links) (d .certs) (d .order) p info rs
-    resolve-ready r e h k p f z g =
-        let (x, a) = passes (sym f ∙ z) in
+    pub resolve-ready : (r : Bool) → r ≡ counts (seen d) → not r ≡ false → (p : ℕ) → p ≡ q → code ≡ 0 → Resolvable (d .state) (d .keys) (d .links) (d .certs) (d .order) p info rs
+    resolve-ready r e h p g z =
+        let (x, a) = passes z in
         subst (λ y. Resolvable (d .state) (d .keys) (d .links) (d .certs) (d .order) y info rs) (sym g) (resolvable (d .state) (d .keys) (d .links) (d .certs) (d .order) fk fl (passed _ _ e h) q (point-used (d .state) (d .keys) (d .order) i x) info rs (a .formed) (a .includes) (a .witness) range)
 
-  -- the point is there
-  pub resolve-there : (k : ℕ) → k ≡ code → k ≡ 0 → pointCode (d .state) (d .keys) (d .order) i ≡ 0
-  resolve-there k f z = passes (sym f ∙ z) .0
+  -- one law for each way out of the code: k is the number of the point's test, p its place, t the test of what is given
+  module _ (k : ℕ) (e : k ≡ pointCode (d .state) (d .keys) (d .order) i) where
+    pub point-refused : (k ≡ 0 → ⊥) → numbered code ≡ failed k
+    unfolding resolveCode
+    point-refused n = numbered-else-first k _ _ e n
+
+    pub info-by : k ≡ 0 → (p : ℕ) → p ≡ q → (t : Check) → t ≡ numbered (infoCode (d .state) (d .keys) (d .order) p info rs) → numbered code ≡ t
+    unfolding resolveCode
+    info-by z p g t f = numbered-else-next k _ _ e z ∙ (ap (λ y. numbered (infoCode (d .state) (d .keys) (d .order) y info rs)) (sym g) ∙ sym f)

@@ -7,11 +7,12 @@ ghost use Rattle.commit_points.specs.Name.{nameLeft};
 use commit_answer::answer::Answer;
 use commit_answer::answer::Outcome;
 use commit_answer::answer::refused;
-use dag_name::name_code;
+use dag_name::check_name;
 use dag_name::name_point;
 use dag_state::state::State;
 use dag_test::counts_as_started;
 use models::parts::PointId;
+use models::refusal::Check;
 use models::refusal::NOT_STARTED;
 use models::refusal::Refusal;
 
@@ -30,9 +31,9 @@ pub fn add_dependency(
     if !counts_as_started(s, keys, links, certs, order) {
         return refused(s, Refusal::Number(NOT_STARTED));
     }
-    let code = name_code(s, keys, order, id);
-    if code != 0 {
-        return refused(s, Refusal::Number(code));
+    let check = check_name(s, keys, order, id);
+    if let Check::Failed(why) = check {
+        return refused(s, why);
     }
     let next = name_point(s, keys, certs, order, id);
     Outcome {

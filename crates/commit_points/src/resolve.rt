@@ -8,13 +8,15 @@ ghost use Rattle.commit_points.specs.Resolve.{resolveLeft};
 use commit_answer::answer::Answer;
 use commit_answer::answer::Outcome;
 use commit_answer::answer::refused;
+use dag_resolve::check_resolution;
 use dag_resolve::resolve_at;
-use dag_resolve::resolve_code;
+use dag_settle::point_code;
 use dag_settle::point_place;
 use dag_state::state::State;
 use dag_test::counts_as_started;
 use models::info::PointInfo;
 use models::parts::PointId;
+use models::refusal::Check;
 use models::refusal::NOT_STARTED;
 use models::refusal::Refusal;
 
@@ -36,11 +38,15 @@ pub fn resolve(
     if !counts_as_started(s, keys, links, certs, order) {
         return refused(s, Refusal::Number(NOT_STARTED));
     }
-    let code = resolve_code(s, keys, order, id, info, refs);
+    let code = point_code(s, keys, order, id);
     if code != 0 {
         return refused(s, Refusal::Number(code));
     }
     let q = point_place(s, keys, order, id);
+    let check = check_resolution(s, keys, order, q, info, refs);
+    if let Check::Failed(why) = check {
+        return refused(s, why);
+    }
     resolve_at(s, keys, links, certs, order, q, info, refs);
     Outcome {
         answer: Answer::Done,

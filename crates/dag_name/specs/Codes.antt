@@ -1,13 +1,15 @@
 -- A chain of refusals as one number: 0, or the number of the first test that refuses.
 use Prim.Native.Nat.{ℕ, zero, suc}
-use mathlib.Core.Path.{_≡_, refl}
+use mathlib.Core.Path.{_≡_, refl, sym, ap, _∙_}
 use mathlib.Core.Bool.{Bool, true, false, cond}
 use mathlib.Core.Option.{none, some}
 use Rattle.spec.specs.Ids.{Id}
 use Rattle.spec.specs.Store.{Store}
 use Rattle.spec.specs.Chain.{number, Out, bad, good, refuse}
 use Rattle.spec.specs.Calls.{nameAt, intoFree}
-use Rattle.dag_name.specs.Name.{orElse}
+use Rattle.models.specs.Refusal.{numbered, unlessFailed, refusalOf, failed}
+use Rattle.models.specs.declared.refusal.Check.the-variants.{Passed}
+use Rattle.dag_name.specs.Name.{orElse, else-first, else-next}
 
 -- refused with the number, unless it is 0
 unfoldable pub unless : {A : Type 0} → ℕ → Out A → Out A
@@ -31,3 +33,32 @@ pub into-is : (s : Store) (i : Id) (b : Bool) (q : ℕ) → intoFree s i (cond b
 unfolding intoFree unless
 into-is s i true q = refl
 into-is s i false q = refl
+
+-- ---- the number as a test
+
+pub unless-numbered : {A : Type 0} (n : ℕ) (o : Out A) → unless n o ≡ unlessFailed (numbered n) o
+unfolding unless numbered unlessFailed refusalOf
+unless-numbered zero o = refl
+unless-numbered (suc n) o = refl
+
+-- one law for each way out of the code
+module _ (n k : ℕ) (e : k ≡ n) where
+  pub number-refused : (k ≡ 0 → ⊥) → numbered n ≡ failed k
+  unfolding numbered
+  number-refused d = ap numbered (sym e) ∙ by k d
+    where
+      by : (m : ℕ) → (m ≡ 0 → ⊥) → numbered m ≡ failed m
+      by zero z = absurd (z refl)
+      by (suc m) z = refl
+
+  pub number-passed : k ≡ 0 → numbered n ≡ Passed
+  unfolding numbered
+  number-passed z = ap numbered (sym e ∙ z)
+
+-- the first of two tests refuses
+pub numbered-else-first : (k n m : ℕ) → k ≡ n → (k ≡ 0 → ⊥) → numbered (orElse n m) ≡ failed k
+numbered-else-first k n m e d = number-refused (orElse n m) k (else-first k n m e d) d
+
+-- the second decides
+pub numbered-else-next : (k n m : ℕ) → k ≡ n → k ≡ 0 → numbered (orElse n m) ≡ numbered m
+numbered-else-next k n m e z = ap numbered (sym (else-next k n m m e z refl))

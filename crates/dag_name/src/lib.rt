@@ -4,11 +4,19 @@ ghost use mathlib.Core.Path.{_≡_};
 ghost use Prim.Native.Nat.{_+_, _*_, _<_, _≤_};
 ghost use lib.ListN.{length};
 ghost use Rattle.laws.specs.Scan.{those};
+ghost use Rattle.models.specs.Refusal.{numbered};
 ghost use Rattle.models.specs.Tables.{Inside};
 ghost use Rattle.dag_keys.specs.Sorted.{Sorted};
 ghost use Rattle.dag_name.specs.Name.{Ready, idWords, isVersion, versionAt, idCode, tableCode, nameCode, namedState, namedKeys, namedCerts, namedOrder};
 use dag_state::state::State;
 use models::parts::PointId;
+use models::refusal::ALREADY_NAMED;
+use models::refusal::Check;
+use models::refusal::FIFTH_DIGEST;
+use models::refusal::FULL;
+use models::refusal::NOT_A_PEER;
+use models::refusal::NOT_RETAINED;
+use models::refusal::Refusal;
 
 // The id as the words of a place that is named.
 pub fn id_words(id: PointId) -> [u64; 8]
@@ -53,7 +61,7 @@ fn versions(keys: &[u64], order: &[u64], n: usize, round: u64, author: u64) -> u
     count
 }
 
-// 5, 6 or 5: what an id is refused with, 0 if it is not.
+// What an id is refused with, 0 if it is not.
 pub fn id_code(s: State, id: PointId) -> u32
     ensures { λ r. ⌜ r ≡ idCode s id ⌝ }
 {
@@ -63,57 +71,57 @@ pub fn id_code(s: State, id: PointId) -> u32
     let r = round.0;
     let author = id.author;
     if 32 <= author {
-        return 5;
+        return NOT_A_PEER;
     }
     if r < bottom.0 {
-        return 6;
+        return NOT_RETAINED;
     }
     if top.0 < r {
-        return 6;
+        return NOT_RETAINED;
     }
     let x = s.rounds[(r % 512) as usize];
     if !models::parts::has_peer(x.peers, author) {
-        return 5;
+        return NOT_A_PEER;
     }
     0
 }
 
-// 7, 8 or 4: what naming is refused with after the id's own tests, 0 if it is not.
-fn table_code(keys: &[u64], order: &[u64], n: usize, id: &[u64]) -> u32
+// Whether naming is refused after the id's own tests: the digest is there, a fifth of its author, or no place is free.
+fn check_table(keys: &[u64], order: &[u64], n: usize, id: &[u64]) -> Check
     requires { ⌜ (length (now keys) ≡ length (now order) * 8) × (length (now order) ≤ 4096) × (n ≤ length (now order)) × (8 ≤ length (now id)) ⌝ }
     requires { ⌜ Inside (now order) n (length (now order)) ⌝ }
     requires { ⌜ Sorted (now keys) (now order) n ⌝ }
-    ensures { λ r. ⌜ r ≡ tableCode (now (keys .entry)) (now (order .entry)) n (now (id .entry)) ⌝ }
+    ensures { λ r. ⌜ r ≡ numbered (tableCode (now (keys .entry)) (now (order .entry)) n (now (id .entry))) ⌝ }
 {
     let at = dag_keys::find(keys, order, n, id);
     if at < n {
-        return 7;
+        return Check::Failed(Refusal::Number(ALREADY_NAMED));
     }
     let round = id[0];
     let author = id[1];
     let count = versions(keys, order, n, round, author);
     if 4 <= count {
-        return 8;
+        return Check::Failed(Refusal::Number(FIFTH_DIGEST));
     }
     let places = order.len();
     let q = dag_order::free_place(order, n, places);
     if q < places {
-        return 0;
+        return Check::Passed;
     }
-    4
+    Check::Failed(Refusal::Number(FULL))
 }
 
-// What naming is refused with: 5, 6, 5, 7, 8, 4 in this order, 0 if it is not.
-pub fn name_code(s: State, keys: &[u64], order: &[u64], id: PointId) -> u32
+// Whether naming is refused: the tests of the id, then those of the tables.
+pub fn check_name(s: State, keys: &[u64], order: &[u64], id: PointId) -> Check
     requires { ⌜ Ready s (now keys) (now order) ⌝ }
-    ensures { λ r. ⌜ r ≡ nameCode s (now (keys .entry)) (now (order .entry)) id ⌝ }
+    ensures { λ r. ⌜ r ≡ numbered (nameCode s (now (keys .entry)) (now (order .entry)) id) ⌝ }
 {
     let code = id_code(s, id);
     if code != 0 {
-        return code;
+        return Check::Failed(Refusal::Number(code));
     }
     let words = id_words(id);
-    table_code(keys, order, s.count, &words)
+    check_table(keys, order, s.count, &words)
 }
 
 // The state with one place more in use.

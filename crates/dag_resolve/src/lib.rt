@@ -3,63 +3,53 @@
 ghost use mathlib.Core.Path.{_≡_};
 ghost use Prim.Native.Nat.{_+_, _*_, _<_, _≤_};
 ghost use lib.ListN.{length, getD};
+ghost use Rattle.models.specs.Refusal.{numbered};
 ghost use Rattle.dag_name.specs.Name.{Ready};
 ghost use Rattle.dag_told.specs.Told.{toldKeys, toldLinks};
 ghost use Rattle.dag_told.specs.Flags.{toldCerts};
-ghost use Rattle.dag_resolve.specs.Code.{infoCode, resolveCode};
+ghost use Rattle.dag_resolve.specs.Code.{infoCode};
 ghost use Rattle.dag_resolve.specs.After.{resolvedCerts, Resolvable};
 use dag_info::any_wild;
 use dag_info::well_formed;
-use dag_settle::point_code;
-use dag_settle::point_place;
 use dag_state::state::State;
 use models::cert::Cert;
 use models::info::PointInfo;
-use models::parts::PointId;
+use models::refusal::ALREADY_RESOLVED;
+use models::refusal::BAD_INFO;
+use models::refusal::Check;
+use models::refusal::DANGLING_LINK;
+use models::refusal::Refusal;
 
-// What a resolution of the point at place q is refused with: 10, 11, 12 in this order, 0 if it isn't.
-fn info_code(s: State, keys: &[u64], order: &[u64], q: usize, info: PointInfo, refs: &[u64]) -> u32
+// Whether a resolution of the point at place q is refused: it is resolved, what is given isn't well-formed, or a link dangles.
+pub fn check_resolution(
+    s: State,
+    keys: &[u64],
+    order: &[u64],
+    q: usize,
+    info: PointInfo,
+    refs: &[u64],
+) -> Check
     requires { ⌜ Ready s (now keys) (now order) ⌝ }
     requires { ⌜ q < length (now order) ⌝ }
-    ensures { λ r. ⌜ r ≡ infoCode s (now (keys .entry)) (now (order .entry)) q info (now (refs .entry)) ⌝ }
+    ensures { λ r. ⌜ r ≡ numbered (infoCode s (now (keys .entry)) (now (order .entry)) q info (now (refs .entry))) ⌝ }
 {
     let status = keys[q * 8 + 6];
     if status != 0 {
-        return 10;
+        return Check::Failed(Refusal::Number(ALREADY_RESOLVED));
     }
     let round = keys[q * 8 + 0];
     if !well_formed(round, info, refs) {
-        return 11;
+        return Check::Failed(Refusal::Number(BAD_INFO));
     }
     let i = info.includes;
     let w = info.witness;
     if any_wild(s, keys, order, refs, 0, i, 1, round) {
-        return 12;
+        return Check::Failed(Refusal::Number(DANGLING_LINK));
     }
     if any_wild(s, keys, order, refs, i, w, 2, round) {
-        return 12;
+        return Check::Failed(Refusal::Number(DANGLING_LINK));
     }
-    0
-}
-
-// What a resolution is refused with: 5, 6, 5, 9, 10, 11, 12 in this order, 0 if it isn't.
-pub fn resolve_code(
-    s: State,
-    keys: &[u64],
-    order: &[u64],
-    id: PointId,
-    info: PointInfo,
-    refs: &[u64],
-) -> u32
-    requires { ⌜ Ready s (now keys) (now order) ⌝ }
-    ensures { λ r. ⌜ r ≡ resolveCode s (now (keys .entry)) (now (order .entry)) id info (now (refs .entry)) ⌝ }
-{
-    let code = point_code(s, keys, order, id);
-    if code != 0 {
-        return code;
-    }
-    let q = point_place(s, keys, order, id);
-    info_code(s, keys, order, q, info, refs)
+    Check::Passed
 }
 
 // The certificate word of place q once the links of its point are set; statuses 4 and 5 have none.

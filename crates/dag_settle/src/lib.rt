@@ -8,8 +8,9 @@ use dag_state::state::State;
 use models::cert::Cert;
 use models::parts::Height;
 use models::parts::PointId;
+use models::refusal::NOT_NAMED;
 
-// What a call that names a point by its id is refused with: 5, 6, 5, 9 in this order, 0 if it isn't.
+// What a call that names a point by its id is refused with, 0 if it isn't: the tests of the id, then whether it is named.
 pub fn point_code(s: State, keys: &[u64], order: &[u64], id: PointId) -> u32
     requires { ⌜ Ready s (now keys) (now order) ⌝ }
     ensures { λ r. ⌜ r ≡ pointCode s (now (keys .entry)) (now (order .entry)) id ⌝ }
@@ -24,7 +25,7 @@ pub fn point_code(s: State, keys: &[u64], order: &[u64], id: PointId) -> u32
     if at < n {
         return 0;
     }
-    9
+    NOT_NAMED
 }
 
 // The place of the point.

@@ -1,8 +1,9 @@
 use mathlib.Core.Path.{refl, sym, ap, _∙_}
+use Rattle.dag_name.specs.Codes.{number-refused, number-passed}
 use Rattle.dag_name.specs.Words.{id-fit}
 use Rattle.dag_settle.specs.Certs.{certifiedCerts}
 use Rattle.commit_answer.specs.Answer.{board, left-same, tested-no, tested-by, left-refused, left-done}
-use Rattle.commit_points.specs.Name.{name-ready, number-refused, number-passed}
+use Rattle.commit_points.specs.Name.{name-ready}
 use Rattle.commit_points.specs.Certify.{certify-did, certify-ready}
 use borrow.Author.Needs.{needs}
 use Rattle.commit_points.proofs.certify.certify.Statement.{statement}

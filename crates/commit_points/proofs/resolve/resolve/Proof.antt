@@ -1,13 +1,14 @@
 use mathlib.Core.Path.{refl, sym, ap, _∙_, subst}
 use Rattle.models.specs.Digest.{Fit}
-use Rattle.models.specs.Refusal.{not-failed}
+use Rattle.models.specs.Refusal.{not-failed, numbered-passed}
 use Rattle.dag_name.specs.Words.{id-fit}
 use Rattle.dag_told.specs.Told.{toldKeys, toldLinks}
 use Rattle.dag_told.specs.Ranged.{info-ranged}
+use Rattle.dag_resolve.specs.Code.{place-there}
 use Rattle.dag_resolve.specs.After.{resolvedCerts}
 use Rattle.commit_answer.specs.Answer.{board, left-same, tested-no, tested-by, left-refused, left-done}
-use Rattle.commit_points.specs.Name.{name-ready, number-refused, number-passed}
-use Rattle.commit_points.specs.Resolve.{resolve-did, resolve-ready, resolve-there}
+use Rattle.commit_points.specs.Name.{name-ready}
+use Rattle.commit_points.specs.Resolve.{resolve-did, resolve-ready, point-refused, info-by}
 use borrow.Author.Needs.{needs}
 use Rattle.commit_points.proofs.resolve.resolve.Statement.{statement}
 use Rattle.commit_points.proofs.resolve.resolve.Tie as tie
@@ -33,8 +34,8 @@ returns c =
     let t = tested-no _ _ _ (c .before .before .counts-as-started .ensures) (c .before .if1 .taken) in
     resolve-did _ _ _ _ (λ p. c .before .before .before .before .before .before .before .before .before .before .slice-known .given p .fits) (λ p. c .before .before .before .before .before .before .before .before .before .slice-known2 .given p .fits) (info-ranged (a .info) _ (c .before .before .before .before .before .before .before .before .before .before .before .good .1 .1 .1 .1 .1 .1 .0)) (id-fit _ _ (c .before .before .before .before .before .before .before .before .before .before .before .good .1 .1 .1 .1 .1 .0)) (λ p. c .before .before .before .before .before .before .shared-slice-known2 .given p .fits) (λ e. absurd (not-failed _ (sym t ∙ e))) _ (left-refused _ _ _ _ t _ (c .refused .ensures))
 
-resolve-code-requires : tie.Need-resolve-code-requires
-resolve-code-requires c κs =
+point-code-requires : tie.Need-point-code-requires
+point-code-requires c κs =
     let a = c .before .before .before .before .before .before .before .before .before .before .before .args in
     name-ready (board (a .s) (a .keys .now) (a .links .now) (a .certs .now) (a .order .now)) (λ p. c .before .before .before .before .before .before .before .before .before .before .slice-known .given p .fits) (λ p. c .before .before .before .before .before .before .before .before .before .slice-known2 .given p .fits) _ (c .before .before .counts-as-started .ensures) (c .before .if1 .left)
 
@@ -53,19 +54,25 @@ same-length-6 c = search needs
 returns-2 : tie.Need-returns-2
 returns-2 c =
     let a = c .before .before .before .before .before .before .before .before .before .before .before .before .before .before .args in
-    let t = tested-by _ _ _ (c .before .before .before .before .before .counts-as-started .ensures) (c .before .before .before .before .if1 .left) _ (number-refused _ _ (c .before .before .resolve-code .ensures) (c .before .if2 .taken)) in
+    let t = tested-by _ _ _ (c .before .before .before .before .before .counts-as-started .ensures) (c .before .before .before .before .if1 .left) _ (point-refused (a .id) (a .info) (a .refs .now) (board (a .s) (a .keys .now) (a .links .now) (a .certs .now) (a .order .now)) _ (c .before .before .point-code .ensures) (c .before .if2 .taken)) in
     resolve-did _ _ _ _ (λ p. c .before .before .before .before .before .before .before .before .before .before .before .before .before .slice-known .given p .fits) (λ p. c .before .before .before .before .before .before .before .before .before .before .before .before .slice-known2 .given p .fits) (info-ranged (a .info) _ (c .before .before .before .before .before .before .before .before .before .before .before .before .before .before .good .1 .1 .1 .1 .1 .1 .0)) (id-fit _ _ (c .before .before .before .before .before .before .before .before .before .before .before .before .before .before .good .1 .1 .1 .1 .1 .0)) (λ p. c .before .before .before .before .before .before .before .before .before .shared-slice-known2 .given p .fits) (λ e. absurd (not-failed _ (sym t ∙ e))) _ (left-refused _ _ _ _ t _ (c .refused2 .ensures))
 
 point-place-requires : tie.Need-point-place-requires
 point-place-requires c κs =
     let a = c .before .before .before .before .before .before .before .before .before .before .before .before .before .before .args in
-    let d = board (a .s) (a .keys .now) (a .links .now) (a .certs .now) (a .order .now) in
-    (name-ready d (λ p. c .before .before .before .before .before .before .before .before .before .before .before .before .before .slice-known .given p .fits) (λ p. c .before .before .before .before .before .before .before .before .before .before .before .before .slice-known2 .given p .fits) _ (c .before .before .before .before .before .counts-as-started .ensures) (c .before .before .before .before .if1 .left), resolve-there (a .id) (a .info) (a .refs .now) d _ (c .before .before .resolve-code .ensures) (c .before .if2 .left))
+    (name-ready (board (a .s) (a .keys .now) (a .links .now) (a .certs .now) (a .order .now)) (λ p. c .before .before .before .before .before .before .before .before .before .before .before .before .before .slice-known .given p .fits) (λ p. c .before .before .before .before .before .before .before .before .before .before .before .before .slice-known2 .given p .fits) _ (c .before .before .before .before .before .counts-as-started .ensures) (c .before .before .before .before .if1 .left), sym (c .before .before .point-code .ensures) ∙ c .before .if2 .left)
 
-resolve-at-requires : tie.Need-resolve-at-requires
-resolve-at-requires c κs =
-    let a = c .before .before .before .before .before .before .before .before .before .before .before .before .before .before .before .before .before .before .args in
-    resolve-ready (a .id) (a .info) (a .refs .now) (board (a .s) (a .keys .now) (a .links .now) (a .certs .now) (a .order .now)) (λ p. c .before .before .before .before .before .before .before .before .before .before .before .before .before .before .before .before .before .slice-known .given p .fits) (λ p. c .before .before .before .before .before .before .before .before .before .before .before .before .before .before .before .before .slice-known2 .given p .fits) (info-ranged (a .info) _ (c .before .before .before .before .before .before .before .before .before .before .before .before .before .before .before .before .before .before .good .1 .1 .1 .1 .1 .1 .0)) _ (c .before .before .before .before .before .before .before .before .before .counts-as-started .ensures) (c .before .before .before .before .before .before .before .before .if1 .left) _ _ (c .before .before .before .before .before .before .resolve-code .ensures) (c .before .before .before .before .before .if2 .left) (c .before .before .before .point-place .ensures)
+check-resolution-requires : tie.Need-check-resolution-requires
+check-resolution-requires c κs =
+    let a = c .before .before .before .before .before .before .before .before .before .before .before .before .before .before .before .before .args in
+    let r = name-ready (board (a .s) (a .keys .now) (a .links .now) (a .certs .now) (a .order .now)) (λ p. c .before .before .before .before .before .before .before .before .before .before .before .before .before .before .before .slice-known .given p .fits) (λ p. c .before .before .before .before .before .before .before .before .before .before .before .before .before .before .slice-known2 .given p .fits) _ (c .before .before .before .before .before .before .before .counts-as-started .ensures) (c .before .before .before .before .before .before .if1 .left) in
+    (r, place-there (a .s) (a .keys .now) (a .order .now) (a .id) _ _ r (c .before .before .before .before .point-code .ensures) (c .before .before .before .if2 .left) (c .before .point-place .ensures))
+
+enum-known-check : tie.Need-enum-known-check
+enum-known-check c = search needs
+
+refused-requires-3 : tie.Need-refused-requires-3
+refused-requires-3 c κs = search needs
 
 same-length-7 : tie.Need-same-length-7
 same-length-7 c = search needs
@@ -78,14 +85,37 @@ same-length-9 c = search needs
 
 returns-3 : tie.Need-returns-3
 returns-3 c =
-    let a = c .before .before .before .before .before .before .before .before .before .before .before .before .before .before .before .before .before .before .before .before .before .before .before .before .before .args in
+    let a = c .before .before .before .before .before .before .before .before .before .before .before .before .before .before .before .before .before .before .before .before .before .args in
+    let t = tested-by _ _ _ (c .before .before .before .before .before .before .before .before .before .before .before .before .counts-as-started .ensures) (c .before .before .before .before .before .before .before .before .before .before .before .if1 .left) _ (info-by (a .id) (a .info) (a .refs .now) (board (a .s) (a .keys .now) (a .links .now) (a .certs .now) (a .order .now)) _ (c .before .before .before .before .before .before .before .before .before .point-code .ensures) (c .before .before .before .before .before .before .before .before .if2 .left) _ (c .before .before .before .before .before .before .point-place .ensures) _ (c .before .before .before .before .check-resolution .ensures) ∙ c .before .before .check .given .1) in
+    resolve-did _ _ _ _ (λ p. c .before .before .before .before .before .before .before .before .before .before .before .before .before .before .before .before .before .before .before .before .slice-known .given p .fits) (λ p. c .before .before .before .before .before .before .before .before .before .before .before .before .before .before .before .before .before .before .before .slice-known2 .given p .fits) (info-ranged (a .info) _ (c .before .before .before .before .before .before .before .before .before .before .before .before .before .before .before .before .before .before .before .before .before .good .1 .1 .1 .1 .1 .1 .0)) (id-fit _ _ (c .before .before .before .before .before .before .before .before .before .before .before .before .before .before .before .before .before .before .before .before .before .good .1 .1 .1 .1 .1 .0)) (λ p. c .before .before .before .before .before .before .before .before .before .before .before .before .before .before .before .before .shared-slice-known2 .given p .fits) (λ e. absurd (not-failed _ (sym t ∙ e))) _ (left-refused _ _ _ _ t _ (c .refused3 .ensures))
+
+enum-told : tie.Need-enum-told
+enum-told c = search needs
+
+resolve-at-requires : tie.Need-resolve-at-requires
+resolve-at-requires c κs =
+    let a = c .before .before .before .before .before .before .before .before .before .before .before .before .before .before .before .before .before .before .before .before .before .before .args in
+    resolve-ready (a .id) (a .info) (a .refs .now) (board (a .s) (a .keys .now) (a .links .now) (a .certs .now) (a .order .now)) (λ p. c .before .before .before .before .before .before .before .before .before .before .before .before .before .before .before .before .before .before .before .before .before .slice-known .given p .fits) (λ p. c .before .before .before .before .before .before .before .before .before .before .before .before .before .before .before .before .before .before .before .before .slice-known2 .given p .fits) (info-ranged (a .info) _ (c .before .before .before .before .before .before .before .before .before .before .before .before .before .before .before .before .before .before .before .before .before .before .good .1 .1 .1 .1 .1 .1 .0)) _ (c .before .before .before .before .before .before .before .before .before .before .before .before .before .counts-as-started .ensures) (c .before .before .before .before .before .before .before .before .before .before .before .before .if1 .left) _ (c .before .before .before .before .before .before .before .point-place .ensures) (numbered-passed _ (info-by (a .id) (a .info) (a .refs .now) (board (a .s) (a .keys .now) (a .links .now) (a .certs .now) (a .order .now)) _ (c .before .before .before .before .before .before .before .before .before .before .point-code .ensures) (c .before .before .before .before .before .before .before .before .before .if2 .left) _ (c .before .before .before .before .before .before .before .point-place .ensures) _ (c .before .before .before .before .before .check-resolution .ensures) ∙ c .before .before .before .enum-told .given .1))
+
+same-length-10 : tie.Need-same-length-10
+same-length-10 c = search needs
+
+same-length-11 : tie.Need-same-length-11
+same-length-11 c = search needs
+
+same-length-12 : tie.Need-same-length-12
+same-length-12 c = search needs
+
+returns-4 : tie.Need-returns-4
+returns-4 c =
+    let a = c .before .before .before .before .before .before .before .before .before .before .before .before .before .before .before .before .before .before .before .before .before .before .before .before .before .before .before .before .before .args in
     let k = c .before .before .before .before .before .before .resolve-at .ensures in
-    let e = c .before .before .before .before .before .before .before .before .before .before .point-place .ensures in
+    let e = c .before .before .before .before .before .before .before .before .before .before .before .before .before .before .point-place .ensures in
     let x = k .0 ∙ ap (λ q. toldKeys (a .keys .now) q (a .info)) e in
     let y = k .1 .0 ∙ ap (λ q. toldLinks (a .s) (a .keys .now) (a .links .now) (a .order .now) q (a .info) (a .refs .now)) e in
     let z = k .1 .1 ∙ ap (λ q. resolvedCerts (a .s) (a .keys .now) (a .links .now) (a .certs .now) (a .order .now) q (a .info) (a .refs .now)) e in
-    resolve-did _ _ _ _ (λ p. c .before .before .before .before .before .before .before .before .before .before .before .before .before .before .before .before .before .before .before .before .before .before .before .before .slice-known .given p .fits) (λ p. c .before .before .before .before .before .before .before .before .before .before .before .before .before .before .before .before .before .before .before .before .before .before .before .slice-known2 .given p .fits) (info-ranged (a .info) _ (c .before .before .before .before .before .before .before .before .before .before .before .before .before .before .before .before .before .before .before .before .before .before .before .before .before .good .1 .1 .1 .1 .1 .1 .0)) (id-fit _ _ (c .before .before .before .before .before .before .before .before .before .before .before .before .before .before .before .before .before .before .before .before .before .before .before .before .before .good .1 .1 .1 .1 .1 .0)) (λ p. c .before .before .before .before .before .before .before .before .before .before .before .before .before .before .before .before .before .before .before .before .shared-slice-known2 .given p .fits)
-    (λ m. (subst Fit x (λ p. c .before .before .before .before .slice-known4 .given p .fits), subst Fit y (λ p. c .before .before .slice-known5 .given p .fits))) _ (left-done _ _ _ (tested-by _ _ _ (c .before .before .before .before .before .before .before .before .before .before .before .before .before .before .before .before .counts-as-started .ensures) (c .before .before .before .before .before .before .before .before .before .before .before .before .before .before .before .if1 .left) _ (number-passed _ _ (c .before .before .before .before .before .before .before .before .before .before .before .before .before .resolve-code .ensures) (c .before .before .before .before .before .before .before .before .before .before .before .before .if2 .left))) _ (left-same refl refl x y z refl refl))
+    resolve-did _ _ _ _ (λ p. c .before .before .before .before .before .before .before .before .before .before .before .before .before .before .before .before .before .before .before .before .before .before .before .before .before .before .before .before .slice-known .given p .fits) (λ p. c .before .before .before .before .before .before .before .before .before .before .before .before .before .before .before .before .before .before .before .before .before .before .before .before .before .before .before .slice-known2 .given p .fits) (info-ranged (a .info) _ (c .before .before .before .before .before .before .before .before .before .before .before .before .before .before .before .before .before .before .before .before .before .before .before .before .before .before .before .before .before .good .1 .1 .1 .1 .1 .1 .0)) (id-fit _ _ (c .before .before .before .before .before .before .before .before .before .before .before .before .before .before .before .before .before .before .before .before .before .before .before .before .before .before .before .before .before .good .1 .1 .1 .1 .1 .0)) (λ p. c .before .before .before .before .before .before .before .before .before .before .before .before .before .before .before .before .before .before .before .before .before .before .before .before .shared-slice-known2 .given p .fits)
+    (λ m. (subst Fit x (λ p. c .before .before .before .before .slice-known4 .given p .fits), subst Fit y (λ p. c .before .before .slice-known5 .given p .fits))) _ (left-done _ _ _ (tested-by _ _ _ (c .before .before .before .before .before .before .before .before .before .before .before .before .before .before .before .before .before .before .before .before .counts-as-started .ensures) (c .before .before .before .before .before .before .before .before .before .before .before .before .before .before .before .before .before .before .before .if1 .left) _ (info-by (a .id) (a .info) (a .refs .now) (board (a .s) (a .keys .now) (a .links .now) (a .certs .now) (a .order .now)) _ (c .before .before .before .before .before .before .before .before .before .before .before .before .before .before .before .before .before .point-code .ensures) (c .before .before .before .before .before .before .before .before .before .before .before .before .before .before .before .before .if2 .left) _ (c .before .before .before .before .before .before .before .before .before .before .before .before .before .before .point-place .ensures) _ (c .before .before .before .before .before .before .before .before .before .before .before .before .check-resolution .ensures) ∙ c .before .before .before .before .before .before .before .before .before .before .enum-told .given .1)) _ (left-same refl refl x y z refl refl))
 
 pub resolve-spec : {M : Type 1} → statement M
 resolve-spec =
@@ -97,15 +127,23 @@ resolve-spec =
     same-length-2
     same-length-3
     returns
-    resolve-code-requires
+    point-code-requires
     refused-requires-2
     same-length-4
     same-length-5
     same-length-6
     returns-2
     point-place-requires
-    resolve-at-requires
+    check-resolution-requires
+    enum-known-check
+    refused-requires-3
     same-length-7
     same-length-8
     same-length-9
-    returns-3)
+    returns-3
+    enum-told
+    resolve-at-requires
+    same-length-10
+    same-length-11
+    same-length-12
+    returns-4)

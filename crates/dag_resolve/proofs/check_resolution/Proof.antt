@@ -1,9 +1,10 @@
 use borrow.Author.Needs.{needs}
-use mathlib.Core.Path.{refl, _∙_}
+use mathlib.Core.Path.{refl, ap, _∙_}
+use Rattle.models.specs.Refusal.{numbered}
 use native.Mathlib.Omega.{arith}
 use Rattle.dag_resolve.specs.Code.{info-resolved, info-unformed, info-links, info-shaped, first-wild, next-wild, none-wild}
-use Rattle.dag_resolve.proofs.info_code.Statement.{statement}
-use Rattle.dag_resolve.proofs.info_code.Tie as tie
+use Rattle.dag_resolve.proofs.check_resolution.Statement.{statement}
+use Rattle.dag_resolve.proofs.check_resolution.Tie as tie
 
 mul-status : tie.Need-mul-status
 mul-status c = search needs
@@ -18,9 +19,10 @@ shared-slice-read-status : tie.Need-shared-slice-read-status
 shared-slice-read-status c = search needs
 
 returns : tie.Need-returns
+unfolding numbered
 returns c =
     let a = c .before .before .before .before .before .args in
-    info-resolved (a .s) (a .keys .now) (a .order .now) (a .q) (a .info) (a .refs .now) (c .if1 .taken)
+    ap numbered (info-resolved (a .s) (a .keys .now) (a .order .now) (a .q) (a .info) (a .refs .now) (c .if1 .taken))
 
 mul-round : tie.Need-mul-round
 mul-round c = search needs
@@ -38,9 +40,10 @@ well-formed-requires : tie.Need-well-formed-requires
 well-formed-requires c κs = search needs
 
 returns-2 : tie.Need-returns-2
+unfolding numbered
 returns-2 c =
     let a = c .before .before .before .before .before .before .before .before .args in
-    info-unformed (a .s) (a .keys .now) (a .order .now) (a .q) (a .info) (a .refs .now) (c .before .before .before .if1 .left) _ (c .before .well-formed .ensures) (c .if2 .taken)
+    ap numbered (info-unformed (a .s) (a .keys .now) (a .order .now) (a .q) (a .info) (a .refs .now) (c .before .before .before .if1 .left) _ (c .before .well-formed .ensures) (c .if2 .taken))
 
 any-wild-requires : tie.Need-any-wild-requires
 any-wild-requires c κs =
@@ -49,9 +52,10 @@ any-wild-requires c κs =
     (c .before .before .before .before .before .before .before .before .pre .0, (omega arith, omega arith))
 
 returns-3 : tie.Need-returns-3
+unfolding numbered
 returns-3 c =
     let a = c .before .before .before .before .before .before .before .before .before .before .args in
-    first-wild _ _ (c .if3 .taken) ∙ info-links (a .s) (a .keys .now) (a .order .now) (a .q) (a .info) (a .refs .now) (c .before .before .before .before .before .if1 .left) _ (c .before .before .before .well-formed .ensures) (c .before .before .if2 .left) _ _ (c .before .any-wild .ensures) refl
+    ap numbered (first-wild _ _ (c .if3 .taken) ∙ info-links (a .s) (a .keys .now) (a .order .now) (a .q) (a .info) (a .refs .now) (c .before .before .before .before .before .if1 .left) _ (c .before .before .before .well-formed .ensures) (c .before .before .if2 .left) _ _ (c .before .any-wild .ensures) refl)
 
 any-wild-requires-2 : tie.Need-any-wild-requires-2
 any-wild-requires-2 c κs =
@@ -60,17 +64,19 @@ any-wild-requires-2 c κs =
     (c .before .before .before .before .before .before .before .before .before .before .pre .0, (omega arith, omega arith))
 
 returns-4 : tie.Need-returns-4
+unfolding numbered
 returns-4 c =
     let a = c .before .before .before .before .before .before .before .before .before .before .before .before .args in
-    next-wild _ _ (c .before .before .if3 .left) (c .if4 .taken) ∙ info-links (a .s) (a .keys .now) (a .order .now) (a .q) (a .info) (a .refs .now) (c .before .before .before .before .before .before .before .if1 .left) _ (c .before .before .before .before .before .well-formed .ensures) (c .before .before .before .before .if2 .left) _ _ (c .before .before .before .any-wild .ensures) (c .before .any-wild2 .ensures)
+    ap numbered (next-wild _ _ (c .before .before .if3 .left) (c .if4 .taken) ∙ info-links (a .s) (a .keys .now) (a .order .now) (a .q) (a .info) (a .refs .now) (c .before .before .before .before .before .before .before .if1 .left) _ (c .before .before .before .before .before .well-formed .ensures) (c .before .before .before .before .if2 .left) _ _ (c .before .before .before .any-wild .ensures) (c .before .any-wild2 .ensures))
 
 returns-5 : tie.Need-returns-5
+unfolding numbered
 returns-5 c =
     let a = c .before .before .before .before .before .before .before .before .before .before .before .before .args in
-    none-wild _ _ (c .before .before .if3 .left) (c .if4 .left) ∙ info-links (a .s) (a .keys .now) (a .order .now) (a .q) (a .info) (a .refs .now) (c .before .before .before .before .before .before .before .if1 .left) _ (c .before .before .before .before .before .well-formed .ensures) (c .before .before .before .before .if2 .left) _ _ (c .before .before .before .any-wild .ensures) (c .before .any-wild2 .ensures)
+    ap numbered (none-wild _ _ (c .before .before .if3 .left) (c .if4 .left) ∙ info-links (a .s) (a .keys .now) (a .order .now) (a .q) (a .info) (a .refs .now) (c .before .before .before .before .before .before .before .if1 .left) _ (c .before .before .before .before .before .well-formed .ensures) (c .before .before .before .before .if2 .left) _ _ (c .before .before .before .any-wild .ensures) (c .before .any-wild2 .ensures))
 
-pub info-code-spec : {M : Type 1} → statement M
-info-code-spec =
+pub check-resolution-spec : {M : Type 1} → statement M
+check-resolution-spec =
     tie.close
     (tie.spec
     mul-status
