@@ -25,6 +25,7 @@ use Rattle.dag_links.specs.Words.{proofRoundAt}
 use Rattle.dag_keys.specs.Key.{key, same-eq}
 use Rattle.dag_keys.specs.Sorted as sorted
 use Rattle.dag_ids.specs.Ids.{idHolds}
+use Rattle.dag_keys.specs.Id.{idFrom, from-fit, from-digest}
 use Rattle.dag_state.specs.View.{optionOf, pointAt, toldAt, givenAt, refsFrom, recordOf, roundOf}
 use Rattle.dag_state.specs.Numbers.{roundsHold}
 use Rattle.dag_state.specs.Reads.{window-in}
@@ -41,7 +42,7 @@ use Rattle.back_walk.specs.declared.Enqueued.{Enqueued}
 use Rattle.back_walk.specs.declared.Needed.{Needed}
 use Rattle.back_walk.specs.declared.Step.{Step}
 use Rattle.back_walk.specs.declared.Step.the-variants.{Pass, End, Bad, Found}
-use Rattle.back_walk.specs.Words.{idFrom, hasPrevious, previousWords, topWords}
+use Rattle.back_walk.specs.Words.{hasPrevious, previousWords, topWords}
 use Rattle.back_walk.specs.Step.{Walkable, Linked, judgeCode, needed, needed-used, needed-valid, proofAt, anchorAt, usedAt, atProof, markedStep, stepAt, fault}
 
 -- a refusal by its number; 13 comes with its round
@@ -71,30 +72,8 @@ onward ls (Found e) f w acc = f (topWords ls (e .anchor)) (enqueuedOf e ∷ acc)
 
 -- the id of the words
 from-id : (t : List ℕ) (p r a : ℕ) → idFor (idFrom t p r a) ≡ record { round = r; author = a; digest = digestAt t p }
-unfolding idFrom words digestAt
-from-id t p r a = rw (none p, two p, three p) refl
-  where
-    none : (p : ℕ) → p + 0 ≡ p
-    none p = omega arith
-
-    two : (p : ℕ) → p + 1 + 1 ≡ p + 2
-    two p = omega arith
-
-    three : (p : ℕ) → p + 2 + 1 ≡ p + 3
-    three p = omega arith
-
--- they fit
-from-fit : (t : List ℕ) (p r a : ℕ) → Fit t → r < 2 ^ 64 → a < 2 ^ 64 → Fit (idFrom t p r a)
 unfolding idFrom
-from-fit t p r a f l m zero = l
-from-fit t p r a f l m (suc zero) = m
-from-fit t p r a f l m (suc (suc zero)) = f (p + 0)
-from-fit t p r a f l m (suc (suc (suc zero))) = f (p + 1)
-from-fit t p r a f l m (suc (suc (suc (suc zero)))) = f (p + 2)
-from-fit t p r a f l m (suc (suc (suc (suc (suc zero))))) = f (p + 3)
-from-fit t p r a f l m (suc (suc (suc (suc (suc (suc zero)))))) = omega arith
-from-fit t p r a f l m (suc (suc (suc (suc (suc (suc (suc zero))))))) = omega arith
-from-fit t p r a f l m (suc (suc (suc (suc (suc (suc (suc (suc i)))))))) = omega arith
+from-id t p r a = λ i. record { round = r; author = a; digest = from-digest t p r a i }
 
 pub previous-fit : (ks ls : List ℕ) (q r : ℕ) → Fit ks → Fit ls → r < 2 ^ 64 → Fit (previousWords ks ls q r)
 unfolding previousWords

@@ -4,7 +4,7 @@ ghost use mathlib.Core.Path.{_≡_};
 ghost use Prim.Native.Nat.{_+_, _*_, _<_, _≤_};
 ghost use lib.ListN.{length};
 ghost use Rattle.models.specs.Tables.{Used};
-ghost use Rattle.back_walk.specs.Words.{idFrom, hasPrevious, previousWords, topWords, Placed};
+ghost use Rattle.back_walk.specs.Words.{hasPrevious, previousWords, topWords, Placed};
 ghost use Rattle.back_walk.specs.Step.{judgeCode, needed, proofAt, anchorAt, usedAt, stepAt, Walkable, Linked};
 use dag_state::state::State;
 use models::cert::Cert;
@@ -37,25 +37,13 @@ pub enum Step {
     Found(Enqueued),
 }
 
-// The id with this round and author and the digest in the four words from `at` on, as the words of a place.
-fn id_from(t: &[u64], at: usize, round: u64, author: u64) -> [u64; 8]
-    requires { ⌜ at + 4 ≤ length (now t) ⌝ }
-    ensures { λ r. ⌜ r ≡ idFrom (now (t .entry)) at round author ⌝ }
-{
-    let x = t[at + 0];
-    let y = t[at + 1];
-    let z = t[at + 2];
-    let w = t[at + 3];
-    [round, author, x, y, z, w, 0, 0]
-}
-
 // Whether the point at place q has a previous point: an include under its own author.
 pub fn has_previous(keys: &[u64], links: &[u64], q: usize) -> bool
     requires { ⌜ Placed (now keys) (now links) q ⌝ }
     ensures { λ r. ⌜ r ≡ hasPrevious (now (keys .entry)) (now (links .entry)) q ⌝ }
 {
-    let k = laws::slot(keys[q * 8 + 1]);
-    0 < links[q * 328 + 8 + k]
+    let k = laws::slot(dag_keys::author(keys, q));
+    0 < dag_links::target(links, q, k)
 }
 
 // The id of that point, which is of this round.
@@ -63,9 +51,9 @@ pub fn previous(keys: &[u64], links: &[u64], q: usize, round: u64) -> [u64; 8]
     requires { ⌜ Placed (now keys) (now links) q ⌝ }
     ensures { λ r. ⌜ r ≡ previousWords (now (keys .entry)) (now (links .entry)) q round ⌝ }
 {
-    let author = keys[q * 8 + 1];
+    let author = dag_keys::author(keys, q);
     let k = laws::slot(author);
-    id_from(links, q * 328 + 72 + k * 4, round, author)
+    dag_keys::id_at(links, q * 328 + 72 + k * 4, round, author)
 }
 
 // The id of the top proof of the point at place q.
@@ -73,9 +61,9 @@ pub fn top_proof(links: &[u64], q: usize) -> [u64; 8]
     requires { ⌜ q * 328 + 328 ≤ length (now links) ⌝ }
     ensures { λ r. ⌜ r ≡ topWords (now (links .entry)) q ⌝ }
 {
-    let round = links[q * 328 + 1];
-    let author = links[q * 328 + 2];
-    id_from(links, q * 328 + 3, round, author)
+    let round = dag_links::head_word(links, q, 1);
+    let author = dag_links::head_word(links, q, 2);
+    dag_keys::id_at(links, q * 328 + 3, round, author)
 }
 
 // 0 if the point at place q is valid, else 14, 13 or 15.

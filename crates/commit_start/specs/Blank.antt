@@ -10,9 +10,9 @@ use Rattle.laws.specs.Test.{both}
 use Rattle.laws.specs.Scan.{any, every}
 use Rattle.spec.specs.Store.{Store, free}
 use Rattle.models.specs.Tables.{isUsed}
-use Rattle.dag_places.specs.Zero.{zeroed, zeroed-length}
+use Rattle.dag_places.specs.Fill.{zeroed, filled-length}
 use Rattle.dag_keys.specs.Sorted.{isInside, isSorted}
-use Rattle.dag_links.specs.Links.{allRight, linksHold}
+use Rattle.dag_links.specs.Links.{linksHold}
 use Rattle.dag_state.specs.declared.state.State.{State}
 use Rattle.dag_state.specs.View.{phaseOf}
 use Rattle.dag_test.specs.Tested.{shape}
@@ -24,11 +24,11 @@ blank t = zeroed t 0 (length t)
 
 blank-length : (t : List ℕ) → length (blank t) ≡ length t
 unfolding blank
-blank-length t = zeroed-length t 0 (length t)
+blank-length t = filled-length _ t 0 (length t)
 
 -- where no place is in use, nothing but the memory is to be regular
 pub regular-none : (t : State) (ks ls cs os : List ℕ) → t .count ≡ 0 → t .memory .count ≤ 128 → regular t ks ls cs os ≡ true
-unfolding regular isInside isSorted linksHold allRight every
+unfolding regular isInside isSorted linksHold every
 regular-none t ks ls cs os z m = rw z (both (le-leb 0 (length os) (omega arith)) (both (le-leb (t .memory .count) 128 m) refl))
 
 module _ (ks ls cs os : List ℕ) (sh : shape ks ls cs os ≡ true) where

@@ -45,14 +45,14 @@ unfoldable pub fewHold : List ℕ → List ℕ → ℕ → Bool
 fewHold ks os n = every n (fits ks os)
 
 -- the cell i is full
-pub counted-full : (ks s : List ℕ) (q i : ℕ) → i ≡ cellAt ks q → 4 ≤ getD s i 0 → (false ≡ room ks s q) × (s ≡ counted ks s q)
+pub counted-full : (ks s : List ℕ) (q i r a : ℕ) → r ≡ roundAt ks q → a ≡ authorAt ks q → i ≡ cellOf r a → 4 ≤ getD s i 0 → (false ≡ room ks s q) × (s ≡ counted ks s q)
 unfolding counted
-counted-full ks s q i e l = let f : room ks s q ≡ false = le-ltb _ 4 (rw e at l) in (sym f, rw f refl)
+counted-full ks s q i r a x y e l = let f : room ks s q ≡ false = le-ltb _ 4 (rw (e, x, y) at l) in (sym f, rw f refl)
 
 -- the cell i has room
-pub counted-more : (ks s : List ℕ) (q i : ℕ) → i ≡ cellAt ks q → getD s i 0 < 4 → (true ≡ room ks s q) × (set s i (getD s i 0 + 1) ≡ counted ks s q)
+pub counted-more : (ks s : List ℕ) (q i r a : ℕ) → r ≡ roundAt ks q → a ≡ authorAt ks q → i ≡ cellOf r a → getD s i 0 < 4 → (true ≡ room ks s q) × (set s i (getD s i 0 + 1) ≡ counted ks s q)
 unfolding counted
-counted-more ks s q i e l = let f : room ks s q ≡ true = lt-ltb _ 4 (rw e at l) in (sym f, rw (f, e) refl)
+counted-more ks s q i r a x y e l = let f : room ks s q ≡ true = lt-ltb _ 4 (rw (e, x, y) at l) in (sym f, rw (f, e, x, y) refl)
 
 cell-small : (r a : ℕ) → cellOf r a < 16384
 unfolding cellOf
@@ -74,7 +74,7 @@ module _ (ks os s : List ℕ) (i q : ℕ) (t : Tallied ks os s i) (a : q ≡ pla
   -- one place more
   pub tallied-more : (r : List ℕ) → r ≡ counted ks s q → room ks s q ≡ true → Tallied ks os r (i + 1)
   tallied-more r e h =
-      rw (e ∙ sym (counted-more ks s q c refl (ltb-true _ 4 h) .1), add-one i)
+      rw (e ∙ sym (counted-more ks s q c _ _ refl refl refl (ltb-true _ 4 h) .1), add-one i)
       (length-set s c (getD s c 0 + 1) ∙ t .0, λ j l. sameOr c j (at j l) (off j l))
     where
       c : ℕ

@@ -1,4 +1,4 @@
-// At most four points for each author and round, counted in one pass (dag/dag_round.rs).
+// Origin: dag/dag_round.rs. At most four points for each author and round, counted in one pass.
 ghost use mathlib.Core.Path.{_≡_};
 ghost use Prim.Native.Nat.{_+_, _*_, _<_, _≤_};
 ghost use lib.ListN.{length, getD};
@@ -19,7 +19,7 @@ fn count_one(seen: &mut [u8], keys: &[u64], q: usize) -> bool
     ensures { λ r. ⌜ r ≡ ltb (getD (now (seen .entry)) (cellAt (now (keys .entry)) q) 0) 4 ⌝ }
     ensures { λ _. ⌜ now (seen .exit) ≡ counted (now (keys .entry)) (now (seen .entry)) q ⌝ }
 {
-    let i = cell(keys[q * 8 + 0], keys[q * 8 + 1]);
+    let i = cell(dag_keys::round_word(keys, q), dag_keys::author(keys, q));
     if 4 <= seen[i] {
         return false;
     }

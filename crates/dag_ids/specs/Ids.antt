@@ -7,9 +7,8 @@ use lib.Dec.{leb, ltb}
 use native.Mathlib.Omega.{arith}
 use borrow.Author.Tests.{le-leb, lt-leb, le-ltb, lt-ltb}
 use Rattle.laws.specs.Test.{and-no, and-yes}
-use Rattle.laws.specs.Scan.{every}
 use Rattle.laws.specs.Peers.{member}
-use Rattle.models.specs.Tables.{roundAt, authorAt, placeAt}
+use Rattle.models.specs.Tables.{roundAt, authorAt}
 use Rattle.dag_state.specs.View.{recordOf}
 use Rattle.dag_state.specs.declared.state.State.{State}
 
@@ -19,9 +18,6 @@ idHolds r a b t peers = leb b r && (leb r t && (ltb a 32 && member peers a))
 -- the id of the place q
 abbrev pub idAtHolds : State → List ℕ → ℕ → Bool
 idAtHolds s ks q = idHolds (roundAt ks q) (authorAt ks q) (s .bottom .0) (s .top .0) (recordOf (s .rounds) (roundAt ks q) .peers)
-
-unfoldable pub idsHold : State → List ℕ → List ℕ → ℕ → Bool
-idsHold s ks os n = every n (λ i. idAtHolds s ks (placeAt os i))
 
 -- one law for each way out
 module _ (r a b t peers : ℕ) where

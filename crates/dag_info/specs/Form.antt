@@ -70,16 +70,18 @@ module _ (rs : List ℕ) (j m low i : ℕ) (whole : risesFrom rs 0 j m ≡ rises
       whole ∙ (ap (risesFrom rs low (j + i)) e ∙ ap (λ (x : ℕ). leb low peer && (ltb peer 32 && risesFrom rs (peer + 1) x (m - (i + 1)))) f)
 
   -- the peer does not rise
-  pub rise-low : i < m → peer < low → false ≡ refsRise (refsOf rs j m)
-  rise-low l k = sym (sym (rise-is rs j m) ∙ (rise-step l ∙ and-no _ (lt-leb low peer k)))
+  pub rise-low : i < m → (x : ℕ) → x ≡ peer → x < low → false ≡ refsRise (refsOf rs j m)
+  rise-low l x e k = sym (sym (rise-is rs j m) ∙ (rise-step l ∙ and-no _ (lt-leb low peer (omega arith))))
 
   -- the peer is above 31
-  pub rise-high : i < m → low ≤ peer → 32 ≤ peer → false ≡ refsRise (refsOf rs j m)
-  rise-high l k h = sym (sym (rise-is rs j m) ∙ (rise-step l ∙ and-yes (le-leb low peer k) (and-no _ (le-ltb peer 32 h))))
+  pub rise-high : i < m → (x : ℕ) → x ≡ peer → low ≤ x → 32 ≤ x → false ≡ refsRise (refsOf rs j m)
+  rise-high l x e k h = sym (sym (rise-is rs j m) ∙ (rise-step l ∙ and-yes (le-leb low peer (omega arith)) (and-no _ (le-ltb peer 32 (omega arith)))))
 
   -- it goes on
-  pub rise-more : i < m → low ≤ peer → peer < 32 → risesFrom rs 0 j m ≡ risesFrom rs (peer + 1) (j + (i + 1)) (m - (i + 1))
-  rise-more l k h = rise-step l ∙ and-yes (le-leb low peer k) (and-yes (lt-ltb peer 32 h) refl)
+  pub rise-more : i < m → (x : ℕ) → x ≡ peer → low ≤ x → x < 32 → risesFrom rs 0 j m ≡ risesFrom rs (x + 1) (j + (i + 1)) (m - (i + 1))
+  rise-more l x e k h =
+      rise-step l
+      ∙ and-yes (le-leb low peer (omega arith)) (and-yes (lt-ltb peer 32 (omega arith)) (ap (λ (y : ℕ). risesFrom rs (y + 1) (j + (i + 1)) (m - (i + 1))) (sym e)))
 
   -- no link is left
   pub rise-end : m ≤ i → true ≡ refsRise (refsOf rs j m)

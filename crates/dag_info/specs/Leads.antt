@@ -19,7 +19,8 @@ use Rattle.models.specs.Digest.{Fit, digestAt}
 use Rattle.models.specs.Info.{refAt, refsOf, infoOf}
 use Rattle.models.specs.declared.info.PointInfo.{PointInfo}
 use Rattle.models.specs.Tables.{authorAt, placeAt, Used}
-use Rattle.dag_keys.specs.Key.{key, same, words-same}
+use Rattle.dag_keys.specs.Id.{idFrom, from-fit, from-digest}
+use Rattle.dag_keys.specs.Key.{key, same}
 use Rattle.dag_keys.specs.Sorted.{keyAt, pointAt}
 use Rattle.dag_keys.specs.Digest.{same-is}
 use Rattle.dag_state.specs.View as state
@@ -55,33 +56,6 @@ has-refs rs f j (suc m) =
 
     next : (i : ℕ) → j + 1 + i ≡ j + suc i
     next i = omega arith
-
--- the words of a link are values
-link-fit : (rs : List ℕ) (j r : ℕ) → Fit rs → r < 2 ^ 64 → Fit (linkWords rs j r)
-unfolding linkWords
-link-fit rs j r f l zero = l
-link-fit rs j r f l (suc zero) = f (j * 5 + 0)
-link-fit rs j r f l (suc (suc zero)) = f (j * 5 + 1 + 0)
-link-fit rs j r f l (suc (suc (suc zero))) = f (j * 5 + 1 + 1)
-link-fit rs j r f l (suc (suc (suc (suc zero)))) = f (j * 5 + 1 + 2)
-link-fit rs j r f l (suc (suc (suc (suc (suc zero))))) = f (j * 5 + 1 + 3)
-link-fit rs j r f l (suc (suc (suc (suc (suc (suc zero)))))) = omega arith
-link-fit rs j r f l (suc (suc (suc (suc (suc (suc (suc zero))))))) = omega arith
-link-fit rs j r f l (suc (suc (suc (suc (suc (suc (suc (suc p)))))))) = omega arith
-
--- the words of its digest, one by one
-pub link-word : (rs : List ℕ) (j r i : ℕ) → i < 4 → getD (linkWords rs j r) (2 + i) 0 ≡ getD rs (j * 5 + 1 + i) 0
-unfolding linkWords
-link-word rs j r zero l = refl
-link-word rs j r (suc zero) l = refl
-link-word rs j r (suc (suc zero)) l = refl
-link-word rs j r (suc (suc (suc zero))) l = refl
-link-word rs j r (suc (suc (suc (suc i)))) l = absurd (omega arith)
-
--- its digest
-link-digest : (rs : List ℕ) (j r : ℕ) → digestAt (linkWords rs j r) 2 ≡ digestAt rs (j * 5 + 1)
-unfolding digestAt
-link-digest rs j r = ap (number (2 ^ 64) 0) (words-same (linkWords rs j r) rs 2 (j * 5 + 1) 4 (link-word rs j r))
 
 -- d rounds down
 down : (x d r : ℕ) → d ≤ r → eqb (x + d) r ≡ eqb x (r - d)
@@ -128,15 +102,15 @@ module _ (s : State) (ks ls cs os rs : List ℕ) (fk : Fit ks) (fl : Fit ls) (fr
 
     -- a used place, by its position
     to-here : d ≤ r → (x : ℕ) → x < s .count → to (placeAt os x) ≡ here x
-    unfolding view fits state.pointAt linkWords
+    unfolding view fits state.pointAt idFrom
     to-here l x k =
         let q = placeAt os x in
         let w = linkWords rs j (r - d) in
         ap (λ (p : Point). p .named && fits r (p .id) (leads d (refAt rs j))) (seen-used ks ls cs os (s .count) q (x, k, refl))
         ∙ (turn (eqb (getD ks (q * 8 + 0) 0 + d) r) (eqb (authorAt ks q) (peerAt rs j)) (eqb (digestAt ks (q * 8 + 2)) (digestAt rs (j * 5 + 1)))
         ∙ ap (λ z. z && eqb (authorAt ks q) (peerAt rs j))
-        (ap₂ _&&_ (down (getD ks (q * 8 + 0) 0) d r l) (ap (eqb (digestAt ks (q * 8 + 2))) (sym (link-digest rs j (r - d))))
-        ∙ sym (same-is ks w q 0 fk (link-fit rs j (r - d) fr (omega arith)))))
+        (ap₂ _&&_ (down (getD ks (q * 8 + 0) 0) d r l) (ap (eqb (digestAt ks (q * 8 + 2))) (sym (from-digest rs (j * 5 + 1) (r - d) (peerAt rs j))))
+        ∙ sym (same-is ks w q 0 fk (from-fit rs (j * 5 + 1) (r - d) (peerAt rs j) fr (omega arith) (fr (j * 5 + 0))))))
 
     -- the position where it is found
     abbrev at : ℕ

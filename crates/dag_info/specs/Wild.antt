@@ -1,7 +1,7 @@
 -- A link into a retained round that leads to no named point (01: 'Refusals' 12).
 use Prim.Native.Nat.{ℕ, _+_, _-_, _*_, _≤_, _<_}
 use mathlib.Core.Path.{_≡_, sym, _∙_, ap}
-use mathlib.Core.List.{List, [], _∷_}
+use mathlib.Core.List.{List}
 use mathlib.Core.Bool.{Bool, false, _&&_}
 use lib.Dec.{leb}
 use lib.ListN.{getD}
@@ -10,16 +10,15 @@ use native.Mathlib.Numerals.{add-one}
 use borrow.Author.Tests.{le-leb, lt-leb}
 use Rattle.laws.specs.Test.{and-no, and-yes}
 use Rattle.laws.specs.Scan.{any}
+use Rattle.dag_keys.specs.Id.{idFrom}
 use Rattle.dag_keys.specs.Key.{key}
 use Rattle.dag_keys.specs.Sorted.{pointAt}
 use Rattle.dag_info.specs.Form.{peerAt}
 use Rattle.dag_state.specs.declared.state.State.{State}
 
 -- the id that link j leads to in round r, as the words of a place
-unfoldable pub linkWords : List ℕ → ℕ → ℕ → List ℕ
-linkWords rs j r =
-    let b = j * 5 + 1 in
-    r ∷ peerAt rs j ∷ getD rs (b + 0) 0 ∷ getD rs (b + 1) 0 ∷ getD rs (b + 2) 0 ∷ getD rs (b + 3) 0 ∷ 0 ∷ 0 ∷ []
+abbrev pub linkWords : List ℕ → ℕ → ℕ → List ℕ
+linkWords rs j r = idFrom rs (j * 5 + 1) r (peerAt rs j)
 
 -- the position of the point that link j leads to in round r, or the number of used places
 unfoldable pub foundAt : State → List ℕ → List ℕ → List ℕ → ℕ → ℕ → ℕ
@@ -36,10 +35,10 @@ anyWild s ks os rs d r j m = any m (λ i. isWild s ks os rs d r (j + i))
 -- ---- the code's steps
 
 module _ (s : State) (ks os rs : List ℕ) where
-  -- found by the words w
-  pub found-by : (w : List ℕ) (j r x : ℕ) → w ≡ linkWords rs j r → x ≡ pointAt ks os (s .count) (key w 0) (getD w 1 0) → x ≡ foundAt s ks os rs j r
-  unfolding foundAt linkWords
-  found-by w j r x e h = h ∙ ap (λ (z : List ℕ). pointAt ks os (s .count) (key z 0) (getD z 1 0)) e
+  -- found by the words w, with the peer p that is read
+  pub found-by : (w : List ℕ) (j r x p : ℕ) → p ≡ peerAt rs j → w ≡ idFrom rs (j * 5 + 1) r p → x ≡ pointAt ks os (s .count) (key w 0) (getD w 1 0) → x ≡ foundAt s ks os rs j r
+  unfolding foundAt idFrom
+  found-by w j r x p f e h = h ∙ ap (λ (z : List ℕ). pointAt ks os (s .count) (key z 0) (getD z 1 0)) (e ∙ ap (idFrom rs (j * 5 + 1) r) f)
 
   -- the link leads below the bottom
   pub wild-below : (d r j : ℕ) → r < s .bottom .0 + d → false ≡ isWild s ks os rs d r j

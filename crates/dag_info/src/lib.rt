@@ -8,11 +8,19 @@ ghost use mathlib.Core.Bool.{_&&_};
 ghost use Rattle.spec.specs.Rules.{refsRise, kindOk, wellFormed};
 ghost use Rattle.models.specs.Info.{refsOf, infoOf};
 ghost use Rattle.dag_name.specs.Name.{Ready};
-ghost use Rattle.dag_info.specs.Form.{statusOk, Shaped};
-ghost use Rattle.dag_info.specs.Wild.{linkWords, foundAt, isWild, anyWild};
+ghost use Rattle.dag_info.specs.Form.{peerAt, statusOk, Shaped};
+ghost use Rattle.dag_info.specs.Wild.{foundAt, isWild, anyWild};
 use dag_state::state::State;
 use models::dag_point::Resolved;
 use models::info::PointInfo;
+
+// The peer of link j.
+pub fn peer(refs: &[u64], j: usize) -> u64
+    requires { ⌜ j * 5 + 5 ≤ length (now refs) ⌝ }
+    ensures { λ r. ⌜ r ≡ peerAt (now (refs .entry)) j ⌝ }
+{
+    refs[j * 5 + 0]
+}
 
 // Whether the peers of m links, from link `from` on, rise and are below 32.
 fn rises(refs: &[u64], from: usize, m: usize) -> bool
@@ -22,14 +30,14 @@ fn rises(refs: &[u64], from: usize, m: usize) -> bool
     let mut low: u64 = 0;
     let mut i: usize = 0;
     while i < m {
-        let peer = refs[(from + i) * 5 + 0];
-        if peer < low {
+        let next = peer(refs, from + i);
+        if next < low {
             return false;
         }
-        if 32 <= peer {
+        if 32 <= next {
             return false;
         }
-        low = peer + 1;
+        low = next + 1;
         i += 1;
     }
     true
@@ -119,27 +127,13 @@ pub fn well_formed(round: u64, info: PointInfo, refs: &[u64]) -> bool
     given_ok(round, info, refs)
 }
 
-// The id that link j leads to in this round, as the words of a place.
-fn link_words(refs: &[u64], j: usize, round: u64) -> [u64; 8]
-    requires { ⌜ j * 5 + 5 ≤ length (now refs) ⌝ }
-    ensures { λ r. ⌜ r ≡ linkWords (now (refs .entry)) j round ⌝ }
-{
-    let peer = refs[j * 5 + 0];
-    let b = j * 5 + 1;
-    let x = refs[b + 0];
-    let y = refs[b + 1];
-    let z = refs[b + 2];
-    let w = refs[b + 3];
-    [round, peer, x, y, z, w, 0, 0]
-}
-
 // The position of the point that link j leads to in this round, or the number of used places.
 pub fn find_link(s: State, keys: &[u64], order: &[u64], refs: &[u64], j: usize, round: u64) -> usize
     requires { ⌜ Ready s (now keys) (now order) ⌝ }
     requires { ⌜ j * 5 + 5 ≤ length (now refs) ⌝ }
     ensures { λ r. ⌜ r ≡ foundAt s (now (keys .entry)) (now (order .entry)) (now (refs .entry)) j round ⌝ }
 {
-    let words = link_words(refs, j, round);
+    let words = dag_keys::id_at(refs, j * 5 + 1, round, peer(refs, j));
     dag_keys::find_point(keys, order, s.count, &words)
 }
 

@@ -1,12 +1,12 @@
 -- The key of a place, and the order of keys.
 use Prim.Native.Nat.{ℕ, zero, suc, _+_, _*_, _-_, _<_, _≤_}
-use mathlib.Core.Path.{_≡_, refl, sym, _∙_}
+use mathlib.Core.Path.{_≡_, refl, sym, _∙_, ap}
 use mathlib.Core.List.{List, [], _∷_}
 use mathlib.Core.Bool.{Bool, true, false, _&&_, _||_, false≢true, or-false}
 use mathlib.Core.Logic.{_⊎_, inl, inr, ⊎-elim}
 use native.Mathlib.Omega.{arith}
 use native.Mathlib.Nat.{add-zero}
-use lib.ListN.{getD, replicate}
+use lib.ListN.{getD, drop, replicate}
 use lib.Dec.{eqb, ltb}
 use borrow.Author.Tests.{eq-eqb, ne-eqb, eqb-true, ltb-true, lt-ltb, le-ltb, ltb-false}
 use Rattle.laws.specs.Test.{both, and-l, and-r, or-cases, sameOr}
@@ -169,6 +169,16 @@ words-same t u p q (suc m) h =
 
     over : (p j : ℕ) → p + 1 + j ≡ p + suc j
     over p j = omega arith
+
+-- and back
+pub words-each : (t u : List ℕ) (p q m : ℕ) → words t p m ≡ words u q m → (k : ℕ) → k < m → getD t (p + k) 0 ≡ getD u (q + k) 0
+unfolding words
+words-each t u p q zero e k l = absurd (omega arith)
+words-each t u p q (suc m) e zero l = rw (add-zero p, add-zero q) (ap (λ (w : List ℕ). getD w 0 0) e)
+words-each t u p q (suc m) e (suc k) l = rw (over p k, over q k) at (words-each t u (p + 1) (q + 1) m (ap (drop 1) e) k (omega arith))
+  where
+    over : (p k : ℕ) → p + 1 + k ≡ p + suc k
+    over p k = omega arith
 
 -- a key depends on its place's words alone
 pub key-same : (t u : List ℕ) (i j : ℕ) → ((w : ℕ) → w < 8 → getD t (i * 8 + w) 0 ≡ getD u (j * 8 + w) 0) → key t i ≡ key u j

@@ -3,10 +3,13 @@
 // `order` holds the used places in its first n cells, sorted strictly by key.
 ghost use mathlib.Core.Path.{_≡_};
 ghost use Prim.Native.Nat.{_+_, _*_, _/_, _<_, _≤_};
+ghost use lib.Dec.{eqb};
 ghost use lib.ListN.{length, getD};
 ghost use Rattle.dag_keys.specs.Key.{key, before};
 ghost use Rattle.dag_keys.specs.Sorted.{isInside, Sorted, isSorted, placeOf, standing, pointAt};
-ghost use Rattle.models.specs.Tables.{roundAt, authorAt, statusAt, Inside};
+ghost use Rattle.dag_keys.specs.Id.{idFrom};
+ghost use Rattle.models.specs.Digest.{digestAt};
+ghost use Rattle.models.specs.Tables.{roundAt, authorAt, statusAt, marksAt, Inside};
 ghost use Rattle.models.specs.DagPoint.{caseOf};
 use models::dag_point::Resolved;
 use models::dag_point::of_status;
@@ -19,12 +22,65 @@ pub fn author(keys: &[u64], i: usize) -> u64
     keys[i * 8 + 1]
 }
 
+// The round of place i.
+pub fn round_word(keys: &[u64], i: usize) -> u64
+    requires { ⌜ i * 8 + 8 ≤ length (now keys) ⌝ }
+    ensures { λ r. ⌜ r ≡ roundAt (now (keys .entry)) i ⌝ }
+{
+    keys[i * 8 + 0]
+}
+
+// The marks of place i.
+pub fn marks_at(keys: &[u64], i: usize) -> u64
+    requires { ⌜ i * 8 + 8 ≤ length (now keys) ⌝ }
+    ensures { λ r. ⌜ r ≡ marksAt (now (keys .entry)) i ⌝ }
+{
+    keys[i * 8 + 7]
+}
+
+// The status of place i; 0 if its point is not resolved.
+pub fn status(keys: &[u64], i: usize) -> u64
+    requires { ⌜ i * 8 + 8 ≤ length (now keys) ⌝ }
+    ensures { λ r. ⌜ r ≡ statusAt (now (keys .entry)) i ⌝ }
+{
+    keys[i * 8 + 6]
+}
+
 // The case of the point at place i; none if it is named and not resolved.
 pub fn case_at(keys: &[u64], i: usize) -> Resolved
     requires { ⌜ i * 8 + 8 ≤ length (now keys) ⌝ }
     ensures { λ r. ⌜ r ≡ caseOf (statusAt (now (keys .entry)) i) ⌝ }
 {
     of_status(keys[i * 8 + 6])
+}
+
+// Whether the digest in the four words of a from i on is the one in those of b from j on.
+pub fn same_digest(a: &[u64], i: usize, b: &[u64], j: usize) -> bool
+    requires { ⌜ (i + 4 ≤ length (now a)) × (j + 4 ≤ length (now b)) ⌝ }
+    ensures { λ r. ⌜ r ≡ eqb (digestAt (now (a .entry)) i) (digestAt (now (b .entry)) j) ⌝ }
+{
+    let mut k: usize = 0;
+    while k < 4 {
+        let x = a[i + k];
+        let y = b[j + k];
+        if x != y {
+            return false;
+        }
+        k += 1;
+    }
+    true
+}
+
+// The id with this round and author and the digest in the four words from `at` on, as the words of a place.
+pub fn id_at(t: &[u64], at: usize, round: u64, author: u64) -> [u64; 8]
+    requires { ⌜ at + 4 ≤ length (now t) ⌝ }
+    ensures { λ r. ⌜ r ≡ idFrom (now (t .entry)) at round author ⌝ }
+{
+    let x = t[at + 0];
+    let y = t[at + 1];
+    let z = t[at + 2];
+    let w = t[at + 3];
+    [round, author, x, y, z, w, 0, 0]
 }
 
 // Whether place i of table a comes before place j of table b.

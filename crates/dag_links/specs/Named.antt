@@ -13,37 +13,23 @@ use Rattle.laws.specs.Test.{both, and-l, and-r, or-l, or-r, or-cases, clash, sa
 use Rattle.laws.specs.Scan.{every-elim, every-intro}
 use Rattle.dag_heights.specs.View.{reach, reach-live, Live}
 use Rattle.dag_heights.specs.Exact.{Falls}
-use Rattle.dag_links.specs.Links.{sameWords, digAt, fits, leadsTo, linkRight, linksRight, marked, allRight, blank, linksHold, marked-length}
-use Rattle.models.specs.Tables.{roundAt, authorAt, placeAt, Inside, Used, targetAt, dist}
-
--- the four words of a from i are those of b from j
-pub record SameWords (a : List ℕ) (i : ℕ) (b : List ℕ) (j : ℕ) : Type 0 where
-  pub word0 : getD a (i + 0) 0 ≡ getD b (j + 0) 0
-  pub word1 : getD a (i + 1) 0 ≡ getD b (j + 1) 0
-  pub word2 : getD a (i + 2) 0 ≡ getD b (j + 2) 0
-  pub word3 : getD a (i + 3) 0 ≡ getD b (j + 3) 0
-
-same-words : (a : List ℕ) (i : ℕ) (b : List ℕ) (j : ℕ) → (sameWords a i b j ≡ true) ↔ SameWords a i b j
-unfolding sameWords
-same-words a i b j = (
-  (λ h. record {
-    word0 = eqb-true _ _ (search (and-l, and-r));
-    word1 = eqb-true _ _ (search (and-l, and-r));
-    word2 = eqb-true _ _ (search (and-l, and-r));
-    word3 = eqb-true _ _ (search (and-l, and-r));
-  }),
-  λ s. both (eq-eqb _ _ (s .word0)) (both (eq-eqb _ _ (s .word1)) (both (eq-eqb _ _ (s .word2)) (eq-eqb _ _ (s .word3)))),
-)
+use Rattle.dag_links.specs.Links.{digAt, fits, leadsTo, linkRight, linksRight, marked, blank, linksHold, marked-length}
+use Rattle.models.specs.Digest.{digestAt}
+use Rattle.models.specs.Tables.{roundAt, authorAt, digestOf, placeAt, Inside, Used, targetAt, dist}
 
 -- the place p is the one that link k of the place q names
 pub record Names (ks ls : List ℕ) (q k p : ℕ) : Type 0 where
   pub falls : roundAt ks p + dist k ≡ roundAt ks q
   pub author : authorAt ks p ≡ k % 32
-  pub digest : SameWords ks (p * 8 + 2) ls (digAt q k)
+  pub digest : digestOf ks p ≡ digestAt ls (digAt q k)
 
--- the rule: each live link leads to the used place that it names
+-- link k of the place q leads to the used place that it names
+abbrev pub Found : List ℕ → List ℕ → List ℕ → ℕ → ℕ → ℕ → Type 0
+Found ks ls os n q k = (p : ℕ) × Used os n p × (targetAt ls q k ≡ suc p) × Names ks ls q k p
+
+-- the rule: each live link does
 abbrev pub Links : ℕ → List ℕ → List ℕ → List ℕ → ℕ → Type 0
-Links b ks ls os n = (q k : ℕ) → Used os n q → Live b ks q k → 0 < targetAt ls q k → (p : ℕ) × Used os n p × (targetAt ls q k ≡ suc p) × Names ks ls q k p
+Links b ks ls os n = (q k : ℕ) → Used os n q → Live b ks q k → 0 < targetAt ls q k → Found ks ls os n q k
 
 blank-length : length blank ≡ 4096
 unfolding blank
@@ -79,16 +65,13 @@ module _ (ks ls : List ℕ) (q k : ℕ) (far : dist k ≤ roundAt ks q) where
     (λ h. record {
       falls = let e : roundAt ks p ≡ roundAt ks q - dist k = eqb-true _ _ (search (and-l, and-r)) in omega arith;
       author = eqb-true _ _ (search (and-l, and-r));
-      digest = same-words ks (p * 8 + 2) ls (digAt q k) .0 (search (and-l, and-r));
+      digest = eqb-true _ _ (search (and-l, and-r));
     }),
-    λ m. both (eq-eqb (roundAt ks p) (roundAt ks q - dist k) (omega (arith, m .falls))) (both (eq-eqb _ _ (m .author)) (same-words ks (p * 8 + 2) ls (digAt q k) .1 (m .digest))),
+    λ m. both (eq-eqb (roundAt ks p) (roundAt ks q - dist k) (omega (arith, m .falls))) (both (eq-eqb _ _ (m .author)) (eq-eqb _ _ (m .digest))),
   )
 
   module _ (os : List ℕ) (n : ℕ) where
-    abbrev Found : Type 0
-    Found = (p : ℕ) × Used os n p × (targetAt ls q k ≡ suc p) × Names ks ls q k p
-
-    right-found : linkRight ks ls (marked blank os n) (length os) q k ≡ true → 0 < targetAt ls q k → Found
+    right-found : linkRight ks ls (marked blank os n) (length os) q k ≡ true → 0 < targetAt ls q k → Found ks ls os n q k
     unfolding linkRight leadsTo
     right-found h a =
         let p : ℕ = targetAt ls q k - 1 in
@@ -98,36 +81,42 @@ module _ (ks ls : List ℕ) (q k : ℕ) (far : dist k ≤ roundAt ks q) where
         (p, marked-elim os n p (and-l _ (fits ks ls q k p) r), omega arith, fits-names p .0 (and-r (getD (marked blank os n) p false) _ r)))
         (or-cases (eqb (targetAt ls q k) 0) _ h)
 
-    found-right : Inside os n (length os) → length os ≤ 4096 → (0 < targetAt ls q k → Found) → linkRight ks ls (marked blank os n) (length os) q k ≡ true
+    found-right : Inside os n (length os) → length os ≤ 4096 → (0 < targetAt ls q k → Found ks ls os n q k) → linkRight ks ls (marked blank os n) (length os) q k ≡ true
     unfolding linkRight leadsTo
     found-right inside s f =
         leOr (targetAt ls q k) 0
         (λ z. or-l (eqb (targetAt ls q k) 0) _ (eq-eqb (targetAt ls q k) 0 (omega arith)))
         (λ a. or-r (eqb (targetAt ls q k) 0) _ (go (f a)))
       where
-        go : Found → leadsTo ks ls (marked blank os n) (length os) q k (targetAt ls q k - 1) ≡ true
+        go : Found ks ls os n q k → leadsTo ks ls (marked blank os n) (length os) q k (targetAt ls q k - 1) ≡ true
         go (p, (i, l, d), e, m) =
             let x : targetAt ls q k - 1 ≡ p = omega arith in
             rw x (both (lt-ltb p (length os) (omega (arith, inside i l))) (both (rw d at (marked-intro os n i inside s l)) (fits-names p .1 m)))
 
 module _ (b : ℕ) (ks ls os : List ℕ) (n : ℕ) where
-  -- sound: where the test holds the rule does
-  pub links-sound : linksHold b ks ls os n ≡ true → Links b ks ls os n
-  unfolding linksHold allRight linksRight
-  links-sound h q k (i, j, d) l =
-      right-found ks ls q k (omega arith) os n
-      (every-elim (reach b ks q) _ (rw d at (every-elim n _ h i j)) k (reach-live b ks q k .1 l))
+  -- the test of one place is sound
+  pub place-sound : (q : ℕ) → linksRight ks ls (marked blank os n) (length os) q (reach b ks q) ≡ true → (k : ℕ) → Live b ks q k → 0 < targetAt ls q k → Found ks ls os n q k
+  unfolding linksRight
+  place-sound q h k l = right-found ks ls q k (omega arith) os n (every-elim (reach b ks q) _ h k (reach-live b ks q k .1 l))
 
   -- and complete
+  pub place-complete : Inside os n (length os) → length os ≤ 4096 → (q : ℕ) → ((k : ℕ) → Live b ks q k → 0 < targetAt ls q k → Found ks ls os n q k) → linksRight ks ls (marked blank os n) (length os) q (reach b ks q) ≡ true
+  unfolding linksRight
+  place-complete inside s q r =
+      every-intro (reach b ks q) _ (λ k l. let m : Live b ks q k = reach-live b ks q k .0 l in found-right ks ls q k (omega arith) os n inside s (r k m))
+
+  -- so is that of all used places
+  pub links-sound : linksHold b ks ls os n ≡ true → Links b ks ls os n
+  unfolding linksHold
+  links-sound h q k (i, j, d) = place-sound q (rw d at (every-elim n _ h i j)) k
+
   pub links-complete : Inside os n (length os) → length os ≤ 4096 → Links b ks ls os n → linksHold b ks ls os n ≡ true
-  unfolding linksHold allRight linksRight
-  links-complete inside s r =
-      every-intro n _ (λ i j. let q : ℕ = placeAt os i in every-intro (reach b ks q) _ (λ k l.
-      let m : Live b ks q k = reach-live b ks q k .0 l in found-right ks ls q k (omega arith) os n inside s (r q k (i, j, refl) m)))
+  unfolding linksHold
+  links-complete inside s r = every-intro n _ (λ i j. place-complete inside s (placeAt os i) (λ k. r (placeAt os i) k (i, j, refl)))
 
   -- so live links lead to used places, as many rounds down as they should
   pub links-fall : Links b ks ls os n → Falls b ks ls os n
   links-fall r q k p u l e = go (r q k u (reach-live b ks q k .0 l) (omega arith))
     where
-      go : (x : ℕ) × Used os n x × (targetAt ls q k ≡ suc x) × Names ks ls q k x → Used os n p × (roundAt ks p + dist k ≡ roundAt ks q)
+      go : Found ks ls os n q k → Used os n p × (roundAt ks p + dist k ≡ roundAt ks q)
       go (x, v, f, m) = let y : x ≡ p = omega arith in (rw y at v, (rw y at m) .falls)

@@ -1,31 +1,34 @@
-// The stored links and words of the used places, tested one by one (dag/dag_round.rs).
+// Origin: dag/dag_round.rs. The stored links and words of a used place, tested.
 ghost use mathlib.Core.Path.{_≡_};
 ghost use mathlib.Core.Bool.{_&&_, _||_};
 ghost use Prim.Native.Nat.{ℕ, _+_, _*_, _-_, _/_, _%_, _<_, _≤_};
-ghost use lib.ListN.{length};
-ghost use Rattle.dag_links.specs.Links.{sameWords, fits, linkRight, linksRight, marked, allRight, linksHold};
-ghost use Rattle.dag_links.specs.Bare.{quiet, shut, emptyFrom, bareAt, bareHold};
-ghost use Rattle.dag_links.specs.Words.{namedRight, toldRight, wordsAt, wordsHold};
-ghost use Rattle.models.specs.Tables.{roundAt, Inside, dist};
+ghost use lib.ListN.{length, getD};
+ghost use Rattle.dag_links.specs.Links.{fits, linkRight, linksRight, marked};
+ghost use Rattle.dag_links.specs.Bare.{emptyFrom, bareAt};
+ghost use Rattle.dag_links.specs.Words.{namedRight, toldRight, toldFits, wordsAt};
+ghost use Rattle.dag_heights.specs.View.{reach};
+ghost use Rattle.models.specs.Tables.{roundAt, targetAt, Inside, dist};
+use dag_keys::author;
+use dag_keys::round_word;
 use laws::and;
 use laws::or;
+use models::dag_point::Resolved;
 use models::parts::Round;
 
-// Whether the four words of a from i are those of b from j.
-fn same_words(a: &[u64], i: usize, b: &[u64], j: usize) -> bool
-    requires { ⌜ (i + 4 ≤ length (now a)) × (j + 4 ≤ length (now b)) ⌝ }
-    ensures { λ r. ⌜ r ≡ sameWords (now (a .entry)) i (now (b .entry)) j ⌝ }
+// The target word of link k of place q: 0 for no link, else 1 + the place that it leads to.
+pub fn target(links: &[u64], q: usize, k: usize) -> u64
+    requires { ⌜ (q * 328 + 328 ≤ length (now links)) × (k < 64) ⌝ }
+    ensures { λ r. ⌜ r ≡ targetAt (now (links .entry)) q k ⌝ }
 {
-    if a[i + 0] != b[j + 0] {
-        return false;
-    }
-    if a[i + 1] != b[j + 1] {
-        return false;
-    }
-    if a[i + 2] != b[j + 2] {
-        return false;
-    }
-    a[i + 3] == b[j + 3]
+    links[q * 328 + 8 + k]
+}
+
+// Word f of place q, of the eight before its links.
+pub fn head_word(links: &[u64], q: usize, f: usize) -> u64
+    requires { ⌜ (q * 328 + 328 ≤ length (now links)) × (f < 8) ⌝ }
+    ensures { λ r. ⌜ r ≡ getD (now (links .entry)) (q * 328 + f) 0 ⌝ }
+{
+    links[q * 328 + f]
 }
 
 // Whether place p has the round, the author and the digest that link k of place q says.
@@ -34,14 +37,14 @@ fn fits_link(keys: &[u64], links: &[u64], q: usize, k: usize, p: usize) -> bool
     ensures { λ r. ⌜ r ≡ fits (now (keys .entry)) (now (links .entry)) q k p ⌝ }
 {
     let d = (1 + k / 32) as u64;
-    if keys[p * 8 + 0] != keys[q * 8 + 0] - d {
+    if round_word(keys, p) != round_word(keys, q) - d {
         return false;
     }
     let peer = (k % 32) as u64;
-    if keys[p * 8 + 1] != peer {
+    if author(keys, p) != peer {
         return false;
     }
-    same_words(keys, p * 8 + 2, links, q * 328 + 72 + k * 4)
+    dag_keys::same_digest(keys, p * 8 + 2, links, q * 328 + 72 + k * 4)
 }
 
 // Whether link k of place q is none, or leads to the used place that it says.
@@ -56,7 +59,7 @@ fn link_right(
     requires { ⌜ (places ≤ length (now marks)) × (length (now keys) ≡ places * 8) × (length (now links) ≡ places * 328) × (q < places) × (k < 64) × (dist k ≤ roundAt (now keys) q) ⌝ }
     ensures { λ r. ⌜ r ≡ linkRight (now (keys .entry)) (now (links .entry)) (now (marks .entry)) places q k ⌝ }
 {
-    let a = links[q * 328 + 8 + k];
+    let a = target(links, q, k);
     if a == 0 {
         return true;
     }
@@ -94,7 +97,7 @@ fn links_right(
 }
 
 // Marks the first n places of the order.
-fn mark(marks: &mut [bool], order: &[u64], n: usize)
+pub fn mark(marks: &mut [bool], order: &[u64], n: usize)
     requires { ⌜ (length (now order) ≤ length (now marks)) × (n ≤ length (now order)) ⌝ }
     requires { ⌜ Inside (now order) n (length (now order)) ⌝ }
     ensures { λ _. ⌜ now (marks .exit) ≡ marked (now (marks .entry)) (now (order .entry)) n ⌝ }
@@ -107,55 +110,20 @@ fn mark(marks: &mut [bool], order: &[u64], n: usize)
     }
 }
 
-// The live links of the first n places of the order.
-fn all_right(
+// Whether every live link of place q leads to the used place that it says.
+pub fn live_right(
     keys: &[u64],
     links: &[u64],
     marks: &[bool],
-    order: &[u64],
-    n: usize,
+    places: usize,
+    q: usize,
     bottom: Round,
 ) -> bool
-    requires { ⌜ (length (now order) ≤ length (now marks)) × (length (now keys) ≡ length (now order) * 8) × (length (now links) ≡ length (now order) * 328) × (n ≤ length (now order)) ⌝ }
-    requires { ⌜ Inside (now order) n (length (now order)) ⌝ }
-    ensures { λ r. ⌜ r ≡ allRight (bottom .0) (now (keys .entry)) (now (links .entry)) (now (marks .entry)) (now (order .entry)) n ⌝ }
+    requires { ⌜ (places ≤ length (now marks)) × (length (now keys) ≡ places * 8) × (length (now links) ≡ places * 328) × (q < places) × (bottom .0 ≤ 4000000000) ⌝ }
+    ensures { λ r. ⌜ r ≡ linksRight (now (keys .entry)) (now (links .entry)) (now (marks .entry)) places q (reach (bottom .0) (now (keys .entry)) q) ⌝ }
 {
-    let mut i: usize = 0;
-    while i < n {
-        let q = dag_places::place(order, n, i);
-        let m = dag_heights::live(keys, bottom, q);
-        if !links_right(keys, links, marks, order.len(), q, m) {
-            return false;
-        }
-        i += 1;
-    }
-    true
-}
-
-// Whether every live link leads to the used place that it says.
-pub fn links_hold(keys: &[u64], links: &[u64], order: &[u64], n: usize, bottom: Round) -> bool
-    requires { ⌜ (length (now order) ≤ 4096) × (length (now keys) ≡ length (now order) * 8) × (length (now links) ≡ length (now order) * 328) × (n ≤ length (now order)) ⌝ }
-    requires { ⌜ Inside (now order) n (length (now order)) ⌝ }
-    ensures { λ r. ⌜ r ≡ linksHold (bottom .0) (now (keys .entry)) (now (links .entry)) (now (order .entry)) n ⌝ }
-{
-    let mut marks = [false; 4096];
-    mark(&mut marks, order, n);
-    all_right(keys, links, &marks, order, n, bottom)
-}
-
-// The first link of place q that must not be: any, of an ill-formed or missing point; those into rounds below 0.
-fn first_shut(keys: &[u64], q: usize) -> usize
-    requires { ⌜ q * 8 + 8 ≤ length (now keys) ⌝ }
-    ensures { λ r. ⌜ (r ≡ shut (now (keys .entry)) q) × (r ≤ 64) ⌝ }
-{
-    let s = keys[q * 8 + 6];
-    if s == 0 {
-        return 64;
-    }
-    if 4 <= s {
-        return 0;
-    }
-    dag_heights::live(keys, Round(0), q)
+    let m = dag_heights::live(keys, bottom, q);
+    links_right(keys, links, marks, places, q, m)
 }
 
 // Whether place q has no link from m on.
@@ -165,7 +133,7 @@ fn empty_from(links: &[u64], q: usize, m: usize) -> bool
 {
     let mut k = m;
     while k < 64 {
-        if links[q * 328 + 8 + k] != 0 {
+        if target(links, q, k) != 0 {
             return false;
         }
         k += 1;
@@ -173,34 +141,22 @@ fn empty_from(links: &[u64], q: usize, m: usize) -> bool
     true
 }
 
-// Whether place q has no link that must not be, and no evidence if it is ill-formed or missing.
-fn bare_one(keys: &[u64], links: &[u64], q: usize) -> bool
+// Whether place q has no link and no evidence that must not be: any of an ill-formed or missing point, links into rounds below 0. A point
+// that is named only may hold anything.
+pub fn bare_one(keys: &[u64], links: &[u64], q: usize) -> bool
     requires { ⌜ (q * 8 + 8 ≤ length (now keys)) × (q * 328 + 328 ≤ length (now links)) ⌝ }
     ensures { λ r. ⌜ r ≡ bareAt (now (keys .entry)) (now (links .entry)) q ⌝ }
 {
-    let s = keys[q * 8 + 6];
-    let e = links[q * 328 + 0];
-    if !or(s < 4, e == 0) {
-        return false;
-    }
-    empty_from(links, q, first_shut(keys, q))
-}
-
-// Whether no used place has links or evidence that must not be.
-pub fn bare_hold(keys: &[u64], links: &[u64], order: &[u64], n: usize) -> bool
-    requires { ⌜ (length (now keys) ≡ length (now order) * 8) × (length (now links) ≡ length (now order) * 328) × (n ≤ length (now order)) ⌝ }
-    requires { ⌜ Inside (now order) n (length (now order)) ⌝ }
-    ensures { λ r. ⌜ r ≡ bareHold (now (keys .entry)) (now (links .entry)) (now (order .entry)) n ⌝ }
-{
-    let mut i: usize = 0;
-    while i < n {
-        let q = dag_places::place(order, n, i);
-        if !bare_one(keys, links, q) {
-            return false;
+    let case = dag_keys::case_at(keys, q);
+    match case {
+        Resolved::Case(p) => {
+            if p.has_info() {
+                return empty_from(links, q, dag_heights::live(keys, Round(0), q));
+            }
+            and(head_word(links, q, 0) == 0, empty_from(links, q, 0))
         }
-        i += 1;
+        Resolved::Nothing => true,
     }
-    true
 }
 
 // The status s, the marks m and the author a of a used place, with the certificate word c.
@@ -218,34 +174,31 @@ fn told_right(e: u64, r: u64, a: u64) -> bool
     and(e < 4294967296, and(r < 4294967296, a < 32))
 }
 
-// The words of place q.
-fn words_one(keys: &[u64], links: &[u64], certs: &[u64], q: usize) -> bool
+// The evidence and the top proof of place q, if its point is resolved.
+fn told_fits(keys: &[u64], links: &[u64], q: usize) -> bool
+    requires { ⌜ (q * 8 + 8 ≤ length (now keys)) × (q * 328 + 328 ≤ length (now links)) ⌝ }
+    ensures { λ r. ⌜ r ≡ toldFits (now (keys .entry)) (now (links .entry)) q ⌝ }
+{
+    let case = dag_keys::case_at(keys, q);
+    match case {
+        Resolved::Case(_) => {
+            let e = head_word(links, q, 0);
+            let r = head_word(links, q, 1);
+            let a = head_word(links, q, 2);
+            told_right(e, r, a)
+        }
+        Resolved::Nothing => true,
+    }
+}
+
+// Whether the words of place q are in their ranges.
+pub fn words_one(keys: &[u64], links: &[u64], certs: &[u64], q: usize) -> bool
     requires { ⌜ (q * 8 + 8 ≤ length (now keys)) × (q * 328 + 328 ≤ length (now links)) × (q < length (now certs)) ⌝ }
     ensures { λ r. ⌜ r ≡ wordsAt (now (keys .entry)) (now (links .entry)) (now (certs .entry)) q ⌝ }
 {
-    let s = keys[q * 8 + 6];
-    let m = keys[q * 8 + 7];
-    let a = keys[q * 8 + 1];
+    let s = dag_keys::status(keys, q);
+    let m = dag_keys::marks_at(keys, q);
+    let a = author(keys, q);
     let c = certs[q];
-    let e = links[q * 328 + 0];
-    let r = links[q * 328 + 1];
-    let p = links[q * 328 + 2];
-    and(named_right(s, m, a, c), or(s == 0, told_right(e, r, p)))
-}
-
-// Whether the words of every used place are in their ranges.
-pub fn words_hold(keys: &[u64], links: &[u64], certs: &[u64], order: &[u64], n: usize) -> bool
-    requires { ⌜ (length (now keys) ≡ length (now order) * 8) × (length (now links) ≡ length (now order) * 328) × (length (now certs) ≡ length (now order)) × (n ≤ length (now order)) ⌝ }
-    requires { ⌜ Inside (now order) n (length (now order)) ⌝ }
-    ensures { λ r. ⌜ r ≡ wordsHold (now (keys .entry)) (now (links .entry)) (now (certs .entry)) (now (order .entry)) n ⌝ }
-{
-    let mut i: usize = 0;
-    while i < n {
-        let q = dag_places::place(order, n, i);
-        if !words_one(keys, links, certs, q) {
-            return false;
-        }
-        i += 1;
-    }
-    true
+    and(named_right(s, m, a, c), told_fits(keys, links, q))
 }

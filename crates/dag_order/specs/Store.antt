@@ -1,50 +1,33 @@
 -- The words of a place written, and what stays as it was.
-use Prim.Native.Nat.{ℕ, zero, suc, _+_, _*_, _<_, _≤_}
+use Prim.Native.Nat.{ℕ, suc, _+_, _*_, _<_, _≤_}
 use mathlib.Core.Path.{_≡_, refl, sym, _∙_}
 use mathlib.Core.List.{List}
 use mathlib.Core.Bool.{false}
 use native.Mathlib.Omega.{arith}
-use native.Mathlib.Numerals.{add-one}
-use lib.ListN.{length, getD, set, length-set}
-use lib.Seq.{getD-set-same, getD-set-other}
-use Rattle.laws.specs.Test.{clash, sameOr}
+use lib.ListN.{length, getD}
+use Rattle.laws.specs.Test.{clash}
 use Rattle.laws.specs.Scan.{first-ext}
+use Rattle.dag_places.specs.Fill.{copied, filled-length, filled-in, filled-off}
 use Rattle.dag_keys.specs.Key.{key, key-same}
 use Rattle.dag_keys.specs.Sorted.{Sorted, keyAt, placeOf}
 use Rattle.dag_order.specs.Shift.{inserted, inserted-sorted}
 use Rattle.models.specs.Tables.{isUsed, used-is}
 
 -- t with the first f words of the id in place s
-unfoldable pub stored : List ℕ → List ℕ → ℕ → ℕ → List ℕ
-stored t id s zero = t
-stored t id s (suc f) = set (stored t id s f) (s * 8 + f) (getD id f 0)
-
--- one word more, in the loop of `store_id`
-pub stored-more : (t id : List ℕ) (s f : ℕ) → stored t id s (f + 1) ≡ set (stored t id s f) (s * 8 + f) (getD id f 0)
-unfolding stored
-stored-more t id s f = rw add-one refl
+abbrev pub stored : List ℕ → List ℕ → ℕ → ℕ → List ℕ
+stored t id s f = copied t (s * 8) id 0 f
 
 -- as long as t
 pub stored-length : (t id : List ℕ) (s f : ℕ) → length (stored t id s f) ≡ length t
-unfolding stored
-stored-length t id s zero = refl
-stored-length t id s (suc f) = length-set (stored t id s f) (s * 8 + f) (getD id f 0) ∙ stored-length t id s f
+stored-length t id s f = filled-length _ t (s * 8) f
 
 -- the words of other places stay
 pub stored-other : (t id : List ℕ) (s f i w : ℕ) → f ≤ 8 → w < 8 → (i ≡ s → ⊥) → getD (stored t id s f) (i * 8 + w) 0 ≡ getD t (i * 8 + w) 0
-unfolding stored
-stored-other t id s zero i w l b n = refl
-stored-other t id s (suc f) i w l b n =
-    getD-set-other (stored t id s f) (s * 8 + f) (i * 8 + w) (getD id f 0) 0 (λ e. n (omega arith)) ∙ stored-other t id s f i w (omega arith) b n
+stored-other t id s f i w l b n = filled-off _ t (s * 8) f (i * 8 + w) (λ k m e. n (omega arith))
 
 -- place s has the id's words
 pub stored-own : (t id : List ℕ) (s f w : ℕ) → s * 8 + 8 ≤ length t → f ≤ 8 → w < f → getD (stored t id s f) (s * 8 + w) 0 ≡ getD id w 0
-unfolding stored
-stored-own t id s zero w r l b = absurd (omega arith)
-stored-own t id s (suc f) w r l b =
-    sameOr w f
-    (λ e. rw e (getD-set-same (stored t id s f) (s * 8 + f) (getD id f 0) 0 (omega (arith, stored-length t id s f))))
-    (λ n. getD-set-other (stored t id s f) (s * 8 + f) (s * 8 + w) (getD id f 0) 0 (λ e. n (omega arith)) ∙ stored-own t id s f w r (omega arith) (omega arith))
+stored-own t id s f w r l b = let e : 0 + w ≡ w = omega arith in rw e at (filled-in (λ i. getD id (0 + i) 0) t (s * 8) f w (omega arith) b)
 
 -- other places keep their keys
 pub key-other : (t id : List ℕ) (s i : ℕ) → (i ≡ s → ⊥) → key (stored t id s 8) i ≡ key t i

@@ -59,19 +59,6 @@ pub fn free_place(order: &[u64], n: usize, places: usize) -> usize
     s
 }
 
-// Writes the id's words into place s.
-pub fn store_id(keys: &mut [u64], s: usize, id: &[u64])
-    requires { ⌜ (s * 8 + 8 ≤ length (now keys)) × (8 ≤ length (now id)) ⌝ }
-    ensures { λ _. ⌜ now (keys .exit) ≡ stored (now (keys .entry)) (now (id .entry)) s 8 ⌝ }
-{
-    let mut f: usize = 0;
-    while f < 8 {
-        let word = id[f];
-        keys[s * 8 + f] = word;
-        f += 1;
-    }
-}
-
 // Writes the id into place s, and puts s in where the id's key belongs.
 pub fn put(keys: &mut [u64], order: &mut [u64], n: usize, s: usize, id: &[u64])
     requires { ⌜ (s * 8 + 8 ≤ length (now keys)) × (8 ≤ length (now id)) × (n < length (now order)) × Inside (now order) n (length (now keys) / 8) ⌝ }
@@ -80,6 +67,6 @@ pub fn put(keys: &mut [u64], order: &mut [u64], n: usize, s: usize, id: &[u64])
     ensures order { λ _. ⌜ now (order .exit) ≡ inserted (now (order .entry)) n (placeOf (now (keys .entry)) (now (order .entry)) n (key (now (id .entry)) 0)) s ⌝ }
 {
     let at = dag_keys::seek(keys, order, n, id);
-    store_id(keys, s, id);
+    dag_places::copy_words(keys, s * 8, id, 0, 8);
     insert(order, n, at, s as u64);
 }

@@ -4,7 +4,8 @@ ghost use mathlib.Core.Path.{_≡_};
 ghost use Prim.Native.Nat.{_+_, _*_, _<_, _≤_};
 ghost use lib.ListN.{length, getD};
 ghost use Rattle.models.specs.Tables.{placeAt, Inside};
-ghost use Rattle.dag_places.specs.Zero.{zeroed, emptied};
+ghost use Rattle.dag_places.specs.Fill.{copied, zeroed};
+ghost use Rattle.dag_places.specs.Zero.{emptied};
 
 // The used place at position i of the order.
 pub fn place(order: &[u64], n: usize, i: usize) -> usize
@@ -14,6 +15,19 @@ pub fn place(order: &[u64], n: usize, i: usize) -> usize
     ensures { λ r. ⌜ r < length (now (order .entry)) ⌝ }
 {
     laws::slot(order[i])
+}
+
+// Writes n words of `words`, from `from` on, into t at `at`.
+pub fn copy_words(t: &mut [u64], at: usize, words: &[u64], from: usize, n: usize)
+    requires { ⌜ (at + n ≤ length (now t)) × (from + n ≤ length (now words)) ⌝ }
+    ensures { λ _. ⌜ now (t .exit) ≡ copied (now (t .entry)) at (now (words .entry)) from n ⌝ }
+{
+    let mut i: usize = 0;
+    while i < n {
+        let word = words[from + i];
+        t[at + i] = word;
+        i += 1;
+    }
 }
 
 // Zeroes n words from `from` on.

@@ -2,7 +2,8 @@
 use Prim.Native.Nat.{ℕ, _≤_}
 use mathlib.Core.Path.{_≡_, refl, sym, _∙_, ap, subst}
 use mathlib.Core.List.{List}
-use mathlib.Core.Bool.{true, _&&_}
+use mathlib.Core.Logic.{_↔_}
+use mathlib.Core.Bool.{Bool, true, _&&_}
 use native.Mathlib.Omega.{arith}
 use lib.Dec.{eqb, leb, ltb}
 use lib.ListN.{length}
@@ -17,16 +18,16 @@ use Rattle.models.specs.Tables.{roundAt, authorAt, statusAt, placeAt, Used}
 use Rattle.dag_keys.specs.Sorted.{isInside, isSorted, inside-is, sorted-is}
 use Rattle.dag_few.specs.Exact.{Window, few-sound, few-complete}
 use Rattle.dag_heights.specs.Exact.{heights-sound, heights-complete}
-use Rattle.dag_links.specs.Links.{linksHold}
-use Rattle.dag_links.specs.Named.{links-sound, links-complete, links-fall}
-use Rattle.dag_links.specs.Bare.{bareHold}
-use Rattle.dag_links.specs.Words.{wordsHold}
-use Rattle.dag_links.specs.Ruled.{Words, bare-exact, words-exact}
-use Rattle.dag_ids.specs.Ids.{idHolds, idAtHolds, idsHold}
+use Rattle.dag_heights.specs.View.{reach}
+use Rattle.dag_links.specs.Links.{linksRight, marked, blank}
+use Rattle.dag_links.specs.Named.{Links, place-sound, place-complete, links-fall}
+use Rattle.dag_links.specs.Bare.{bareAt}
+use Rattle.dag_links.specs.Ruled.{Bare, Words, every-used, bare-exact, words-exact}
+use Rattle.dag_ids.specs.Ids.{idHolds, idAtHolds}
 use Rattle.dag_state.specs.View.{phaseOf, confOf, roundsOf}
 use Rattle.dag_state.specs.Numbers.{confHolds, roundsHold, conf-is, rounds-is}
 use Rattle.dag_state.specs.declared.state.State.{State}
-use Rattle.dag_test.specs.Tested.{shape, stateHolds, orderHolds, pointsHold, tested, range-says, places-says}
+use Rattle.dag_test.specs.Tested.{shape, stateHolds, orderHolds, placeOk, okAt, eachOk, usedOk, pointsHold, tested, range-says, places-says}
 use Rattle.dag_test.specs.View.{view, regular, wordsFit}
 use Rattle.dag_test.specs.Regular.{regular-elim, regular-intro}
 use Rattle.dag_test.specs.Whole.{Facts, places-is, sized, facts-wf, wf-facts}
@@ -57,40 +58,60 @@ module _ (s : State) (ks ls cs os : List ℕ) where
       let high : roundAt ks q ≤ s .top .0 = leb-true _ _ (and-l (leb (roundAt ks q) (s .top .0)) _ b) in
       (low, omega (arith, low, high, r .0, r .2), ltb-true _ _ (and-l (ltb (authorAt ks q) 32) _ c))
 
+  -- the marks of the used places
+  abbrev ms : List Bool
+  ms = marked blank os (s .count)
+
+  -- what the test of one place says, and back
+  abbrev Ok : ℕ → Type 0
+  Ok q = (idAtHolds s ks q ≡ true) × (linksRight ks ls ms (length os) q (reach (s .bottom .0) ks q) ≡ true) × Bare ks ls q × Words ks ls cs q
+
+  place-exact : (q : ℕ) → (okAt s ks ls cs ms (length os) q ≡ true) ↔ Ok q
+  unfolding placeOk
+  place-exact q = (
+    (λ h. let x = and-r (idAtHolds s ks q) _ h in
+        let y = and-r (linksRight ks ls ms (length os) q (reach (s .bottom .0) ks q)) _ x in
+        let w = words-exact ks ls cs q .0 (and-r (bareAt ks ls q) _ y) in
+        (and-l (idAtHolds s ks q) _ h, and-l (linksRight ks ls ms (length os) q (reach (s .bottom .0) ks q)) _ x, bare-exact ks ls q (w .named .status) .0 (and-l (bareAt ks ls q) _ y), w)),
+    λ (i, l, e, w). both i (both l (both (bare-exact ks ls q (w .named .status) .1 e) (words-exact ks ls cs q .1 w))),
+  )
+
+  used-exact : (usedOk s ks ls cs os ≡ true) ↔ ((q : ℕ) → Used os (s .count) q → Ok q)
+  unfolding usedOk eachOk
+  used-exact = every-used os (s .count) (okAt s ks ls cs ms (length os)) Ok place-exact
+
   -- the tests say the facts
   pub tests-facts : placesOk (length os) ≡ true → roundsHold s ≡ true → orderHolds s ks os ≡ true → pointsHold s ks ls cs os ≡ true → Facts s ks ls cs os
-  unfolding orderHolds pointsHold idsHold
+  unfolding orderHolds pointsHold
   tests-facts po ro o p =
       let inside = inside-is os (s .count) (length os) .0 (and-l (isInside os (s .count) (length os)) _ o) in
       let o2 = and-r (isInside os (s .count) (length os)) _ o in
-      let o3 = and-r (isSorted ks os (s .count)) _ o2 in
-      let p2 = and-r (linksHold (s .bottom .0) ks ls os (s .count)) _ p in
-      let p3 = and-r (bareHold ks ls os (s .count)) _ p2 in
-      let right = links-sound (s .bottom .0) ks ls os (s .count) (and-l (linksHold (s .bottom .0) ks ls os (s .count)) _ p) in
-      let ids : (q : ℕ) → Used os (s .count) q → idAtHolds s ks q ≡ true = λ q (i, l, e). subst (λ x. idAtHolds s ks x ≡ true) e (every-elim (s .count) (λ i. idAtHolds s ks (placeAt os i)) (and-l (idsHold s ks os (s .count)) _ o3) i l) in
+      let each = used-exact .0 (and-l (usedOk s ks ls cs os) _ p) in
+      let right : Links (s .bottom .0) ks ls os (s .count) = λ q k u. place-sound (s .bottom .0) ks ls os (s .count) q (each q u .1) k in
+      let ids : (q : ℕ) → Used os (s .count) q → idAtHolds s ks q ≡ true = λ q u. each q u .0 in
       record {
         inside = inside;
         sorted = sorted-is ks os (s .count) .0 (and-l (isSorted ks os (s .count)) _ o2);
         right = right;
-        words = words-exact ks ls cs os (s .count) .0 (and-l (wordsHold ks ls cs os (s .count)) _ p3);
-        bare = bare-exact ks ls os (s .count) .0 (and-l (bareHold ks ls os (s .count)) _ p2);
+        words = λ q u. each q u .3;
+        bare = λ q u. each q u .2;
         ids = ids;
-        few = few-sound (s .bottom .0) ks os (s .count) (window-of ro ids) (and-r (idsHold s ks os (s .count)) _ o3);
-        heights = heights-sound (s .bottom .0) (s .«history_rounds») ks ls cs os (s .count) (places-says _ po) inside (links-fall (s .bottom .0) ks ls os (s .count) right) (and-r (wordsHold ks ls cs os (s .count)) _ p3);
+        few = few-sound (s .bottom .0) ks os (s .count) (window-of ro ids) (and-r (isSorted ks os (s .count)) _ o2);
+        heights = heights-sound (s .bottom .0) (s .«history_rounds») ks ls cs os (s .count) (places-says _ po) inside (links-fall (s .bottom .0) ks ls os (s .count) right) (and-r (usedOk s ks ls cs os) _ p);
       }
 
   -- and the facts pass the tests
   pub facts-order : roundsHold s ≡ true → Facts s ks ls cs os → orderHolds s ks os ≡ true
-  unfolding orderHolds idsHold
+  unfolding orderHolds
   facts-order ro f =
-      both (inside-is os (s .count) (length os) .1 (f .inside)) (both (sorted-is ks os (s .count) .1 (f .sorted))
-      (both (every-intro (s .count) _ (λ i l. f .ids (placeAt os i) (i, l, refl))) (few-complete (s .bottom .0) ks os (s .count) (window-of ro (f .ids)) (f .few))))
+      both (inside-is os (s .count) (length os) .1 (f .inside)) (both (sorted-is ks os (s .count) .1 (f .sorted)) (few-complete (s .bottom .0) ks os (s .count) (window-of ro (f .ids)) (f .few)))
 
   pub facts-points : placesOk (length os) ≡ true → Facts s ks ls cs os → pointsHold s ks ls cs os ≡ true
   unfolding pointsHold
   facts-points po f =
-      both (links-complete (s .bottom .0) ks ls os (s .count) (f .inside) (places-says _ po) (f .right)) (both (bare-exact ks ls os (s .count) .1 (f .bare)) (both (words-exact ks ls cs os (s .count) .1 (f .words))
-      (heights-complete (s .bottom .0) (s .«history_rounds») ks ls cs os (s .count) (places-says _ po) (f .inside) (links-fall (s .bottom .0) ks ls os (s .count) (f .right)) (f .heights))))
+      both
+      (used-exact .1 (λ q u. (f .ids q u, place-complete (s .bottom .0) ks ls os (s .count) (f .inside) (places-says _ po) q (λ k. f .right q k u), f .bare q u, f .words q u)))
+      (heights-complete (s .bottom .0) (s .«history_rounds») ks ls cs os (s .count) (places-says _ po) (f .inside) (links-fall (s .bottom .0) ks ls os (s .count) (f .right)) (f .heights))
 
   fit-of : (q : ℕ) → Words ks ls cs q → wordsFit ks ls cs q ≡ true
   unfolding wordsFit

@@ -17,33 +17,9 @@ use Rattle.dag_keys.specs.Key.{key}
 use Rattle.dag_keys.specs.Sorted.{Sorted, sorted-key}
 use Rattle.dag_heights.specs.View.{Live, reach-live}
 use Rattle.dag_heights.specs.Exact.{Leads}
-use Rattle.dag_links.specs.Named.{SameWords, Names, Links}
+use Rattle.dag_links.specs.Named.{Names, Links}
 use Rattle.dag_state.specs.View.{pointAt, toldAt, refsFrom}
 use Rattle.dag_test.specs.Refs.{linkAt, links-elim, links-intro}
-
--- four equal words are an equal list
-words-of : (a : List ℕ) (i : ℕ) (b : List ℕ) (j : ℕ) → SameWords a i b j → words a i 4 ≡ words b j 4
-unfolding words
-words-of a i b j w =
-    ap₂ _∷_ (at i j 0 (w .word0) (omega arith) (omega arith))
-    (ap₂ _∷_ (at (i + 1) (j + 1) 1 (w .word1) refl refl)
-    (ap₂ _∷_ (at (i + 1 + 1) (j + 1 + 1) 2 (w .word2) (omega arith) (omega arith))
-    (ap₂ _∷_ (at (i + 1 + 1 + 1) (j + 1 + 1 + 1) 3 (w .word3) (omega arith) (omega arith)) refl)))
-  where
-    at : (x y c : ℕ) → getD a (i + c) 0 ≡ getD b (j + c) 0 → x ≡ i + c → y ≡ j + c → getD a x 0 ≡ getD b y 0
-    at x y c h e f = rw (e, f) h
-
-words-back : (a : List ℕ) (i : ℕ) (b : List ℕ) (j : ℕ) → words a i 4 ≡ words b j 4 → SameWords a i b j
-unfolding words
-words-back a i b j e = record {
-  word0 = at i j 0 (ap (λ l. getD l 0 0) e) (omega arith) (omega arith);
-  word1 = ap (λ l. getD l 1 0) e;
-  word2 = at (i + 1 + 1) (j + 1 + 1) 2 (ap (λ l. getD l 2 0) e) (omega arith) (omega arith);
-  word3 = at (i + 1 + 1 + 1) (j + 1 + 1 + 1) 3 (ap (λ l. getD l 3 0) e) (omega arith) (omega arith);
-}
-  where
-    at : (x y c : ℕ) → getD a x 0 ≡ getD b y 0 → x ≡ i + c → y ≡ j + c → getD a (i + c) 0 ≡ getD b (j + c) 0
-    at x y c h e f = rw (e, f) at h
 
 -- a used place is resolved by its status, and has the links of its words then
 module _ (ks ls cs : List ℕ) (p : ℕ) where
@@ -68,20 +44,19 @@ module _ (b n : ℕ) (ks ls cs os : List ℕ) (sorted : Sorted ks os n) (right :
 
   pub names-fits : (p k q : ℕ) → Names ks ls p k q → fits (roundAt ks p) (idOf q) (linkAt ls p k) ≡ true
   unfolding fits
-  names-fits p k q m = both (eq-eqb _ _ (m .falls)) (both (eq-eqb _ _ (m .author)) (eq-eqb _ _ (digest-words ks ls (q * 8 + 2) (p * 328 + 72 + k * 4) fk fl .0 (words-of _ _ _ _ (m .digest)))))
+  names-fits p k q m = both (eq-eqb _ _ (m .falls)) (both (eq-eqb _ _ (m .author)) (eq-eqb _ _ (m .digest)))
 
   fits-names : (p k q : ℕ) → fits (roundAt ks p) (idOf q) (linkAt ls p k) ≡ true → Names ks ls p k q
   unfolding fits
   fits-names p k q h = record {
     falls = eqb-true _ _ (and-l _ _ h);
     author = eqb-true _ _ (search (and-l, and-r, h));
-    digest = words-back _ _ _ _ (digest-words ks ls (q * 8 + 2) (p * 328 + 72 + k * 4) fk fl .1 (eqb-true _ _ (search (and-l, and-r, h))));
+    digest = eqb-true _ _ (search (and-l, and-r, h));
   }
 
   one-target : (p k q x : ℕ) → Used os n q → Used os n x → Names ks ls p k q → Names ks ls p k x → q ≡ x
   one-target p k q x u v m l =
-      one-place q x u v (omega (arith, m .falls, l .falls))
-      (digest-words ks ls _ _ fk fl .0 (words-of _ _ _ _ (m .digest)) ∙ sym (digest-words ks ls _ _ fk fl .0 (words-of _ _ _ _ (l .digest))))
+      one-place q x u v (omega (arith, m .falls, l .falls)) (m .digest ∙ sym (l .digest))
 
   pub edge-elim : (p q : ℕ) → Used os n p → Used os n q → linksTo (pointAt ks ls cs p) (pointAt ks ls cs q) ≡ true → Leads b ks ls os n p q
   unfolding linksTo pointAt

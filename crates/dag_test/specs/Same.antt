@@ -1,15 +1,14 @@
 -- What is read of a place depends on its words alone.
-use Prim.Native.Nat.{ℕ, zero, suc, _+_, _*_, _^_, _<_, _≤_}
+use Prim.Native.Nat.{ℕ, zero, suc, _+_, _*_, _<_, _≤_}
 use mathlib.Core.Path.{_≡_, refl, ap, sym, _∙_}
 use mathlib.Core.List.{List, _∷_}
 use mathlib.Core.Bool.{cond}
 use native.Mathlib.Omega.{arith}
 use lib.Dec.{ltb}
 use lib.ListN.{getD}
-use Rattle.laws.specs.Bytes.{number}
 use Rattle.models.specs.Digest.{digestAt}
 use Rattle.models.specs.Tables.{targetAt}
-use Rattle.dag_keys.specs.Key.{words-same}
+use Rattle.dag_keys.specs.Digest.{digest-alike}
 use Rattle.dag_links.specs.Links.{digAt}
 use Rattle.dag_links.specs.Named.{Names}
 use Rattle.dag_state.specs.View.{refsFrom, toldAt, pointAt}
@@ -26,8 +25,7 @@ module _ (t u : List ℕ) (w q : ℕ) (h : Same t w q u) where
 
   -- the digest from p on
   same-digest : (p j : ℕ) → p ≡ q * w + j → j + 4 ≤ w → digestAt u p ≡ digestAt t p
-  unfolding digestAt
-  same-digest p j e l = ap (number (2 ^ 64) 0) (words-same u t p p 4 (λ i m. same-at (p + i) (j + i) (omega arith) (omega arith)))
+  same-digest p j e l = digest-alike u t p p (λ i m. same-at (p + i) (j + i) (omega arith) (omega arith))
 
 -- links that are the same at the place q
 module _ (ls ls2 : List ℕ) (q : ℕ) (hl : Same ls 328 q ls2) where
@@ -35,9 +33,9 @@ module _ (ls ls2 : List ℕ) (q : ℕ) (hl : Same ls 328 q ls2) where
   pub same-target : (k : ℕ) → k < 64 → targetAt ls2 q k ≡ targetAt ls q k
   same-target k l = same-at ls ls2 328 q hl (q * 328 + 8 + k) (8 + k) (omega arith) (omega arith)
 
-  -- a word of its digest
-  same-dig : (k i : ℕ) → k < 64 → i < 4 → getD ls2 (digAt q k + i) 0 ≡ getD ls (digAt q k + i) 0
-  same-dig k i l m = same-at ls ls2 328 q hl (digAt q k + i) (72 + k * 4 + i) (omega arith) (omega arith)
+  -- its digest
+  pub same-link : (k : ℕ) → k < 64 → digestAt ls2 (digAt q k) ≡ digestAt ls (digAt q k)
+  same-link k l = same-digest ls ls2 328 q hl (digAt q k) (72 + k * 4) (omega arith) (omega arith)
 
   -- the links of a kind
   same-refs : (b k m : ℕ) → b + k + m ≤ 64 → refsFrom ls2 q b k m ≡ refsFrom ls q b k m
@@ -46,7 +44,7 @@ module _ (ls ls2 : List ℕ) (q : ℕ) (hl : Same ls 328 q ls2) where
   same-refs b k (suc m) l =
       let rest = same-refs b (k + 1) m (omega arith) in
       let target = same-target (b + k) (omega arith) in
-      let digest = same-digest ls ls2 328 q hl (digAt q (b + k)) (72 + (b + k) * 4) (omega arith) (omega arith) in
+      let digest = same-link (b + k) (omega arith) in
       λ i. cond (ltb 0 (target i)) (record { peer = k; digest = digest i } ∷ rest i) (rest i)
 
   -- what a link names, with keys that are the same at both of its ends
@@ -54,11 +52,8 @@ module _ (ls ls2 : List ℕ) (q : ℕ) (hl : Same ls 328 q ls2) where
   same-names ks ks2 k p hq hp l m = record {
     falls = omega (arith, hq 0 (omega arith), hp 0 (omega arith), m .falls);
     author = hp 1 (omega arith) ∙ m .author;
-    digest = record { word0 = dig 0 (omega arith) (m .digest .word0); word1 = dig 1 (omega arith) (m .digest .word1); word2 = dig 2 (omega arith) (m .digest .word2); word3 = dig 3 (omega arith) (m .digest .word3) };
+    digest = same-digest ks ks2 8 p hp (p * 8 + 2) 2 refl (omega arith) ∙ (m .digest ∙ sym (same-link k l));
   }
-    where
-      dig : (i : ℕ) → i < 4 → getD ks (p * 8 + 2 + i) 0 ≡ getD ls (digAt q k + i) 0 → getD ks2 (p * 8 + 2 + i) 0 ≡ getD ls2 (digAt q k + i) 0
-      dig i x e = same-at ks ks2 8 p hp (p * 8 + 2 + i) (2 + i) (omega arith) (omega arith) ∙ (e ∙ sym (same-dig k i l x))
 
 -- tables that are the same at the place q
 module _ (ks ls cs ks2 ls2 cs2 : List ℕ) (q : ℕ) (hk : Same ks 8 q ks2) (hl : Same ls 328 q ls2) (hc : Same cs 1 q cs2) where

@@ -1,6 +1,6 @@
 -- The whole test of the lent tables (01: 'Forms of the Rust', first point).
 use Prim.Native.Nat.{ℕ, _+_, _-_, _*_, _/_, _%_, _<_, _≤_}
-use mathlib.Core.Path.{_≡_, refl, sym, _∙_}
+use mathlib.Core.Path.{_≡_, refl, sym, _∙_, ap, ap₂}
 use mathlib.Core.List.{List}
 use mathlib.Core.Bool.{Bool, true, false, not, _&&_}
 use native.Mathlib.Omega.{arith}
@@ -10,15 +10,18 @@ use lib.Dec.{eqb, leb, ltb}
 use borrow.Author.Tests.{not-true, not-false, eqb-true, leb-true, ltb-true, eq-eqb, ne-eqb, le-ltb, lt-ltb}
 use Rattle.laws.specs.Test.{sameOr, and-l, and-r, and-no, and-yes}
 use Rattle.spec.specs.Rules.{placesOk}
-use Rattle.models.specs.Tables.{Inside}
+use Rattle.laws.specs.Scan.{every}
+use Rattle.models.specs.Tables.{roundAt, authorAt, placeAt, Inside}
 use Rattle.dag_state.specs.declared.state.State.{State}
 use Rattle.dag_state.specs.Numbers.{confHolds, rangeHolds, usedHold, roundsHold}
 use Rattle.dag_keys.specs.Sorted.{isInside, inside-is, isSorted}
-use Rattle.dag_ids.specs.Ids.{idsHold}
+use Rattle.dag_state.specs.View.{recordOf}
+use Rattle.dag_ids.specs.Ids.{idHolds}
 use Rattle.dag_few.specs.Few.{fewHold}
-use Rattle.dag_links.specs.Links.{linksHold}
-use Rattle.dag_links.specs.Bare.{bareHold}
-use Rattle.dag_links.specs.Words.{wordsHold}
+use Rattle.dag_links.specs.Links.{linksRight, marked, blank}
+use Rattle.dag_links.specs.Bare.{bareAt}
+use Rattle.dag_links.specs.Words.{wordsAt}
+use Rattle.dag_heights.specs.View.{reach}
 use Rattle.dag_heights.specs.Push.{heightsHold}
 
 -- the tables have room for the same number of places
@@ -29,13 +32,30 @@ shape ks ls cs os = eqb (length ks) (length os * 8) && (eqb (length ls) (length 
 unfoldable pub stateHolds : State → ℕ → Bool
 stateHolds s n = eqb (s .phase) 1 && (placesOk n && (confHolds (s .«history_rounds») (s .«deduplicate_rounds») && (roundsHold s && (leb (s .count) n && leb (s .memory .count) 128))))
 
--- the used places, their order and their ids
+-- the used places and their order
 unfoldable pub orderHolds : State → List ℕ → List ℕ → Bool
-orderHolds s ks os = isInside os (s .count) (length os) && (isSorted ks os (s .count) && (idsHold s ks os (s .count) && fewHold ks os (s .count)))
+orderHolds s ks os = isInside os (s .count) (length os) && (isSorted ks os (s .count) && fewHold ks os (s .count))
+
+-- what the place q holds: its id in the rounds from b to t with the peers of its round, its links by the marks ms of the used places, its
+-- words
+unfoldable pub placeOk : ℕ → ℕ → ℕ → List ℕ → List ℕ → List ℕ → List Bool → ℕ → ℕ → Bool
+placeOk b t peers ks ls cs ms places q =
+    idHolds (roundAt ks q) (authorAt ks q) b t peers && (linksRight ks ls ms places q (reach b ks q) && (bareAt ks ls q && wordsAt ks ls cs q))
+
+-- with the rounds of the state
+abbrev pub okAt : State → List ℕ → List ℕ → List ℕ → List Bool → ℕ → ℕ → Bool
+okAt s ks ls cs ms places q = placeOk (s .bottom .0) (s .top .0) (recordOf (s .rounds) (roundAt ks q) .peers) ks ls cs ms places q
+
+-- of every used place
+unfoldable pub eachOk : State → List ℕ → List ℕ → List ℕ → List Bool → List ℕ → Bool
+eachOk s ks ls cs ms os = every (s .count) (λ i. okAt s ks ls cs ms (length os) (placeAt os i))
+
+unfoldable pub usedOk : State → List ℕ → List ℕ → List ℕ → List ℕ → Bool
+usedOk s ks ls cs os = eachOk s ks ls cs (marked blank os (s .count)) os
 
 -- what the used places hold
 unfoldable pub pointsHold : State → List ℕ → List ℕ → List ℕ → List ℕ → Bool
-pointsHold s ks ls cs os = linksHold (s .bottom .0) ks ls os (s .count) && (bareHold ks ls os (s .count) && (wordsHold ks ls cs os (s .count) && heightsHold (s .bottom .0) (s .«history_rounds») ks ls cs os (s .count)))
+pointsHold s ks ls cs os = usedOk s ks ls cs os && heightsHold (s .bottom .0) (s .«history_rounds») ks ls cs os (s .count)
 
 unfoldable pub tested : State → List ℕ → List ℕ → List ℕ → List ℕ → Bool
 tested s ks ls cs os = shape ks ls cs os && (stateHolds s (length os) && (orderHolds s ks os && pointsHold s ks ls cs os))
@@ -57,6 +77,19 @@ test-yes a b c e f = sym (and-yes e (sym f))
 -- the test passed
 pub passed : (a r : Bool) → r ≡ a → not r ≡ false → a ≡ true
 passed a r e h = sym e ∙ not-false r h
+
+-- the marks of the used places
+pub used-by : (s : State) (ks ls cs os : List ℕ) (ms : List Bool) (r : Bool) → ms ≡ marked blank os (s .count) → r ≡ eachOk s ks ls cs ms os → r ≡ usedOk s ks ls cs os
+unfolding usedOk
+used-by s ks ls cs os ms r e h = h ∙ ap (λ (x : List Bool). eachOk s ks ls cs x os) e
+
+-- the place at position i, which is q, by the round r that is read there
+pub ok-by : (s : State) (ks ls cs os : List ℕ) (ms : List Bool) (places i q r : ℕ) (b : Bool) → q ≡ placeAt os i → r ≡ roundAt ks q → b ≡ placeOk (s .bottom .0) (s .top .0) (recordOf (s .rounds) r .peers) ks ls cs ms places q → b ≡ okAt s ks ls cs ms places (placeAt os i)
+ok-by s ks ls cs os ms places i q r b e f h = h ∙ (ap (λ (x : ℕ). placeOk (s .bottom .0) (s .top .0) (recordOf (s .rounds) x .peers) ks ls cs ms places q) f ∙ ap (okAt s ks ls cs ms places) e)
+
+-- the round and the author that are read
+pub id-by : (r a x y b t p : ℕ) (i : Bool) → r ≡ x → a ≡ y → i ≡ idHolds r a b t p → i ≡ idHolds x y b t p
+id-by r a x y b t p i e f h = h ∙ ap₂ (λ (u v : ℕ). idHolds u v b t p) e f
 
 -- ---- a product compared without being made
 

@@ -1,6 +1,6 @@
 // Origin: none in the Rust, which has no tables to test. Whether the tables count as started: document 01, 'Forms of the Rust', first point.
 ghost use mathlib.Core.Path.{_≡_};
-ghost use Prim.Native.Nat.{_*_, _≤_};
+ghost use Prim.Native.Nat.{_*_, _<_, _≤_};
 ghost use lib.ListN.{length};
 ghost use lib.Dec.{eqb};
 ghost use Rattle.models.specs.Tables.{Inside};
@@ -8,8 +8,9 @@ ghost use Rattle.spec.specs.Rules.{placesOk};
 ghost use Rattle.dag_state.specs.Numbers.{roundsHold};
 ghost use Rattle.spec.specs.Rules.{counts};
 ghost use Rattle.dag_test.specs.View.{view};
-ghost use Rattle.dag_test.specs.Tested.{shape, stateHolds, orderHolds, pointsHold, tested};
+ghost use Rattle.dag_test.specs.Tested.{shape, stateHolds, orderHolds, placeOk, eachOk, usedOk, pointsHold, tested};
 use dag_state::state::State;
+use models::parts::Round;
 
 // Whether a is n * 8. The product may not fit, so a is divided.
 fn key_words(a: usize, n: usize) -> bool
@@ -94,8 +95,8 @@ fn state_holds(s: State, places: usize) -> bool
     memory.count <= 128
 }
 
-// Whether the order holds places, sorted by their keys, with ids that may stand, at most four to an author and a round. That it holds
-// places is tested first: the other tests read at them.
+// Whether the order holds places, sorted by their keys, at most four to an author and a round. That it holds places is tested first: the
+// other tests read at them.
 fn order_holds(s: State, keys: &[u64], order: &[u64]) -> bool
     requires { ⌜ (length (now keys) ≡ length (now order) * 8) × (s .count ≤ length (now order)) ⌝ }
     ensures { λ r. ⌜ r ≡ orderHolds s (now (keys .entry)) (now (order .entry)) ⌝ }
@@ -107,31 +108,92 @@ fn order_holds(s: State, keys: &[u64], order: &[u64]) -> bool
     if !dag_keys::sorted(keys, order, n) {
         return false;
     }
-    if !dag_ids::ids_hold(s, keys, order, n) {
-        return false;
-    }
     dag_few::few_hold(keys, order, n)
 }
 
-// Whether the links, the words and the heights of the used places hold.
+// Whether place q holds what a used place may hold: its id, its links and the words beside them. marks: the used places; peers: those of
+// its round.
+fn place_ok(
+    keys: &[u64],
+    links: &[u64],
+    certs: &[u64],
+    marks: &[bool],
+    places: usize,
+    q: usize,
+    bottom: Round,
+    top: Round,
+    peers: u32,
+) -> bool
+    requires { ⌜ (places ≤ length (now marks)) × (length (now keys) ≡ places * 8) × (length (now links) ≡ places * 328) × (length (now certs) ≡ places) × (q < places) × (bottom .0 ≤ 4000000000) ⌝ }
+    ensures { λ r. ⌜ r ≡ placeOk (bottom .0) (top .0) peers (now (keys .entry)) (now (links .entry)) (now (certs .entry)) (now (marks .entry)) places q ⌝ }
+{
+    let round = dag_keys::round_word(keys, q);
+    let author = dag_keys::author(keys, q);
+    if !dag_ids::id_holds(round, author, bottom.0, top.0, peers) {
+        return false;
+    }
+    if !dag_links::live_right(keys, links, marks, places, q, bottom) {
+        return false;
+    }
+    if !dag_links::bare_one(keys, links, q) {
+        return false;
+    }
+    dag_links::words_one(keys, links, certs, q)
+}
+
+// Whether every used place does.
+fn each_ok(
+    s: State,
+    keys: &[u64],
+    links: &[u64],
+    certs: &[u64],
+    marks: &[bool],
+    order: &[u64],
+) -> bool
+    requires { ⌜ (length (now order) ≤ length (now marks)) × (length (now keys) ≡ length (now order) * 8) × (length (now links) ≡ length (now order) * 328) × (length (now certs) ≡ length (now order)) × (s .count ≤ length (now order)) × (s .bottom .0 ≤ 4000000000) ⌝ }
+    requires { ⌜ Inside (now order) (s .count) (length (now order)) ⌝ }
+    ensures { λ r. ⌜ r ≡ eachOk s (now (keys .entry)) (now (links .entry)) (now (certs .entry)) (now (marks .entry)) (now (order .entry)) ⌝ }
+{
+    let n = s.count;
+    let places = order.len();
+    let bottom = s.bottom;
+    let top = s.top;
+    let mut i: usize = 0;
+    while i < n {
+        let q = dag_places::place(order, n, i);
+        let round = dag_keys::round_word(keys, q);
+        let x = s.rounds[(round % 512) as usize];
+        if !place_ok(keys, links, certs, marks, places, q, bottom, top, x.peers) {
+            return false;
+        }
+        i += 1;
+    }
+    true
+}
+
+// The same, with the used places marked here.
+fn used_ok(s: State, keys: &[u64], links: &[u64], certs: &[u64], order: &[u64]) -> bool
+    requires { ⌜ (length (now order) ≤ 4096) × (length (now keys) ≡ length (now order) * 8) × (length (now links) ≡ length (now order) * 328) × (length (now certs) ≡ length (now order)) × (s .count ≤ length (now order)) × (s .bottom .0 ≤ 4000000000) ⌝ }
+    requires { ⌜ Inside (now order) (s .count) (length (now order)) ⌝ }
+    ensures { λ r. ⌜ r ≡ usedOk s (now (keys .entry)) (now (links .entry)) (now (certs .entry)) (now (order .entry)) ⌝ }
+{
+    let mut marks = [false; 4096];
+    dag_links::mark(&mut marks, order, s.count);
+    each_ok(s, keys, links, certs, &marks, order)
+}
+
+// Whether the used places hold what they may hold, and their heights are right.
 fn points_hold(s: State, keys: &[u64], links: &[u64], certs: &[u64], order: &[u64]) -> bool
     requires { ⌜ (length (now order) ≤ 4096) × (length (now keys) ≡ length (now order) * 8) × (length (now links) ≡ length (now order) * 328) × (length (now certs) ≡ length (now order)) × (s .count ≤ length (now order)) × (s .bottom .0 ≤ 4000000000) × (s .«history_rounds» ≤ 255) ⌝ }
     requires { ⌜ Inside (now order) (s .count) (length (now order)) ⌝ }
     ensures { λ r. ⌜ r ≡ pointsHold s (now (keys .entry)) (now (links .entry)) (now (certs .entry)) (now (order .entry)) ⌝ }
 {
-    let n = s.count;
+    if !used_ok(s, keys, links, certs, order) {
+        return false;
+    }
     let bottom = s.bottom;
     let h = s.history_rounds as u64;
-    if !dag_links::links_hold(keys, links, order, n, bottom) {
-        return false;
-    }
-    if !dag_links::bare_hold(keys, links, order, n) {
-        return false;
-    }
-    if !dag_links::words_hold(keys, links, certs, order, n) {
-        return false;
-    }
-    dag_heights::heights_hold(keys, links, certs, order, n, bottom, h)
+    dag_heights::heights_hold(keys, links, certs, order, s.count, bottom, h)
 }
 
 // All tests. Each relies on those before it, so that any state and any tables may be given.

@@ -2,7 +2,7 @@
 use Prim.Native.Nat.{ℕ, zero, suc, _+_, _-_, _*_, _%_, _≤_, _<_}
 use mathlib.Core.Path.{_≡_, refl, sym, _∙_, ap, subst}
 use mathlib.Core.List.{List}
-use mathlib.Core.Logic.{inl, inr}
+use mathlib.Core.Logic.{inl}
 use mathlib.Core.Bool.{Bool, true, false, _||_, cond}
 use native.Mathlib.Omega.{arith}
 use lib.Dec.{eqb, leb, ltb}
@@ -17,9 +17,10 @@ use Rattle.spec.specs.Calls.{resolvedAs}
 use Rattle.models.specs.Cert.{bitOf, flagsOf}
 use Rattle.models.specs.Digest.{Fit, digestAt}
 use Rattle.models.specs.Info.{infoOf}
-use Rattle.models.specs.Tables.{roundAt, authorAt, statusAt, marksAt, evidenceAt, placeAt, Used, isUsed, targetAt, dist}
+use Rattle.models.specs.Tables.{roundAt, digestOf, statusAt, marksAt, evidenceAt, placeAt, Used, isUsed, targetAt, dist}
 use Rattle.models.specs.declared.info.PointInfo.{PointInfo}
-use Rattle.dag_places.specs.Zero.{zeroed, zeroed-in, zeroed-off, zeroed-length}
+use Rattle.dag_places.specs.Fill.{zeroed, filled-length, filled-in, filled-off}
+use Rattle.dag_keys.specs.Digest.{digest-alike}
 use Rattle.dag_keys.specs.Key.{key, words-same}
 use Rattle.dag_keys.specs.Sorted.{Sorted}
 use Rattle.dag_heights.specs.View.{Live}
@@ -30,14 +31,13 @@ use Rattle.dag_state.specs.View.{toldAt, givenAt, pointAt}
 use Rattle.dag_state.specs.declared.state.State.{State}
 use Rattle.dag_test.specs.Tested.{shape, shape-says}
 use Rattle.dag_test.specs.View.{wordsFit, regular, seenAt, seen-used, view}
-use Rattle.dag_test.specs.Same.{Same, same-target, same-point}
+use Rattle.dag_test.specs.Same.{Same, same-target, same-link, same-point}
 use Rattle.dag_test.specs.Regular.{regular-intro}
 use Rattle.dag_test.specs.Counts.{Started, counted}
 use Rattle.dag_name.specs.Name.{Ready}
 use Rattle.dag_name.specs.Tests.{ready}
 use Rattle.dag_info.specs.Form.{peerAt, given, shaped-given, Formed, formed, rise-below}
 use Rattle.dag_info.specs.Wild.{anyWild}
-use Rattle.dag_told.specs.Copy.{copied-in, copied-off, digest-same}
 use Rattle.dag_told.specs.Told.{marksOf, marks-small, headWords, targetOf, linksPut, headPut, toldLinks, toldKeys, links-length, head-length}
 use Rattle.dag_told.specs.Held.{Off, Held, word-apart, links-off, held-put, held-same, held-refs}
 use Rattle.dag_told.specs.Ranged.{Ranged}
@@ -69,18 +69,6 @@ head-digest info (suc (suc (suc (suc x)))) l = absurd (omega arith)
 head-first : (info : PointInfo) → (getD (headWords info) (0 + 0) 0 ≡ info .evidence) × (getD (headWords info) (0 + 1) 0 ≡ info .«top_proof» .round .0) × (getD (headWords info) (0 + 2) 0 ≡ info .«top_proof» .author)
 unfolding headWords
 head-first info = (refl, refl, refl)
-
--- what a link names, with the words of its digest by their number
-names-by : (ks ls : List ℕ) (q k p : ℕ) → roundAt ks p + dist k ≡ roundAt ks q → authorAt ks p ≡ k % 32 → ((x : ℕ) → x < 4 → getD ks (p * 8 + 2 + x) 0 ≡ getD ls (digAt q k + x) 0) → Names ks ls q k p
-names-by ks ls q k p a b d = record { falls = a; author = b; digest = record { word0 = d 0 (omega arith); word1 = d 1 (omega arith); word2 = d 2 (omega arith); word3 = d 3 (omega arith) } }
-
--- and back
-names-word : (ks ls : List ℕ) (q k p : ℕ) → Names ks ls q k p → (x : ℕ) → x < 4 → getD ks (p * 8 + 2 + x) 0 ≡ getD ls (digAt q k + x) 0
-names-word ks ls q k p n zero l = n .digest .word0
-names-word ks ls q k p n (suc zero) l = n .digest .word1
-names-word ks ls q k p n (suc (suc zero)) l = n .digest .word2
-names-word ks ls q k p n (suc (suc (suc zero))) l = n .digest .word3
-names-word ks ls q k p n (suc (suc (suc (suc x)))) l = absurd (omega arith)
 
 -- a point that is not resolved now
 resolved-off : (t : Told) (p : Point) → resolvedAs false t p ≡ p
@@ -137,8 +125,12 @@ module _ (s : State) (ks ls cs os : List ℕ) (fk : Fit ks) (fl : Fit ls) (h : c
   keys-other p d f l = keys-off (p * 8 + f) (λ e. d (omega arith)) (λ e. d (omega arith))
 
   -- the words of a digest
-  digest-kept : (p i : ℕ) → i < 4 → getD us (p * 8 + 2 + i) 0 ≡ getD ks (p * 8 + 2 + i) 0
-  digest-kept p i l = let e : p * 8 + 2 + i ≡ p * 8 + (2 + i) = omega arith in rw e (keys-kept p (2 + i) (omega arith))
+  words-kept : (p i : ℕ) → i < 4 → getD us (p * 8 + 2 + i) 0 ≡ getD ks (p * 8 + 2 + i) 0
+  words-kept p i l = let e : p * 8 + 2 + i ≡ p * 8 + (2 + i) = omega arith in rw e (keys-kept p (2 + i) (omega arith))
+
+  -- so the digest
+  digest-kept : (p : ℕ) → digestOf us p ≡ digestOf ks p
+  digest-kept p = digest-alike us ks (p * 8 + 2) (p * 8 + 2) (words-kept p)
 
   -- the status
   status-own : statusAt us q ≡ info .status
@@ -160,7 +152,7 @@ module _ (s : State) (ks ls cs os : List ℕ) (fk : Fit ks) (fl : Fit ls) (h : c
   -- every place keeps its key
   key-kept : (p : ℕ) → key us p ≡ key ks p
   unfolding key
-  key-kept p = rw (keys-kept p 0 (omega arith), words-same us ks (p * 8 + 2) (p * 8 + 2) 4 (digest-kept p)) refl
+  key-kept p = rw (keys-kept p 0 (omega arith), words-same us ks (p * 8 + 2) (p * 8 + 2) 4 (words-kept p)) refl
 
   -- ---- links
 
@@ -198,8 +190,8 @@ module _ (s : State) (ks ls cs os : List ℕ) (fk : Fit ks) (fl : Fit ls) (h : c
   head-zero : (j : ℕ) → 7 ≤ j → j < 328 → getD l0 (q * 328 + j) 0 ≡ 0
   unfolding headPut
   head-zero j a b =
-      copied-off (zeroed ls (q * 328) 328) (q * 328) (headWords info) 0 7 (q * 328 + j) (λ i l e. omega arith)
-      ∙ zeroed-in ls (q * 328) 328 (q * 328 + j) (omega arith) (omega arith)
+      filled-off _ (zeroed ls (q * 328) 328) (q * 328) 7 (q * 328 + j) (λ i l e. omega arith)
+      ∙ filled-in (λ i. 0) ls (q * 328) 328 j (omega (arith, sizes .1, inside)) b
 
   -- so there is no link
   target0 : (k : ℕ) → k < 64 → targetAt l0 q k ≡ 0
@@ -210,19 +202,19 @@ module _ (s : State) (ks ls cs os : List ℕ) (fk : Fit ks) (fl : Fit ls) (h : c
   unfolding headPut
   head-own j l =
       links-as (q * 328 + j) (λ c m. ((λ e. omega arith), λ i k e. omega arith)) (λ c m. ((λ e. omega arith), λ i k e. omega arith))
-      ∙ copied-in (zeroed ls (q * 328) 328) (q * 328) (headWords info) 0 7 j (omega (arith, zeroed-length ls (q * 328) 328, sizes .1, inside)) l
+      ∙ filled-in (λ i. getD (headWords info) (0 + i) 0) (zeroed ls (q * 328) 328) (q * 328) 7 j (omega (arith, filled-length (λ i. 0) ls (q * 328) 328, sizes .1, inside)) l
 
   -- other places keep their words
   links-same : (p : ℕ) → (p ≡ q → ⊥) → Same ls 328 p ts
   unfolding headPut
   links-same p d j l =
       links-as (p * 328 + j) (λ c m. ((λ e. d (omega arith)), λ i k e. d (omega arith))) (λ c m. ((λ e. d (omega arith)), λ i k e. d (omega arith)))
-      ∙ (copied-off (zeroed ls (q * 328) 328) (q * 328) (headWords info) 0 7 (p * 328 + j) (λ i k e. d (omega arith))
-      ∙ zeroed-off ls (q * 328) 328 (p * 328 + j) (leOr p q (λ m. inl (omega arith)) (λ m. inr (omega arith))))
+      ∙ (filled-off _ (zeroed ls (q * 328) 328) (q * 328) 7 (p * 328 + j) (λ i k e. d (omega arith))
+      ∙ filled-off _ ls (q * 328) 328 (p * 328 + j) (λ i k e. d (omega arith)))
 
   -- the digest of a link of another place
-  same-at : (p k : ℕ) → (p ≡ q → ⊥) → k < 64 → (i : ℕ) → i < 4 → getD ts (digAt p k + i) 0 ≡ getD ls (digAt p k + i) 0
-  same-at p k d l i m = let e : digAt p k + i ≡ p * 328 + (72 + k * 4 + i) = omega arith in rw e (links-same p d (72 + k * 4 + i) (omega arith))
+  same-at : (p k : ℕ) → (p ≡ q → ⊥) → k < 64 → digestAt ts (digAt p k) ≡ digestAt ls (digAt p k)
+  same-at p k d l = same-link ls ts p (links-same p d) k l
 
   -- the includes
   held1 : Held (f 1) ts q 0 rs 0 (info .includes)
@@ -256,7 +248,7 @@ module _ (s : State) (ks ls cs os : List ℕ) (fk : Fit ks) (fl : Fit ls) (h : c
       over i e = let a : q * 328 + 3 + i ≡ q * 328 + (3 + i) = omega arith in let b : 3 + i ≡ 0 + (3 + i) = omega arith in ap (λ (z : ℕ). getD ts z 0) a ∙ (e ∙ ap (λ (z : ℕ). getD (headWords info) z 0) (sym b))
 
       digest : digestAt ts (q * 328 + 3) ≡ digestAt (info .«top_proof» .digest .0) 0
-      digest = digest-same ts (info .«top_proof» .digest .0) (q * 328 + 3) 0 (λ i l. over i (head-own (3 + i) (omega arith)) ∙ head-digest info i l)
+      digest = digest-alike ts (info .«top_proof» .digest .0) (q * 328 + 3) 0 (λ i l. over i (head-own (3 + i) (omega arith)) ∙ head-digest info i l)
 
   -- what is told of the point is the resolution
   pub told-is : toldAt (toldKeys ks q info) (toldLinks s ks ls os q info rs) q ≡ infoOf info rs
@@ -290,10 +282,11 @@ module _ (s : State) (ks ls cs os : List ℕ) (fk : Fit ks) (fl : Fit ls) (h : c
           p,
           used,
           ap (targetAt ts q) k-is ∙ (held .target i n ∙ z),
-          names-by us ts q k p
-              (omega (arith, keys-kept p 0 (omega arith), keys-kept q 0 (omega arith), leads .round, v))
-              (keys-kept p 1 (omega arith) ∙ (leads .author ∙ (y ∙ sym w)))
-              (λ o m. digest-kept p o m ∙ (leads .digest o m ∙ sym (ap (λ (z : ℕ). getD ts (q * 328 + 72 + z * 4 + o) 0) k-is ∙ held .digest i o n m))),
+          record {
+            falls = omega (arith, keys-kept p 0 (omega arith), keys-kept q 0 (omega arith), leads .round, v);
+            author = keys-kept p 1 (omega arith) ∙ (leads .author ∙ (y ∙ sym w));
+            digest = digest-kept p ∙ (leads .digest ∙ sym (ap (λ (z : ℕ). digestAt ts (digAt q z)) k-is ∙ held .digest i n));
+          },
         )
 
     -- a live link of the point, of either kind
@@ -313,10 +306,11 @@ module _ (s : State) (ks ls cs os : List ℕ) (fk : Fit ks) (fl : Fit ls) (h : c
           z,
           w,
           e ∙ y,
-          names-by us ts p k z
-              (omega (arith, keys-kept z 0 (omega arith), keys-kept p 0 (omega arith), m .falls))
-              (keys-kept z 1 (omega arith) ∙ m .author)
-              (λ o n. digest-kept z o n ∙ (names-word ks ls p k z m o n ∙ sym (same-at p k d (live .1) o n))),
+          record {
+            falls = omega (arith, keys-kept z 0 (omega arith), keys-kept p 0 (omega arith), m .falls);
+            author = keys-kept z 1 (omega arith) ∙ m .author;
+            digest = digest-kept z ∙ (m .digest ∙ sym (same-at p k d (live .1)));
+          },
         )
 
     -- live links lead to the used places that they name
@@ -413,7 +407,7 @@ module _ (s : State) (ks ls cs os : List ℕ) (fk : Fit ks) (fl : Fit ls) (h : c
       unfolding pointAt resolvedAs
       point-own = λ j. record {
         named = true;
-        id = record { round = keys-kept q 0 (omega arith) j; author = keys-kept q 1 (omega arith) j; digest = digest-same us ks (q * 8 + 2) (q * 8 + 2) (digest-kept q) j };
+        id = record { round = keys-kept q 0 (omega arith) j; author = keys-kept q 1 (omega arith) j; digest = digest-kept q j };
         told = told-is j;
         flags = flags-own j;
       }

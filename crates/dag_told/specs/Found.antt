@@ -1,6 +1,6 @@
 -- The place that a link's target word gives is the one that the link names.
-use Prim.Native.Nat.{ℕ, zero, suc, _+_, _-_, _*_, _≤_, _<_}
-use mathlib.Core.Path.{_≡_, refl, sym, _∙_, ap}
+use Prim.Native.Nat.{ℕ, suc, _+_, _-_, _*_, _≤_, _<_}
+use mathlib.Core.Path.{_≡_, refl, _∙_, ap}
 use mathlib.Core.List.{List}
 use mathlib.Core.Bool.{true, false, _&&_}
 use native.Mathlib.Omega.{arith}
@@ -10,30 +10,18 @@ use lib.ListN.{getD}
 use borrow.Author.Tests.{eqb-true, le-leb, lt-ltb}
 use Rattle.laws.specs.Test.{byTest, clash, both, and-l, and-r, leOr, cond-yes}
 use Rattle.laws.specs.Scan.{first-hit}
-use Rattle.models.specs.Digest.{words}
-use Rattle.models.specs.Tables.{roundAt, authorAt, placeAt, Used}
+use Rattle.models.specs.Digest.{digestAt}
+use Rattle.models.specs.Tables.{roundAt, authorAt, digestOf, placeAt, Used}
+use Rattle.dag_keys.specs.Digest.{key-digest}
+use Rattle.dag_keys.specs.Id.{idFrom, from-digest}
 use Rattle.dag_keys.specs.Key.{key, same, same-eq}
 use Rattle.dag_keys.specs.Sorted.{keyAt, pointAt}
 use Rattle.dag_state.specs.declared.state.State.{State}
 use Rattle.dag_info.specs.Form.{peerAt}
 use Rattle.dag_info.specs.Wild.{linkWords, foundAt, isWild}
-use Rattle.dag_info.specs.Leads.{link-word}
 use Rattle.dag_told.specs.Told.{targetOf}
 
--- word x of m words
-words-get : (t : List ℕ) (p m x : ℕ) → x < m → getD (words t p m) x 0 ≡ getD t (p + x) 0
-unfolding words
-words-get t p zero x l = absurd (omega arith)
-words-get t p (suc m) zero l = let e : p + 0 ≡ p = omega arith in rw e refl
-words-get t p (suc m) (suc x) l = let e : p + suc x ≡ p + 1 + x = omega arith in rw e (words-get t (p + 1) m x (omega arith))
-
--- equal keys have equal digests
-key-word : (t u : List ℕ) (i j x : ℕ) → key t i ≡ key u j → x < 4 → getD t (i * 8 + 2 + x) 0 ≡ getD u (j * 8 + 2 + x) 0
-unfolding key
-key-word t u i j x e l =
-    sym (words-get t (i * 8 + 2) 4 x l) ∙ (ap (λ (k : List ℕ). getD k (suc x) 0) e ∙ words-get u (j * 8 + 2) 4 x l)
-
--- and equal rounds
+-- equal keys have equal rounds
 key-round : (t u : List ℕ) (i j : ℕ) → key t i ≡ key u j → roundAt t i ≡ roundAt u j
 unfolding key
 key-round t u i j e = ap (λ (k : List ℕ). getD k 0 0) e
@@ -42,7 +30,7 @@ key-round t u i j e = ap (λ (k : List ℕ). getD k 0 0) e
 pub record Leads (ks rs : List ℕ) (d r j p : ℕ) : Type 0 where
   pub round : roundAt ks p + d ≡ r
   pub author : authorAt ks p ≡ peerAt rs j
-  pub digest : (x : ℕ) → x < 4 → getD ks (p * 8 + 2 + x) 0 ≡ getD rs (j * 5 + 1 + x) 0
+  pub digest : digestOf ks p ≡ digestAt rs (j * 5 + 1)
 
 module _ (s : State) (ks os rs : List ℕ) (d r j : ℕ) where
   -- the position where the link's point is found
@@ -51,7 +39,7 @@ module _ (s : State) (ks os rs : List ℕ) (d r j : ℕ) where
 
   -- the link leads to that place
   found-leads : d ≤ r → at < s .count → Leads ks rs d r j (placeAt os at)
-  unfolding foundAt pointAt linkWords
+  unfolding foundAt pointAt idFrom
   found-leads l k =
       let w = linkWords rs j (r - d) in
       let h : (same (keyAt ks os at) (key w 0) && eqb (authorAt ks (placeAt os at)) (peerAt rs j)) ≡ true = first-hit (λ x. same (keyAt ks os x) (key w 0) && eqb (authorAt ks (placeAt os x)) (peerAt rs j)) (s .count) k in
@@ -59,7 +47,7 @@ module _ (s : State) (ks os rs : List ℕ) (d r j : ℕ) where
       record {
         round = let f : roundAt ks (placeAt os at) ≡ r - d = key-round ks w (placeAt os at) 0 e in omega arith;
         author = eqb-true _ _ (and-r (same (keyAt ks os at) (key w 0)) _ h);
-        digest = λ x m. key-word ks w (placeAt os at) 0 x e m ∙ link-word rs j (r - d) x m;
+        digest = key-digest ks w (placeAt os at) 0 e ∙ from-digest rs (j * 5 + 1) (r - d) (peerAt rs j);
       }
 
   -- a link into a retained round that is not wild is found

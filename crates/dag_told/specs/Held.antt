@@ -15,8 +15,10 @@ use Rattle.models.specs.Digest.{digestAt}
 use Rattle.models.specs.Info.{refAt, refsOf}
 use Rattle.models.specs.Tables.{targetAt}
 use Rattle.dag_state.specs.View.{refsFrom}
+use Rattle.dag_places.specs.Fill.{filled-in, filled-off}
+use Rattle.dag_keys.specs.Digest.{digest-alike}
+use Rattle.dag_links.specs.Links.{digAt}
 use Rattle.dag_info.specs.Form.{peerAt, risesFrom, Peers, rise-peers, rise-below, rise-apart}
-use Rattle.dag_told.specs.Copy.{copied-in, copied-off, digest-same}
 use Rattle.dag_told.specs.Told.{linkPut, linksPut, links-length}
 
 -- y is a word of link k of place q: its target word, or a word of its digest
@@ -41,27 +43,27 @@ module _ (ls : List ℕ) (q k w : ℕ) (rs : List ℕ) (j : ℕ) where
   -- other words stay
   link-off : (y : ℕ) → Clear q k y → getD (linkPut ls q k w rs j) y 0 ≡ getD ls y 0
   unfolding linkPut
-  link-off y (a, b) = copied-off (set ls (q * 328 + 8 + k) w) (q * 328 + 72 + k * 4) rs (j * 5 + 1) 4 y b ∙ getD-set-other ls (q * 328 + 8 + k) y w 0 a
+  link-off y (a, b) = filled-off _ (set ls (q * 328 + 8 + k) w) (q * 328 + 72 + k * 4) 4 y b ∙ getD-set-other ls (q * 328 + 8 + k) y w 0 a
 
   module _ (room : q * 328 + 328 ≤ length ls) (small : k < 64) where
     -- its target word
     link-target : targetAt (linkPut ls q k w rs j) q k ≡ w
     unfolding linkPut
     link-target =
-        copied-off (set ls (q * 328 + 8 + k) w) (q * 328 + 72 + k * 4) rs (j * 5 + 1) 4 (q * 328 + 8 + k) (λ i l e. omega arith)
+        filled-off _ (set ls (q * 328 + 8 + k) w) (q * 328 + 72 + k * 4) 4 (q * 328 + 8 + k) (λ i l e. omega arith)
         ∙ getD-set-same ls (q * 328 + 8 + k) w 0 (omega arith)
 
     -- its digest
     link-digest : (x : ℕ) → x < 4 → getD (linkPut ls q k w rs j) (q * 328 + 72 + k * 4 + x) 0 ≡ getD rs (j * 5 + 1 + x) 0
     unfolding linkPut
-    link-digest x l = copied-in (set ls (q * 328 + 8 + k) w) (q * 328 + 72 + k * 4) rs (j * 5 + 1) 4 x (omega (arith, length-set ls (q * 328 + 8 + k) w)) l
+    link-digest x l = filled-in (λ i. getD rs (j * 5 + 1 + i) 0) (set ls (q * 328 + 8 + k) w) (q * 328 + 72 + k * 4) 4 x (omega (arith, length-set ls (q * 328 + 8 + k) w)) l
 
 -- ---- the links of a kind
 
 -- the links from b on of place q are m lent links from link j on, with the target words that f gives
 pub record Held (f : ℕ → ℕ) (ls : List ℕ) (q b : ℕ) (rs : List ℕ) (j m : ℕ) : Type 0 where
   pub target : (i : ℕ) → i < m → targetAt ls q (b + peerAt rs (j + i)) ≡ f (j + i)
-  pub digest : (i x : ℕ) → i < m → x < 4 → getD ls (q * 328 + 72 + (b + peerAt rs (j + i)) * 4 + x) 0 ≡ getD rs ((j + i) * 5 + 1 + x) 0
+  pub digest : (i : ℕ) → i < m → digestAt ls (digAt q (b + peerAt rs (j + i))) ≡ digestAt rs ((j + i) * 5 + 1)
   pub none : (c : ℕ) → c < 32 → 0 < targetAt ls q (b + c) → (i : ℕ) × (i < m) × (peerAt rs (j + i) ≡ c)
 
 -- y is a word of no link from b to b + 31
@@ -107,7 +109,7 @@ module _ (f : ℕ → ℕ) (ls : List ℕ) (q b : ℕ) (rs : List ℕ) (j : ℕ)
     pub held-put : (m : ℕ) → risesFrom rs 0 j m ≡ true → q * 328 + 328 ≤ length ls → ((c : ℕ) → c < 32 → targetAt ls q (b + c) ≡ 0) → Held f (linksPut f ls q b rs j m) q b rs j m
     held-put m h room z = record {
       target = λ i l. last i (q * 328 + 8 + (b + peerAt rs (j + i))) l (inl refl) ∙ link-target (linksPut f ls q b rs j i) q (b + peerAt rs (j + i)) (f (j + i)) rs (j + i) (wide i) (low i l);
-      digest = λ i x l k. last i (q * 328 + 72 + (b + peerAt rs (j + i)) * 4 + x) l (inr (x, k, refl)) ∙ link-digest (linksPut f ls q b rs j i) q (b + peerAt rs (j + i)) (f (j + i)) rs (j + i) (wide i) (low i l) x k;
+      digest = λ i l. digest-alike _ rs (digAt q (b + peerAt rs (j + i))) ((j + i) * 5 + 1) (λ x k. last i (digAt q (b + peerAt rs (j + i)) + x) l (inr (x, k, refl)) ∙ link-digest (linksPut f ls q b rs j i) q (b + peerAt rs (j + i)) (f (j + i)) rs (j + i) (wide i) (low i l) x k);
       none = λ c l t. links-none m (rise-below rs j m h) c l (z c l) t;
     }
       where
@@ -124,7 +126,7 @@ module _ (f : ℕ → ℕ) (ls : List ℕ) (q b : ℕ) (rs : List ℕ) (j : ℕ)
 pub held-same : (f : ℕ → ℕ) (ls us : List ℕ) (q b : ℕ) (rs : List ℕ) (j m : ℕ) → Peers rs j m → ((c y : ℕ) → c < 32 → Word q (b + c) y → getD us y 0 ≡ getD ls y 0) → Held f ls q b rs j m → Held f us q b rs j m
 held-same f ls us q b rs j m p e h = record {
   target = λ i l. e (peerAt rs (j + i)) (q * 328 + 8 + (b + peerAt rs (j + i))) (p i l) (inl refl) ∙ h .target i l;
-  digest = λ i x l k. e (peerAt rs (j + i)) (q * 328 + 72 + (b + peerAt rs (j + i)) * 4 + x) (p i l) (inr (x, k, refl)) ∙ h .digest i x l k;
+  digest = λ i l. digest-alike us ls (digAt q (b + peerAt rs (j + i))) (digAt q (b + peerAt rs (j + i))) (λ x k. e (peerAt rs (j + i)) (digAt q (b + peerAt rs (j + i)) + x) (p i l) (inr (x, k, refl))) ∙ h .digest i l;
   none = λ c l t. h .none c l (subst (λ (x : ℕ). 0 < x) (e c (q * 328 + 8 + (b + c)) l (inl refl)) t);
 }
 
@@ -191,5 +193,5 @@ module _ (ls : List ℕ) (q b : ℕ) (rs : List ℕ) where
 pub held-refs : (f : ℕ → ℕ) (ls : List ℕ) (q b : ℕ) (rs : List ℕ) (j m : ℕ) → risesFrom rs 0 j m ≡ true → ((i : ℕ) → 0 < f i) → Held f ls q b rs j m → refsFrom ls q b 0 32 ≡ refsOf rs j m
 held-refs f ls q b rs j m h pos x =
     refs-are ls q b rs 32 0 j m refl h
-    (λ i l. (subst (λ (y : ℕ). 0 < y) (sym (x .target i l)) (pos (j + i)), digest-same ls rs (q * 328 + 72 + (b + peerAt rs (j + i)) * 4) ((j + i) * 5 + 1) (λ y k. x .digest i y l k)))
+    (λ i l. (subst (λ (y : ℕ). 0 < y) (sym (x .target i l)) (pos (j + i)), x .digest i l))
     (λ c l k t. x .none c k t)

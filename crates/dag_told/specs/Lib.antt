@@ -1,4 +1,3 @@
-pub mod Copy
 pub mod Told
 pub mod Held
 pub mod Flags

@@ -12,11 +12,10 @@ use Rattle.laws.specs.Test.{and-no, and-yes, cond-yes, cond-no}
 use Rattle.spec.specs.Store.{bit}
 use Rattle.models.specs.Tables.{roundAt, placeAt}
 use Rattle.models.specs.declared.info.PointInfo.{PointInfo}
-use Rattle.dag_places.specs.Zero.{zeroed, zeroed-length}
+use Rattle.dag_places.specs.Fill.{filled, copied, zeroed, filled-length}
 use Rattle.dag_state.specs.declared.state.State.{State}
 use Rattle.dag_info.specs.Form.{peerAt}
 use Rattle.dag_info.specs.Wild.{foundAt}
-use Rattle.dag_told.specs.Copy.{copied, copied-length}
 
 -- the marks as one word
 unfoldable pub marksOf : Bool → Bool → Bool → ℕ
@@ -104,7 +103,7 @@ told-by s ks ls os q info rs ws l1 l2 l3 l4 a b c d e =
 -- a link more is no word more
 pub link-length : (ls : List ℕ) (q k w : ℕ) (rs : List ℕ) (j : ℕ) → length (linkPut ls q k w rs j) ≡ length ls
 unfolding linkPut
-link-length ls q k w rs j = copied-length (set ls (q * 328 + 8 + k) w) (q * 328 + 72 + k * 4) rs (j * 5 + 1) 4 ∙ length-set ls (q * 328 + 8 + k) w
+link-length ls q k w rs j = filled-length _ (set ls (q * 328 + 8 + k) w) (q * 328 + 72 + k * 4) 4 ∙ length-set ls (q * 328 + 8 + k) w
 
 -- nor are m links
 pub links-length : (f : ℕ → ℕ) (ls : List ℕ) (q b : ℕ) (rs : List ℕ) (j m : ℕ) → length (linksPut f ls q b rs j m) ≡ length ls
@@ -115,12 +114,12 @@ links-length f ls q b rs j (suc m) = link-length (linksPut f ls q b rs j m) q (b
 -- nor evidence and top proof
 pub head-length : (ls : List ℕ) (q : ℕ) (info : PointInfo) → length (headPut ls q info) ≡ length ls
 unfolding headPut
-head-length ls q info = copied-length (zeroed ls (q * 328) 328) (q * 328) (headWords info) 0 7 ∙ zeroed-length ls (q * 328) 328
+head-length ls q info = filled-length _ (zeroed ls (q * 328) 328) (q * 328) 7 ∙ filled-length _ ls (q * 328) 328
 
 -- nor zeros, evidence and top proof, then links
-pub room-by : (ls : List ℕ) (q : ℕ) (ws rs l1 l2 l3 : List ℕ) (f : ℕ → ℕ) (b j m : ℕ) → l1 ≡ zeroed ls (q * 328) 328 → l2 ≡ copied l1 (q * 328) ws 0 7 → l3 ≡ linksPut f l2 q b rs j m → length l3 ≡ length ls
-room-by ls q ws rs l1 l2 l3 f b j m x y z =
-    ap length z ∙ (links-length f l2 q b rs j m ∙ (ap length y ∙ (copied-length l1 (q * 328) ws 0 7 ∙ (ap length x ∙ zeroed-length ls (q * 328) 328))))
+pub room-by : (ls : List ℕ) (q : ℕ) (g : ℕ → ℕ) (rs l1 l2 l3 : List ℕ) (f : ℕ → ℕ) (b j m : ℕ) → l1 ≡ zeroed ls (q * 328) 328 → l2 ≡ filled g l1 (q * 328) 7 → l3 ≡ linksPut f l2 q b rs j m → length l3 ≡ length ls
+room-by ls q g rs l1 l2 l3 f b j m x y z =
+    ap length z ∙ (links-length f l2 q b rs j m ∙ (ap length y ∙ (filled-length g l1 (q * 328) 7 ∙ (ap length x ∙ filled-length _ ls (q * 328) 328))))
 
 -- ---- marks
 

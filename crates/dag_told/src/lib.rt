@@ -10,23 +10,9 @@ ghost use Rattle.models.specs.Info.{infoOf};
 ghost use Rattle.models.specs.Tables.{roundAt};
 ghost use Rattle.dag_name.specs.Name.{Ready};
 ghost use Rattle.dag_info.specs.Form.{Peers};
-ghost use Rattle.dag_told.specs.Copy.{copied};
 ghost use Rattle.dag_told.specs.Told.{marksOf, headWords, targetOf, linkPut, linksPut, toldKeys, toldLinks};
 use dag_state::state::State;
 use models::info::PointInfo;
-
-// Writes n words of `words`, from `from` on, into t at `at`.
-fn copy_words(t: &mut [u64], at: usize, words: &[u64], from: usize, n: usize)
-    requires { ⌜ (at + n ≤ length (now t)) × (from + n ≤ length (now words)) ⌝ }
-    ensures { λ _. ⌜ now (t .exit) ≡ copied (now (t .entry)) at (now (words .entry)) from n ⌝ }
-{
-    let mut i: usize = 0;
-    while i < n {
-        let word = words[from + i];
-        t[at + i] = word;
-        i += 1;
-    }
-}
 
 // The bit of weight w, if it is set.
 fn weight(w: u64, set: bool) -> u64
@@ -93,7 +79,7 @@ fn put_link(links: &mut [u64], q: usize, k: usize, target: u64, refs: &[u64], j:
     ensures { λ _. ⌜ now (links .exit) ≡ linkPut (now (links .entry)) q k target (now (refs .entry)) j ⌝ }
 {
     links[q * 328 + 8 + k] = target;
-    copy_words(links, q * 328 + 72 + k * 4, refs, j * 5 + 1, 4);
+    dag_places::copy_words(links, q * 328 + 72 + k * 4, refs, j * 5 + 1, 4);
 }
 
 // Writes the m lent links from `from` on, which lead d rounds down from this round, into place q.
@@ -118,7 +104,7 @@ fn put_links(
     let mut i: usize = 0;
     while i < m {
         let j = from + i;
-        let peer = laws::slot(refs[j * 5 + 0]);
+        let peer = laws::slot(dag_info::peer(refs, j));
         let to = target_word(s, keys, order, refs, j, d, round);
         put_link(links, q, base + peer, to, refs, j);
         i += 1;
@@ -145,7 +131,7 @@ fn store_links(
     let w = info.witness;
     let head = head_words(info);
     dag_places::zero_words(links, q * 328, 328);
-    copy_words(links, q * 328, &head, 0, 7);
+    dag_places::copy_words(links, q * 328, &head, 0, 7);
     put_links(s, keys, links, order, q, refs, 0, i, 1, round);
     put_links(s, keys, links, order, q, refs, i, w, 2, round);
 }

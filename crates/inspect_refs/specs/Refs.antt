@@ -1,55 +1,24 @@
 -- Links of a point to a digest (01: inspector.rs).
 use Prim.Native.Nat.{ℕ, zero, suc, _+_, _<_}
 use mathlib.Core.Path.{_≡_, refl, sym, _∙_, ap}
-use mathlib.Core.List.{List, [], _∷_}
+use mathlib.Core.List.{List}
 use mathlib.Core.Bool.{Bool, true, false, _&&_, _||_}
 use native.Mathlib.Omega.{arith}
-use native.Mathlib.Nat.{add-zero}
 use lib.Dec.{eqb, ltb}
-use lib.ListN.{getD}
-use borrow.Author.Tests.{eq-eqb, ne-eqb, lt-ltb, le-ltb}
+use borrow.Author.Tests.{lt-ltb, le-ltb}
 use Rattle.laws.specs.Test.{byTest, and-no, and-yes}
 use Rattle.laws.specs.Lists.{has}
 use Rattle.laws.specs.Scan.{any, any-same}
 use Rattle.spec.specs.Store.{Told}
 use Rattle.spec.specs.Rules.{counts}
 use Rattle.spec.specs.Inspect.{refersTo}
-use Rattle.models.specs.Digest.{Fit, words, digestAt, digest-words}
+use Rattle.models.specs.Digest.{Fit, digestAt}
 use Rattle.models.specs.Tables.{statusAt, Used, targetAt}
-use Rattle.dag_keys.specs.Key.{words-same}
 use Rattle.dag_links.specs.Links.{digAt}
 use Rattle.dag_state.specs.View.{refsFrom}
 use Rattle.dag_state.specs.declared.state.State.{State}
 use Rattle.dag_test.specs.View.{view}
 use Rattle.back_walk.specs.Visit.{given-at}
-
--- ---- digests, word by word
-
--- words that are equal are so one by one
-words-each : (t u : List ℕ) (p q m : ℕ) → words t p m ≡ words u q m → (k : ℕ) → k < m → getD t (p + k) 0 ≡ getD u (q + k) 0
-unfolding words
-words-each t u p q zero e k l = absurd (omega arith)
-words-each t u p q (suc m) e zero l = rw (add-zero p, add-zero q) (ap (λ (w : List ℕ). getD w 0 0) e)
-words-each t u p q (suc m) e (suc k) l = rw (over p k, over q k) at (words-each t u (p + 1) (q + 1) m (ap tail e) k (omega arith))
-  where
-    tail : List ℕ → List ℕ
-    tail [] = []
-    tail (x ∷ xs) = xs
-
-    over : (p k : ℕ) → p + 1 + k ≡ p + suc k
-    over p k = omega arith
-
-module _ (t u : List ℕ) (p q : ℕ) where
-  -- four equal words
-  pub digest-yes : ((k : ℕ) → k < 4 → getD t (p + k) 0 ≡ getD u (q + k) 0) → eqb (digestAt t p) (digestAt u q) ≡ true
-  unfolding digestAt
-  digest-yes h = eq-eqb (digestAt t p) (digestAt u q) (rw (words-same t u p q 4 h) refl)
-
-  -- a word that differs
-  pub digest-no : Fit t → Fit u → (k : ℕ) → k < 4 → (getD t (p + k) 0 ≡ getD u (q + k) 0 → ⊥) → eqb (digestAt t p) (digestAt u q) ≡ false
-  digest-no f g k l n = ne-eqb _ _ (λ e. n (words-each t u p q 4 (digest-words t u p q f g .1 e) k l))
-
--- ---- links
 
 -- link k of the place q is there and has the digest d
 unfoldable pub refersBy : List ℕ → ℕ → ℕ → ℕ → Bool
@@ -60,14 +29,14 @@ unfoldable pub refersAt : List ℕ → ℕ → ℕ → ℕ → Bool
 refersAt ls q b d = any 32 (λ k. refersBy ls q d (b + k))
 
 -- the code's steps
-module _ (ls : List ℕ) (q d k : ℕ) where
-  pub refers-none : targetAt ls q k ≡ 0 → refersBy ls q d k ≡ false
+module _ (ls : List ℕ) (q d k x : ℕ) (is : x ≡ targetAt ls q k) where
+  pub refers-none : x ≡ 0 → refersBy ls q d k ≡ false
   unfolding refersBy
   refers-none e = and-no _ (le-ltb 0 (targetAt ls q k) (omega arith))
 
-  pub refers-there : (targetAt ls q k ≡ 0 → ⊥) → refersBy ls q d k ≡ eqb (digestAt ls (digAt q k)) d
+  pub refers-there : (x ≡ 0 → ⊥) → refersBy ls q d k ≡ eqb (digestAt ls (digAt q k)) d
   unfolding refersBy
-  refers-there n = and-yes (lt-ltb 0 (targetAt ls q k) (omega arith)) refl
+  refers-there n = and-yes (lt-ltb 0 (targetAt ls q k) (let m : 0 < x = omega arith in omega arith)) refl
 
 -- of three tests the first two change places
 or-swap : (x y z : Bool) → (x || (y || z)) ≡ (y || (x || z))

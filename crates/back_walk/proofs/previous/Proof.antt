@@ -3,51 +3,39 @@ use borrow.Author.Needs.{needs}
 use Rattle.back_walk.proofs.previous.Statement.{statement}
 use Rattle.back_walk.proofs.previous.Tie as tie
 
-mul-author : tie.Need-mul-author
-mul-author c = search needs
-
-add-author : tie.Need-add-author
-add-author c = search needs
-
-mul-author-2 : tie.Need-mul-author-2
-mul-author-2 c = search needs
-
-shared-slice-read-author : tie.Need-shared-slice-read-author
-shared-slice-read-author c = search needs
+author-requires : tie.Need-author-requires
+author-requires c κs = search needs
 
 slot-requires : tie.Need-slot-requires
 slot-requires c κs = search needs
 
-mul-id-from : tie.Need-mul-id-from
-mul-id-from c = search needs
+mul-id-at : tie.Need-mul-id-at
+mul-id-at c = search needs
 
-add-id-from : tie.Need-add-id-from
-add-id-from c = search needs
+add-id-at : tie.Need-add-id-at
+add-id-at c = search needs
 
-mul-id-from-2 : tie.Need-mul-id-from-2
-mul-id-from-2 c = search needs
+mul-id-at-2 : tie.Need-mul-id-at-2
+mul-id-at-2 c = search needs
 
-add-id-from-2 : tie.Need-add-id-from-2
-add-id-from-2 c = search needs
+add-id-at-2 : tie.Need-add-id-at-2
+add-id-at-2 c = search needs
 
-id-from-requires : tie.Need-id-from-requires
-id-from-requires c κs = search needs
+id-at-requires : tie.Need-id-at-requires
+id-at-requires c κs = search needs
 
 returns : tie.Need-returns
-returns c = previous-words _ _ _ _ _ _ (c .before .slot .ensures) (c .id-from .ensures)
+returns c = previous-words _ _ _ _ _ (c .before .before .author .ensures) (c .before .slot .ensures) _ _ (c .id-at .ensures)
 
 pub previous-spec : {M : Type 1} → statement M
 previous-spec =
     tie.close
     (tie.spec
-    mul-author
-    add-author
-    mul-author-2
-    shared-slice-read-author
+    author-requires
     slot-requires
-    mul-id-from
-    add-id-from
-    mul-id-from-2
-    add-id-from-2
-    id-from-requires
+    mul-id-at
+    add-id-at
+    mul-id-at-2
+    add-id-at-2
+    id-at-requires
     returns)

@@ -17,23 +17,14 @@ loop-holds c = (search needs, search needs, rise-start _ _ _)
 add-peer : tie.Need-add-peer Inv-loop μ-loop
 add-peer c = search needs
 
-mul-peer : tie.Need-mul-peer Inv-loop μ-loop
-mul-peer c = search needs
-
-add-peer-2 : tie.Need-add-peer-2 Inv-loop μ-loop
-add-peer-2 c = search needs
-
-mul-peer-2 : tie.Need-mul-peer-2 Inv-loop μ-loop
-mul-peer-2 c = search needs
-
-shared-slice-read-peer : tie.Need-shared-slice-read-peer Inv-loop μ-loop
-shared-slice-read-peer c = search needs
+peer-requires : tie.Need-peer-requires Inv-loop μ-loop
+peer-requires c κs = search needs
 
 returns : tie.Need-returns Inv-loop μ-loop
-returns c = rise-low _ _ _ _ _ (c .before .before .before .loop .inv .2) (c .before .before .loop-test .taken) (c .if1 .taken)
+returns c = rise-low _ _ _ _ _ (c .before .before .before .loop .inv .2) (c .before .before .loop-test .taken) _ (c .before .peer .ensures) (c .if1 .taken)
 
 returns-2 : tie.Need-returns-2 Inv-loop μ-loop
-returns-2 c = rise-high _ _ _ _ _ (c .before .before .before .before .loop .inv .2) (c .before .before .before .loop-test .taken) (c .before .if1 .left) (c .if2 .taken)
+returns-2 c = rise-high _ _ _ _ _ (c .before .before .before .before .loop .inv .2) (c .before .before .before .loop-test .taken) _ (c .before .before .peer .ensures) (c .before .if1 .left) (c .if2 .taken)
 
 add-low : tie.Need-add-low Inv-loop μ-loop
 add-low c = search needs
@@ -45,7 +36,7 @@ loop-less : tie.Need-loop-less Inv-loop μ-loop
 loop-less c = search needs
 
 loop-again : tie.Need-loop-again Inv-loop μ-loop
-loop-again c = (search needs, search needs, rise-more _ _ _ _ _ (c .before .before .before .before .loop .inv .2) (c .before .before .before .loop-test .taken) (c .before .if1 .left) (c .if2 .left))
+loop-again c = (search needs, search needs, rise-more _ _ _ _ _ (c .before .before .before .before .loop .inv .2) (c .before .before .before .loop-test .taken) _ (c .before .before .peer .ensures) (c .before .if1 .left) (c .if2 .left))
 
 returns-3 : tie.Need-returns-3 Inv-loop μ-loop
 returns-3 c = rise-end _ _ _ _ _ (c .before .loop .inv .2) (c .loop-test .left)
@@ -58,10 +49,7 @@ rises-spec =
     μ-loop
     loop-holds
     add-peer
-    mul-peer
-    add-peer-2
-    mul-peer-2
-    shared-slice-read-peer
+    peer-requires
     returns
     returns-2
     add-low

@@ -1,67 +1,57 @@
--- `dag_links::bare_one` meets its contract.
-use mathlib.Core.Path.{sym, _∙_, ap}
-use borrow.Author.Tests.{not-true, not-false}
-use Rattle.laws.specs.Test.{and-no, and-yes}
-use Rattle.dag_links.specs.Bare.{emptyFrom, bareAt}
+use Rattle.dag_links.specs.Bare.{bare-full, bare-none, bare-named}
 use borrow.Author.Needs.{needs}
 use Rattle.dag_links.proofs.bare_one.Statement.{statement}
 use Rattle.dag_links.proofs.bare_one.Tie as tie
 
-mul-s : tie.Need-mul-s
-mul-s c = search needs
+case-at-requires : tie.Need-case-at-requires
+case-at-requires c κs = search needs
 
-add-s : tie.Need-add-s
-add-s c = search needs
+enum-known-case : tie.Need-enum-known-case
+enum-known-case c = search needs
 
-mul-s-2 : tie.Need-mul-s-2
-mul-s-2 c = search needs
+has-info-requires : tie.Need-has-info-requires
+has-info-requires c κs = search needs
 
-shared-slice-read-s : tie.Need-shared-slice-read-s
-shared-slice-read-s c = search needs
-
-mul-e : tie.Need-mul-e
-mul-e c = search needs
-
-add-e : tie.Need-add-e
-add-e c = search needs
-
-mul-e-2 : tie.Need-mul-e-2
-mul-e-2 c = search needs
-
-shared-slice-read-e : tie.Need-shared-slice-read-e
-shared-slice-read-e c = search needs
-
-or-requires : tie.Need-or-requires
-or-requires c κs = search needs
-
-returns : tie.Need-returns
-unfolding bareAt
-returns c = sym (and-no _ (sym (c .before .or .ensures) ∙ not-true _ (c .if1 .taken)))
-
-first-shut-requires : tie.Need-first-shut-requires
-first-shut-requires c κs = search needs
+live-requires : tie.Need-live-requires
+live-requires c κs = search needs
 
 empty-from-requires : tie.Need-empty-from-requires
 empty-from-requires c κs = search needs
 
+returns : tie.Need-returns
+returns c = bare-full _ _ _ _ (c .before .before .before .before .before .before .before .case-at .ensures) _ _ _ _ (c .before .before .before .before .before .case .given .1) (c .before .before .before .has-info .ensures) (c .before .before .if1 .taken) (c .before .live .ensures .0) (c .empty-from .ensures)
+
+head-word-requires : tie.Need-head-word-requires
+head-word-requires c κs = search needs
+
+empty-from-requires-2 : tie.Need-empty-from-requires-2
+empty-from-requires-2 c κs = search needs
+
+and-requires : tie.Need-and-requires
+and-requires c κs = search needs
+
+enum-told : tie.Need-enum-told
+enum-told c = search needs
+
 returns-2 : tie.Need-returns-2
-unfolding bareAt
-returns-2 c = sym (and-yes (sym (c .before .before .before .or .ensures) ∙ not-false _ (c .before .before .if1 .left)) (sym (ap (emptyFrom _ _) (c .before .first-shut .ensures .0)) ∙ sym (c .empty-from .ensures)))
+returns-2 c = bare-none _ _ _ _ (c .before .before .before .before .before .before .before .before .case-at .ensures) _ _ _ _ _ (c .before .before .before .before .before .before .case .given .1) (c .before .before .before .before .has-info .ensures) (c .before .before .before .if1 .left) (c .before .before .head-word .ensures) (c .before .empty-from2 .ensures) (c .and .ensures)
+
+returns-3 : tie.Need-returns-3
+returns-3 c = bare-named _ _ _ _ (c .before .before .case-at .ensures) (c .enum-told .given .1)
 
 pub bare-one-spec : {M : Type 1} → statement M
 bare-one-spec =
     tie.close
     (tie.spec
-    mul-s
-    add-s
-    mul-s-2
-    shared-slice-read-s
-    mul-e
-    add-e
-    mul-e-2
-    shared-slice-read-e
-    or-requires
-    returns
-    first-shut-requires
+    case-at-requires
+    enum-known-case
+    has-info-requires
+    live-requires
     empty-from-requires
-    returns-2)
+    returns
+    head-word-requires
+    empty-from-requires-2
+    and-requires
+    enum-told
+    returns-2
+    returns-3)

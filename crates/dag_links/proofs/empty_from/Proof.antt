@@ -1,6 +1,6 @@
 -- `dag_links::empty_from` meets its contract.
 use Prim.Native.Nat.{ℕ, _≤_, _<_, _-_}
-use mathlib.Core.Path.{_≡_, sym}
+use mathlib.Core.Path.{_≡_, sym, _∙_}
 use mathlib.Core.Bool.{true}
 use native.Mathlib.Omega.{arith}
 use borrow.Author.Count.{below-more}
@@ -19,24 +19,12 @@ abbrev μ-loop : tie.MeasureT-loop
 loop-holds : tie.Need-loop-holds Inv-loop μ-loop
 loop-holds c = (search needs, search needs, empty-below _ _ _)
 
-mul-if1 : tie.Need-mul-if1 Inv-loop μ-loop
-mul-if1 c = search needs
-
-add-if1 : tie.Need-add-if1 Inv-loop μ-loop
-add-if1 c = search needs
-
-add-if1-2 : tie.Need-add-if1-2 Inv-loop μ-loop
-add-if1-2 c = search needs
-
-mul-if1-2 : tie.Need-mul-if1-2 Inv-loop μ-loop
-mul-if1-2 c = search needs
-
-shared-slice-read-if1 : tie.Need-shared-slice-read-if1 Inv-loop μ-loop
-shared-slice-read-if1 c = search needs
+target-requires : tie.Need-target-requires Inv-loop μ-loop
+target-requires c κs = search needs
 
 returns : tie.Need-returns Inv-loop μ-loop
 unfolding emptyFrom
-returns c = sym (every-not _ _ _ (c .before .before .loop-test .taken) (empty-fails _ _ _ _ (c .before .before .before .loop .inv .0) (c .if1 .taken)))
+returns c = sym (every-not _ _ _ (c .before .before .loop-test .taken) (empty-fails _ _ _ _ (c .before .before .before .loop .inv .0) (λ e. c .if1 .taken (c .before .target .ensures ∙ e))))
 
 add-k : tie.Need-add-k Inv-loop μ-loop
 add-k c = search needs
@@ -45,7 +33,7 @@ loop-less : tie.Need-loop-less Inv-loop μ-loop
 loop-less c = search needs
 
 loop-again : tie.Need-loop-again Inv-loop μ-loop
-loop-again c = (search needs, search needs, below-more _ _ (c .before .before .before .loop .inv .2) (empty-more _ _ _ _ (c .if1 .left)))
+loop-again c = (search needs, search needs, below-more _ _ (c .before .before .before .loop .inv .2) (empty-more _ _ _ _ (sym (c .before .target .ensures) ∙ c .if1 .left)))
 
 returns-2 : tie.Need-returns-2 Inv-loop μ-loop
 unfolding emptyFrom
@@ -58,11 +46,7 @@ empty-from-spec =
     Inv-loop
     μ-loop
     loop-holds
-    mul-if1
-    add-if1
-    add-if1-2
-    mul-if1-2
-    shared-slice-read-if1
+    target-requires
     returns
     add-k
     loop-less

@@ -11,8 +11,11 @@ use Rattle.dag_order.proofs.put.Tie as tie
 seek-requires : tie.Need-seek-requires
 seek-requires c κs = search needs
 
-store-id-requires : tie.Need-store-id-requires
-store-id-requires c κs = search needs
+mul-copy-words : tie.Need-mul-copy-words
+mul-copy-words c = search needs
+
+copy-words-requires : tie.Need-copy-words-requires
+copy-words-requires c κs = search needs
 
 insert-requires : tie.Need-insert-requires
 insert-requires c κs =
@@ -30,9 +33,9 @@ same-length-2 c = search needs
 returns : tie.Need-returns
 returns c =
     let a = c .before .before .before .before .before .before .before .before .before .before .before .before .before .before .args in
-    (c .before .before .before .before .before .before .store-id .ensures, c .before .before .insert .ensures ∙ ap (λ (at : ℕ). inserted (a .order .now) (a .n) at (a .s)) (c .before .before .before .before .before .before .before .before .seek .ensures))
+    (c .before .before .before .before .before .before .copy-words .ensures, c .before .before .insert .ensures ∙ ap (λ (at : ℕ). inserted (a .order .now) (a .n) at (a .s)) (c .before .before .before .before .before .before .before .before .seek .ensures))
 
 pub put-spec : {M : Type 1} → statement M
 put-spec =
     tie.close
-    (tie.spec seek-requires store-id-requires insert-requires same-length same-length-2 returns)
+    (tie.spec seek-requires mul-copy-words copy-words-requires insert-requires same-length same-length-2 returns)

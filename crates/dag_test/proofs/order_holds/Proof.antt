@@ -20,29 +20,14 @@ returns-2 : tie.Need-returns-2
 unfolding orderHolds
 returns-2 c = chain-yes _ _ _ _ (c .before .before .before .inside .ensures) (c .before .before .if1 .left) (chain-no _ _ _ (c .before .sorted .ensures) (c .if2 .taken))
 
-ids-hold-requires : tie.Need-ids-hold-requires
-ids-hold-requires c κs = (search needs, inside-says _ _ _ (passed _ _ (c .before .before .before .inside .ensures) (c .before .before .if1 .left)))
+few-hold-requires : tie.Need-few-hold-requires
+few-hold-requires c κs = (search needs, inside-says _ _ _ (passed _ _ (c .before .before .before .inside .ensures) (c .before .before .if1 .left)))
 
 returns-3 : tie.Need-returns-3
 unfolding orderHolds
-returns-3 c = chain-yes _ _ _ _ (c .before .before .before .before .before .inside .ensures) (c .before .before .before .before .if1 .left) (chain-yes _ _ _ _ (c .before .before .before .sorted .ensures) (c .before .before .if2 .left) (chain-no _ _ _ (c .before .ids-hold .ensures) (c .if3 .taken)))
-
-few-hold-requires : tie.Need-few-hold-requires
-few-hold-requires c κs = (search needs, inside-says _ _ _ (passed _ _ (c .before .before .before .before .before .inside .ensures) (c .before .before .before .before .if1 .left)))
-
-returns-4 : tie.Need-returns-4
-unfolding orderHolds
-returns-4 c = chain-yes _ _ _ _ (c .before .before .before .before .before .before .inside .ensures) (c .before .before .before .before .before .if1 .left) (chain-yes _ _ _ _ (c .before .before .before .before .sorted .ensures) (c .before .before .before .if2 .left) (chain-yes _ _ _ _ (c .before .before .ids-hold .ensures) (c .before .if3 .left) (c .few-hold .ensures)))
+returns-3 c = chain-yes _ _ _ _ (c .before .before .before .before .inside .ensures) (c .before .before .before .if1 .left) (chain-yes _ _ _ _ (c .before .before .sorted .ensures) (c .before .if2 .left) (c .few-hold .ensures))
 
 pub order-holds-spec : {M : Type 1} → statement M
 order-holds-spec =
     tie.close
-    (tie.spec
-    inside-requires
-    returns
-    sorted-requires
-    returns-2
-    ids-hold-requires
-    returns-3
-    few-hold-requires
-    returns-4)
+    (tie.spec inside-requires returns sorted-requires returns-2 few-hold-requires returns-3)

@@ -29,17 +29,8 @@ loop-holds c = (search needs, refl, refl)
 add-j : tie.Need-add-j Inv-loop μ-loop
 add-j c = search needs
 
-mul-slot-2 : tie.Need-mul-slot-2 Inv-loop μ-loop
-mul-slot-2 c = search needs
-
-add-slot : tie.Need-add-slot Inv-loop μ-loop
-add-slot c = search needs
-
-mul-slot-3 : tie.Need-mul-slot-3 Inv-loop μ-loop
-mul-slot-3 c = search needs
-
-shared-slice-read-slot : tie.Need-shared-slice-read-slot Inv-loop μ-loop
-shared-slice-read-slot c = search needs
+peer-requires : tie.Need-peer-requires Inv-loop μ-loop
+peer-requires c κs = search needs
 
 slot-requires-2 : tie.Need-slot-requires-2 Inv-loop μ-loop
 slot-requires-2 c κs = search needs
@@ -70,7 +61,7 @@ loop-again : tie.Need-loop-again Inv-loop μ-loop
 loop-again c =
     let l = c .before .before .before .before .before .before .before .before .loop in
     let z = c .before .before .put-link .ensures in
-    let k = ap₂ _+_ (c .before .before .before .before .before .before .before .before .before .slot .ensures) (c .before .before .before .before .before .slot2 .ensures) in
+    let k = ap₂ _+_ (c .before .before .before .before .before .before .before .before .before .slot .ensures) (c .before .before .before .before .before .slot2 .ensures ∙ c .before .before .before .before .before .before .peer .ensures) in
     (search needs, ap length z ∙ (link-length (l .links) _ _ _ _ _ ∙ l .inv .1), links-more _ _ _ _ _ _ _ _ _ _ _ (l .inv .2) k (c .before .before .before .before .target-word .ensures) z)
 
 same-length : tie.Need-same-length Inv-loop μ-loop
@@ -90,10 +81,7 @@ put-links-spec =
     slot-requires
     loop-holds
     add-j
-    mul-slot-2
-    add-slot
-    mul-slot-3
-    shared-slice-read-slot
+    peer-requires
     slot-requires-2
     target-word-requires
     add-put-link

@@ -4,23 +4,11 @@ use borrow.Author.Needs.{needs}
 use Rattle.inspect_refs.proofs.refers_by.Statement.{statement}
 use Rattle.inspect_refs.proofs.refers_by.Tie as tie
 
-mul-target : tie.Need-mul-target
-mul-target c = search needs
-
-add-target : tie.Need-add-target
-add-target c = search needs
-
-add-target-2 : tie.Need-add-target-2
-add-target-2 c = search needs
-
-mul-target-2 : tie.Need-mul-target-2
-mul-target-2 c = search needs
-
-shared-slice-read-target : tie.Need-shared-slice-read-target
-shared-slice-read-target c = search needs
+target-requires : tie.Need-target-requires
+target-requires c κs = search needs
 
 returns : tie.Need-returns
-returns c = sym (refers-none _ _ _ _ (c .if1 .taken))
+returns c = sym (refers-none _ _ _ _ _ (c .before .target .ensures) (c .if1 .taken))
 
 mul-same-digest : tie.Need-mul-same-digest
 mul-same-digest c = search needs
@@ -38,17 +26,13 @@ same-digest-requires : tie.Need-same-digest-requires
 same-digest-requires c κs = search needs
 
 returns-2 : tie.Need-returns-2
-returns-2 c = c .same-digest .ensures ∙ sym (refers-there _ _ _ _ (c .before .if1 .left))
+returns-2 c = c .same-digest .ensures ∙ sym (refers-there _ _ _ _ _ (c .before .before .target .ensures) (c .before .if1 .left))
 
 pub refers-by-spec : {M : Type 1} → statement M
 refers-by-spec =
     tie.close
     (tie.spec
-    mul-target
-    add-target
-    add-target-2
-    mul-target-2
-    shared-slice-read-target
+    target-requires
     returns
     mul-same-digest
     add-same-digest

@@ -1,26 +1,8 @@
 use mathlib.Core.Path.{refl}
-use Rattle.dag_info.specs.Wild.{linkWords}
+use Rattle.dag_keys.specs.Id.{idFrom}
 use borrow.Author.Needs.{needs}
-use Rattle.dag_info.proofs.link_words.Statement.{statement}
-use Rattle.dag_info.proofs.link_words.Tie as tie
-
-mul-peer : tie.Need-mul-peer
-mul-peer c = search needs
-
-add-peer : tie.Need-add-peer
-add-peer c = search needs
-
-mul-peer-2 : tie.Need-mul-peer-2
-mul-peer-2 c = search needs
-
-shared-slice-read-peer : tie.Need-shared-slice-read-peer
-shared-slice-read-peer c = search needs
-
-mul-b : tie.Need-mul-b
-mul-b c = search needs
-
-add-b : tie.Need-add-b
-add-b c = search needs
+use Rattle.dag_keys.proofs.id_at.Statement.{statement}
+use Rattle.dag_keys.proofs.id_at.Tie as tie
 
 add-x : tie.Need-add-x
 add-x c = search needs
@@ -59,19 +41,13 @@ shared-slice-read-w : tie.Need-shared-slice-read-w
 shared-slice-read-w c = search needs
 
 returns : tie.Need-returns
-unfolding linkWords
+unfolding idFrom
 returns c = refl
 
-pub link-words-spec : {M : Type 1} → statement M
-link-words-spec =
+pub id-at-spec : {M : Type 1} → statement M
+id-at-spec =
     tie.close
     (tie.spec
-    mul-peer
-    add-peer
-    mul-peer-2
-    shared-slice-read-peer
-    mul-b
-    add-b
     add-x
     mul-x
     shared-slice-read-x

@@ -4,9 +4,9 @@ use native.Mathlib.Omega.{arith}
 use lib.ListN.{getD}
 use borrow.Author.Count.{below-none, below-more}
 use borrow.Author.Needs.{needs}
-use Rattle.inspect_refs.specs.Refs.{digest-yes, digest-no}
-use Rattle.inspect_refs.proofs.same_digest.Statement.{statement}
-use Rattle.inspect_refs.proofs.same_digest.Tie as tie
+use Rattle.dag_keys.specs.Digest.{digest-yes, digest-no}
+use Rattle.dag_keys.proofs.same_digest.Statement.{statement}
+use Rattle.dag_keys.proofs.same_digest.Tie as tie
 
 abbrev Inv-loop : tie.InvT-loop
 Inv-loop a i b j k₀ k = (k ≤ 4) × ((m : ℕ) → m < k → getD a (i + m) 0 ≡ getD b (j + m) 0)

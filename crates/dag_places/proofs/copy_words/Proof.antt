@@ -1,10 +1,10 @@
 use Prim.Native.Nat.{_≤_, _-_}
 use mathlib.Core.Path.{_≡_, refl, _∙_}
 use lib.ListN.{length, length-set}
-use Rattle.dag_told.specs.Copy.{copied, copied-more, copied-end}
+use Rattle.dag_places.specs.Fill.{filled, copied, filled-more, filled-end}
 use borrow.Author.Needs.{needs}
-use Rattle.dag_told.proofs.copy_words.Statement.{statement}
-use Rattle.dag_told.proofs.copy_words.Tie as tie
+use Rattle.dag_places.proofs.copy_words.Statement.{statement}
+use Rattle.dag_places.proofs.copy_words.Tie as tie
 
 abbrev Inv-loop : tie.InvT-loop
 Inv-loop t₀ at words from n i₀ t i = (i ≤ n) × (length t ≡ length t₀) × (t ≡ copied t₀ at words from i)
@@ -13,7 +13,7 @@ abbrev μ-loop : tie.MeasureT-loop
 μ-loop t₀ at words from n i₀ t i = n - i
 
 loop-holds : tie.Need-loop-holds Inv-loop μ-loop
-unfolding copied
+unfolding filled
 loop-holds c = (search needs, refl, refl)
 
 add-word : tie.Need-add-word Inv-loop μ-loop
@@ -43,13 +43,13 @@ loop-less c = search needs
 loop-again : tie.Need-loop-again Inv-loop μ-loop
 loop-again c =
     let l = c .before .before .loop in
-    (search needs, length-set (l .t) _ _ ∙ l .inv .1, copied-more _ _ _ _ _ _ (l .inv .2))
+    (search needs, length-set (l .t) _ _ ∙ l .inv .1, filled-more _ _ _ _ _ (l .inv .2))
 
 same-length : tie.Need-same-length Inv-loop μ-loop
 same-length c = search needs
 
 returns : tie.Need-returns Inv-loop μ-loop
-returns c = copied-end _ _ _ _ _ _ _ (c .before .loop .inv .2) (c .before .loop .inv .0) (c .loop-test .left)
+returns c = filled-end _ _ _ _ _ _ (c .before .loop .inv .2) (c .before .loop .inv .0) (c .loop-test .left)
 
 pub copy-words-spec : {M : Type 1} → statement M
 copy-words-spec =
