@@ -10,7 +10,6 @@ use borrow.Author.Tests.{eq-eqb, ne-eqb, le-leb, lt-leb, leb-true}
 use Rattle.laws.specs.Test.{byTest, clash, same-test, and-l, not-yes, not-no, leOr, sameOr}
 use Rattle.laws.specs.Scan.{any, any-intro, any-elim, any-same, first-hit, first-miss}
 use Rattle.laws.specs.Lists.{has, has-append, has-map}
-use Rattle.laws.specs.Bytes.{number}
 use Rattle.spec.specs.Ids.{Ref, leads, linksOf, fits}
 use Rattle.spec.specs.Store.{Told, Point, Store, idAt, links}
 use Rattle.spec.specs.Rules.{wellFormed, wild, counts}

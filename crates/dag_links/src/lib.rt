@@ -1,6 +1,5 @@
 // Origin: dag/dag_round.rs. The stored links and words of a used place, tested.
 ghost use mathlib.Core.Path.{_≡_};
-ghost use mathlib.Core.Bool.{_&&_, _||_};
 ghost use Prim.Native.Nat.{ℕ, _+_, _*_, _-_, _/_, _%_, _<_, _≤_};
 ghost use lib.ListN.{length, getD};
 ghost use Rattle.dag_links.specs.Links.{fits, linkRight, linksRight, marked};

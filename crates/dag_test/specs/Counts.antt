@@ -1,6 +1,6 @@
 -- The tables pass the test exactly if they count as started.
 use Prim.Native.Nat.{ℕ, _≤_}
-use mathlib.Core.Path.{_≡_, refl, sym, _∙_, ap, subst}
+use mathlib.Core.Path.{_≡_, refl, sym, _∙_, ap}
 use mathlib.Core.List.{List}
 use mathlib.Core.Logic.{_↔_}
 use mathlib.Core.Bool.{Bool, true, _&&_}
@@ -9,12 +9,11 @@ use lib.Dec.{eqb, leb, ltb}
 use lib.ListN.{length}
 use borrow.Author.Tests.{eq-eqb, leb-true, le-leb, ltb-true, lt-ltb}
 use Rattle.laws.specs.Test.{byTest, clash, both, and-l, and-r, or-l, or-r, sameOr, same-test}
-use Rattle.laws.specs.Scan.{every-elim, every-intro}
 use Rattle.spec.specs.Store.{Store}
 use Rattle.spec.specs.Rules.{placesOk, confOk, roundsOk, isStarted, counts}
 use Rattle.spec.specs.Started.{counts-elim, counts-intro}
 use Rattle.models.specs.Digest.{Fit}
-use Rattle.models.specs.Tables.{roundAt, authorAt, statusAt, placeAt, Used}
+use Rattle.models.specs.Tables.{roundAt, authorAt, statusAt, Used}
 use Rattle.dag_keys.specs.Sorted.{isInside, isSorted, inside-is, sorted-is}
 use Rattle.dag_few.specs.Exact.{Window, few-sound, few-complete}
 use Rattle.dag_heights.specs.Exact.{heights-sound, heights-complete}

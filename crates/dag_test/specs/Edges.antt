@@ -5,13 +5,12 @@ use mathlib.Core.List.{List, _∷_}
 use mathlib.Core.Bool.{true}
 use native.Mathlib.Omega.{arith}
 use lib.Dec.{ltb}
-use lib.ListN.{getD}
 use borrow.Author.Tests.{eq-eqb, ne-eqb, eqb-true, ltb-true, lt-ltb}
 use Rattle.laws.specs.Test.{sameOr, both, and-l, and-r}
 use Rattle.laws.specs.Lists.{has, has-intro, has-elim}
 use Rattle.spec.specs.Ids.{Id, fits, linksOf}
 use Rattle.spec.specs.Store.{linksTo, resolved, links}
-use Rattle.models.specs.Digest.{words, Fit, digest-words}
+use Rattle.models.specs.Digest.{Fit, digest-words}
 use Rattle.models.specs.Tables.{roundAt, authorAt, digestOf, statusAt, placeAt, Used}
 use Rattle.dag_keys.specs.Key.{key}
 use Rattle.dag_keys.specs.Sorted.{Sorted, sorted-key}
