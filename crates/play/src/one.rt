@@ -41,7 +41,8 @@ fn play_fields(
     f: &[u8],
 ) -> Step
     requires { ⌜ Sized kind (now f) ⌝ }
-    ensures { λ r. ⌜ Plays kind (board s (now (keys .entry)) (now (links .entry)) (now (certs .entry)) (now (order .entry))) (now (b .entry)) (now (f .entry)) r (board (r .state) (now (keys .exit)) (now (links .exit)) (now (certs .exit)) (now (order .exit))) (now (b .exit)) ⌝ }
+    ensures { λ r. ⌜ Plays kind (board s (now (keys .entry)) (now (links .entry)) (now (certs .entry)) (now (order .entry))) (now (b .entry)) (now (f .entry)) r
+        (board (r .state) (now (keys .exit)) (now (links .exit)) (now (certs .exit)) (now (order .exit))) (now (b .exit)) ⌝ }
 {
     match kind {
         Kind::Start => play_start(s, keys, links, certs, order, f),
@@ -72,7 +73,9 @@ pub fn play_one(
     at: usize,
 ) -> Played
     ensures end { λ r. ⌜ (r .end ≡ headAt (now (bytes .entry)) at .end) × (at ≤ r .end) × (at ≤ length (now (bytes .entry)) → r .end ≤ length (now (bytes .entry))) ⌝ }
-    ensures plays { λ r. ⌜ Plays (headAt (now (bytes .entry)) at .kind) (board s (now (keys .entry)) (now (links .entry)) (now (certs .entry)) (now (order .entry))) (now (b .entry)) (part (now (bytes .entry)) (headAt (now (bytes .entry)) at .from) (headAt (now (bytes .entry)) at .end)) (r .step) (board (r .step .state) (now (keys .exit)) (now (links .exit)) (now (certs .exit)) (now (order .exit))) (now (b .exit)) ⌝ }
+    ensures plays { λ r. ⌜ Plays (headAt (now (bytes .entry)) at .kind) (board s (now (keys .entry)) (now (links .entry)) (now (certs .entry)) (now (order .entry))) (now (b .entry))
+        (part (now (bytes .entry)) (headAt (now (bytes .entry)) at .from) (headAt (now (bytes .entry)) at .end)) (r .step)
+        (board (r .step .state) (now (keys .exit)) (now (links .exit)) (now (certs .exit)) (now (order .exit))) (now (b .exit)) ⌝ }
     ensures moves { λ r. ⌜ (known (headAt (now (bytes .entry)) at .kind) ≡ true → at < r .end) ⌝ }
 {
     if bytes.len() < at {

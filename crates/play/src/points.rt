@@ -27,7 +27,8 @@ pub fn play_name(
     f: &[u8],
 ) -> Step
     requires { ⌜ 37 ≤ length (now f) ⌝ }
-    ensures { λ r. ⌜ PlaysPlain kinds.Name (board s (now (keys .entry)) (now (links .entry)) (now (certs .entry)) (now (order .entry))) (now (f .entry)) r (board (r .state) (now (keys .exit)) (now (links .entry)) (now (certs .exit)) (now (order .exit))) ⌝ }
+    ensures { λ r. ⌜ PlaysPlain kinds.Name (board s (now (keys .entry)) (now (links .entry)) (now (certs .entry)) (now (order .entry))) (now (f .entry)) r
+        (board (r .state) (now (keys .exit)) (now (links .entry)) (now (certs .exit)) (now (order .exit))) ⌝ }
 {
     let id = id_of(f, 0);
     let o = add_dependency(s, keys, links, certs, order, id);
@@ -45,7 +46,8 @@ pub fn play_resolve(
 ) -> Step
     requires { ⌜ 82 + 33 * linksIn (now f) ≤ length (now f) ⌝ }
     requires { ⌜ linksIn (now f) ≤ 121 ⌝ }
-    ensures { λ r. ⌜ PlaysPlain kinds.Resolve (board s (now (keys .entry)) (now (links .entry)) (now (certs .entry)) (now (order .entry))) (now (f .entry)) r (board (r .state) (now (keys .exit)) (now (links .exit)) (now (certs .exit)) (now (order .entry))) ⌝ }
+    ensures { λ r. ⌜ PlaysPlain kinds.Resolve (board s (now (keys .entry)) (now (links .entry)) (now (certs .entry)) (now (order .entry))) (now (f .entry)) r
+        (board (r .state) (now (keys .exit)) (now (links .exit)) (now (certs .exit)) (now (order .entry))) ⌝ }
 {
     let id = id_of(f, 0);
     let info = info_of(f);
@@ -66,7 +68,8 @@ pub fn play_certify(
     f: &[u8],
 ) -> Step
     requires { ⌜ 37 ≤ length (now f) ⌝ }
-    ensures { λ r. ⌜ PlaysPlain kinds.Certify (board s (now (keys .entry)) (now (links .entry)) (now (certs .entry)) (now (order .entry))) (now (f .entry)) r (board (r .state) (now (keys .entry)) (now (links .entry)) (now (certs .exit)) (now (order .entry))) ⌝ }
+    ensures { λ r. ⌜ PlaysPlain kinds.Certify (board s (now (keys .entry)) (now (links .entry)) (now (certs .entry)) (now (order .entry))) (now (f .entry)) r
+        (board (r .state) (now (keys .entry)) (now (links .entry)) (now (certs .exit)) (now (order .entry))) ⌝ }
 {
     let id = id_of(f, 0);
     let o = certify(s, keys, links, certs, order, id);
@@ -84,7 +87,8 @@ pub fn play_commit(
     f: &[u8],
 ) -> Step
     requires { ⌜ 37 ≤ length (now f) ⌝ }
-    ensures { λ r. ⌜ Plays kinds.Commit (board s (now (keys .entry)) (now (links .entry)) (now (certs .entry)) (now (order .entry))) (now (b .entry)) (now (f .entry)) r (board (r .state) (now (keys .entry)) (now (links .entry)) (now (certs .exit)) (now (order .entry))) (now (b .exit)) ⌝ }
+    ensures { λ r. ⌜ Plays kinds.Commit (board s (now (keys .entry)) (now (links .entry)) (now (certs .entry)) (now (order .entry))) (now (b .entry)) (now (f .entry)) r
+        (board (r .state) (now (keys .entry)) (now (links .entry)) (now (certs .exit)) (now (order .entry))) (now (b .exit)) ⌝ }
 {
     let id = id_of(f, 0);
     let o = commit(s, keys, links, certs, order, id, b);
