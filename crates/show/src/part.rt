@@ -36,7 +36,8 @@ pub fn play_part(
     base: u64,
     last: bool,
 ) -> Part
-    ensures runs { λ r. ⌜ Runs (now (bytes .entry)) (board s (now (keys .entry)) (now (links .entry)) (now (certs .entry)) (now (order .entry))) (now (b .entry)) (r .at) (board (r .state) (now (keys .exit)) (now (links .exit)) (now (certs .exit)) (now (order .exit))) (now (b .exit)) ⌝ }
+    ensures runs { λ r. ⌜ Runs (now (bytes .entry)) (board s (now (keys .entry)) (now (links .entry)) (now (certs .entry)) (now (order .entry))) (now (b .entry)) (r .at)
+        (board (r .state) (now (keys .exit)) (now (links .exit)) (now (certs .exit)) (now (order .exit))) (now (b .exit)) ⌝ }
     ensures ends { λ r. ⌜ (r .at ≤ length (now (bytes .entry))) × Ends (now (bytes .entry)) last (r .at) (r .broken) ⌝ }
 {
     let mut now = s;
