@@ -7,9 +7,8 @@ use mathlib.Core.Option.{none, some}
 use native.Mathlib.Omega.{arith}
 use lib.Dec.{eqb, leb, ltb}
 use lib.ListN.{length, getD}
-use borrow.Author.Tests.{eq-eqb, ne-eqb, eqb-true, le-leb, lt-leb, leb-false, le-ltb, lt-ltb, ltb-true, not-true, not-false}
+use borrow.Author.Tests.{eqb-true, le-leb, lt-leb, leb-false, le-ltb, lt-ltb, ltb-true, not-true, not-false}
 use Rattle.laws.specs.Test.{byTest, leOr, and-l, and-r}
-use Rattle.laws.specs.Peers.{member}
 use Rattle.spec.specs.Ids.{Id}
 use Rattle.spec.specs.Store as store
 use Rattle.spec.specs.Store.{Store, previous}
@@ -18,34 +17,37 @@ use Rattle.spec.specs.Rules.{counts}
 use Rattle.spec.specs.Chain as chain
 use Rattle.spec.specs.Chain.{Out, number, conflict, bad, good, then, refuse, orZero, lowestWalked, checkOldest, walk, chainFrom, triggerConflict, triggered, placeOf, anchorsOf}
 use Rattle.spec.specs.Calls.{atId}
-use Rattle.models.specs.Cert.{bitOf, heightOf}
+use Rattle.models.specs.Cert.{bitOf, flagsOf, heightOf, hasProof}
+use Rattle.models.specs.DagPoint.{caseOf}
 use Rattle.models.specs.Digest.{Fit, digestAt}
 use Rattle.models.specs.Parts.{idOf}
 use Rattle.models.specs.Tables.{roundAt, authorAt, statusAt, marksAt, Used}
 use Rattle.models.specs.declared.parts.PointId.{PointId}
-use Rattle.models.specs.declared.parts.Round.{Round}
+use Rattle.models.specs.Refusal.{refusalOf, unlessFailed, failed, conflicting, notValid}
+use Rattle.models.specs.declared.refusal.Refusal.{Refusal}
+use Rattle.models.specs.declared.refusal.Refusal.the-variants.{Number}
+use Rattle.models.specs.declared.refusal.Check.{Check}
+use Rattle.models.specs.declared.refusal.Check.the-variants.{Passed, Failed}
 use Rattle.dag_state.specs.Numbers.{roundsHold}
-use Rattle.dag_state.specs.View.{optionOf, recordOf, progressOf, confOf}
+use Rattle.dag_state.specs.View.{optionOf, progressOf, confOf}
 use Rattle.dag_state.specs.declared.state.State.{State}
 use Rattle.dag_test.specs.Tested.{range-says}
 use Rattle.dag_test.specs.View.{view}
 use Rattle.dag_test.specs.Counts.{rounds-of}
-use Rattle.dag_name.specs.Name.{idWords, idCode, orElse}
+use Rattle.dag_name.specs.Name.{idWords}
 use Rattle.dag_name.specs.Codes.{unless}
-use Rattle.dag_settle.specs.Point.{positionFor, missing, pointCode, placeFor, point-used, point-low}
-use Rattle.dag_settle.specs.Found.{idFor, point-is}
-use Rattle.back_walk.specs.Words.{hasPrevious, previousWords}
-use Rattle.back_walk.specs.Visit.{refusalOf, walkable, round-at, resolved-at, status-at, certified-at, top-at, kept-at, given-at, previous-at, previous-id, previous-fit, found-round}
+use Rattle.dag_settle.specs.Point.{pointCode, placeFor, point-used, point-low}
+use Rattle.dag_settle.specs.Found.{point-is}
+use Rattle.back_walk.specs.Words.{hasPrevious, previousId}
+use Rattle.back_walk.specs.Visit.{walkable, round-at, resolved-at, status-at, status-most, certified-at, top-at, kept-at, given-at, previous-at, previous-id, previous-fit, found-round}
 use Rattle.back_chain.specs.Chain.{noAnchors, chainOut, chain-none, out-good, out-bad}
 use Rattle.back_chain.specs.Walked.{walked, walked-is}
-use Rattle.back_chain.specs.Trigger.{isBelow, lowOf, statusCode, triggerCode, walks, chainedFrom}
+use Rattle.back_chain.specs.Trigger.{isBelow, lowOf, triggerOf, triggerCode, walks, chainedFrom}
 use Rattle.back_chain.specs.declared.Chain.{Chain}
 
 -- the trigger at the place q, of the round r
 unfoldable pub triggeredAt : State → List ℕ → List ℕ → List ℕ → List ℕ → ℕ → ℕ → Out (List chain.Enqueued)
-triggeredAt s ks ls cs os q r =
-    let k = triggerCode ks cs q in
-    cond (eqb k 0) (cond (walks s ks q r (lowOf s)) (chainedFrom s ks ls cs os q r (lowOf s)) (good [])) (bad (refusalOf k r))
+triggeredAt s ks ls cs os q r = unlessFailed (triggerCode ks cs q r) (cond (walks s ks q r (lowOf s)) (chainedFrom s ks ls cs os q r (lowOf s)) (good []))
 
 -- ---- plain laws
 
@@ -53,20 +55,35 @@ triggeredAt s ks ls cs os q r =
 abbrev conflicts : Bool → Bool → Bool → Bool
 conflicts two c f = elim two [ true ↦ c && f | false ↦ c ]
 
--- 9, 13 and 15 of a trigger as a number; o is the chain of a valid one
-status-is : (st : ℕ) (c f : Bool) (r : ℕ) (o : Out (List chain.Enqueued))
-    → refuse (not (ltb 0 st)) 9 (elim (eqb st 1) [ true ↦ o | false ↦ elim (conflicts (eqb st 2) c f) [ true ↦ bad (conflict r) | false ↦ refuse (not c) 15 (good []) ] ])
-    ≡ cond (eqb (statusCode st c f) 0) (cond (eqb st 1) o (good [])) (bad (refusalOf (statusCode st c f) r))
-unfolding refuse statusCode refusalOf
-status-is zero c f r o = refl
-status-is (suc zero) c f r o = refl
-status-is (suc (suc zero)) true true r o = refl
-status-is (suc (suc zero)) true false r o = refl
-status-is (suc (suc zero)) false f r o = refl
-status-is (suc (suc (suc st))) c f r o =
-    let n = suc (suc (suc st)) in
-    rw (lt-ltb 0 n (omega arith), ne-eqb n 0 (λ e. omega arith), ne-eqb n 1 (λ e. omega arith), ne-eqb n 2 (λ e. omega arith))
-    (byTest c (λ e. rw (e, conflicts) refl) (λ e. rw (e, conflicts) (rw e refl)))
+-- what 01 says of a trigger that is resolved and isn't valid
+abbrev other : Bool → Bool → Bool → ℕ → Out (List chain.Enqueued)
+other two c f r = elim (conflicts two c f) [ true ↦ bad (conflict r) | false ↦ refuse (not c) 15 (good []) ]
+
+-- of a worse status than 2
+invalid-is : (c r : ℕ) (f : Bool) → other false (ltb 0 (heightOf c)) f r ≡ unlessFailed (notValid c r) (good [])
+unfolding refuse unlessFailed refusalOf notValid
+invalid-is c r f = by (ltb 0 (heightOf c))
+  where
+    by : (g : Bool) → other false g f r ≡ unlessFailed (cond g (conflicting r) (failed 15)) (good [])
+    by true = refl
+    by false = refl
+
+-- 9, 13 and 15 of a trigger, by its status and its certificate word; o is the chain of a valid one
+status-is : (st c r : ℕ) (o : Out (List chain.Enqueued)) → st ≤ 5
+    → refuse (not (ltb 0 st)) 9 (elim (eqb st 1) [ true ↦ o | false ↦ other (eqb st 2) (ltb 0 (heightOf c)) (bitOf 0x8000 c) r ]) ≡ unlessFailed (triggerOf (caseOf st) c r) (cond (eqb st 1) o (good []))
+unfolding refuse unlessFailed refusalOf triggerOf caseOf hasProof flagsOf notValid
+status-is zero c r o l = refl
+status-is (suc zero) c r o l = refl
+status-is (suc (suc zero)) c r o l = by (ltb 0 (heightOf c)) (bitOf 0x8000 c)
+  where
+    by : (g f : Bool) → other true g f r ≡ unlessFailed (cond (g && f) (conflicting r) (cond g Passed (failed 15))) (good [])
+    by true true = refl
+    by true false = refl
+    by false f = refl
+status-is (suc (suc (suc zero))) c r o l = invalid-is c r (bitOf 0x8000 c)
+status-is (suc (suc (suc (suc zero)))) c r o l = invalid-is c r (bitOf 0x8000 c)
+status-is (suc (suc (suc (suc (suc zero))))) c r o l = invalid-is c r (bitOf 0x8000 c)
+status-is (suc (suc (suc (suc (suc (suc n)))))) c r o l = absurd (omega arith)
 
 -- the tests before a walk; e: it is empty
 walk-tests : (m g e : Bool) (o p : Out (List chain.Enqueued)) → (e ≡ false → o ≡ p) → elim (not m || (g || e)) [ true ↦ good [] | false ↦ o ] ≡ cond (m && (not g && not e)) p (good [])
@@ -85,33 +102,11 @@ unfolding unless
 unless-same zero o p h = h refl
 unless-same (suc n) o p h = refl
 
--- a number other than 13 that refuses
-unless-number : {A : Type 0} (n r : ℕ) (o : Out A) → (n ≡ 0 → ⊥) → n ≤ 9 → bad (refusalOf n r) ≡ unless n o
-unfolding unless refusalOf
-unless-number zero r o d l = absurd (d refl)
-unless-number (suc n) r o d l = rw (ne-eqb (suc n) 13 (λ e. omega arith)) refl
-
--- the numbers of an id's tests
-code-small : (s : State) (ks os : List ℕ) (i : PointId) → pointCode s ks os i ≤ 9
-unfolding pointCode missing orElse idCode
-code-small s ks os i = else-small (idCode s i) _ id-small (by (ltb (positionFor ks os (s .count) (idWords i)) (s .count)))
-  where
-    else-small : (a b : ℕ) → a ≤ 9 → b ≤ 9 → orElse a b ≤ 9
-    else-small zero b l m = m
-    else-small (suc a) b l m = l
-
-    by : (b : Bool) → cond b 0 9 ≤ 9
-    by true = omega arith
-    by false = omega arith
-
-    small : (a b c : Bool) → cond a 5 (cond b 6 (cond c 5 0)) ≤ 9
-    small true b c = omega arith
-    small false true c = omega arith
-    small false false true = omega arith
-    small false false false = omega arith
-
-    id-small : idCode s i ≤ 9
-    id-small = small (leb 32 (i .author)) (not (leb (s .bottom .0) (i .round .0) && leb (i .round .0) (s .top .0))) (not (member (recordOf (s .rounds) (i .round .0) .peers) (i .author)))
+-- a number that refuses
+unless-number : {A : Type 0} (n : ℕ) (o : Out A) → (n ≡ 0 → ⊥) → bad (number n) ≡ unless n o
+unfolding unless
+unless-number zero o d = absurd (d refl)
+unless-number (suc n) o d = refl
 
 -- the round plus 1, or 0 for none
 zero-less : (n : ℕ) → orZero (optionOf n) ≡ n - 1
@@ -120,16 +115,16 @@ zero-less zero = refl
 zero-less (suc n) = omega arith
 
 -- no anchors
-none-good : (c : Chain) (x : Round) → c ≡ noAnchors 0 x → chainOut c ≡ good []
-none-good c x e = ap chainOut e ∙ (out-good (noAnchors 0 x) refl ∙ ap good (chain-none (noAnchors 0 x .list)))
+none-good : (c : Chain) → c ≡ noAnchors Passed → chainOut c ≡ good []
+none-good c e = ap chainOut e ∙ (out-good (noAnchors Passed) refl ∙ ap good (chain-none (noAnchors Passed .list)))
 
 -- a refusal
-none-bad : (c : Chain) (k : ℕ) (x : Round) → c ≡ noAnchors k x → (k ≡ 0 → ⊥) → chainOut c ≡ bad (refusalOf k (x .0))
-none-bad c k x e d = ap chainOut e ∙ out-bad (noAnchors k x) d
+none-bad : (c : Chain) (r : Refusal) → c ≡ noAnchors (Failed r) → chainOut c ≡ bad (refusalOf r)
+none-bad c r e = ap chainOut e ∙ out-bad (noAnchors (Failed r)) r refl
 
 -- it has no entries
-pub none-few : (c : Chain) (k : ℕ) (x : Round) → c ≡ noAnchors k x → c .count ≤ 511
-none-few c k x e = omega (arith, ap (λ (z : Chain). z .count) e)
+pub none-few : (c : Chain) (k : Check) → c ≡ noAnchors k → c .count ≤ 511
+none-few c k e = omega (arith, ap (λ (z : Chain). z .count) e)
 
 module _ (s : State) (ks ls cs os : List ℕ) (fk : Fit ks) (fl : Fit ls) (h : counts (view s ks ls cs os) ≡ true) where
   -- the store
@@ -158,18 +153,18 @@ module _ (s : State) (ks ls cs os : List ℕ) (fk : Fit ks) (fl : Fit ls) (h : c
     from-is valid l =
         ap (chainFrom v q) (previous-at s ks ls cs os fk fl h q u (omega arith)) ∙ by (hasPrevious ks ls q)
       where
-        start : (x y : ℕ) → x ≡ low → y ≡ r → then (walk v x (y - 1 - x) (record { round = y - 1; author = store.idAt v q .author; digest = digestAt ls (q * 328 + 72 + authorAt ks q * 4) }) []) (checkOldest x) ≡ then (walked s ks ls cs os low (r - low) (previousWords ks ls q (r - 1)) []) (checkOldest low)
+        start : (x y : ℕ) → x ≡ low → y ≡ r → then (walk v x (y - 1 - x) (record { round = y - 1; author = store.idAt v q .author; digest = digestAt ls (q * 328 + 72 + authorAt ks q * 4) }) []) (checkOldest x) ≡ then (walked s ks ls cs os low (r - low) (previousId ks ls q (r - 1)) []) (checkOldest low)
         start x y a b =
             let top = kept-at s ks ls cs os fk fl h q u .1 in
             let k : r - low ≡ suc (r - 1 - low) = omega arith in
             let small : r - 1 < 2 ^ 64 = omega (arith, e, fk (q * 8 + 0)) in
-            let w = previousWords ks ls q (r - 1) in
-            let go : walked s ks ls cs os low (r - low) w [] ≡ walk v low (r - 1 - low) (idFor w) [] = rw k (walked-is s ks ls cs os fk fl h low low-room (r - 1 - low) w [] (omega (arith, top, e)) (previous-fit ks ls q (r - 1) fk fl small)) in
+            let w : PointId = previousId ks ls q (r - 1) in
+            let go : walked s ks ls cs os low (r - low) w [] ≡ walk v low (r - 1 - low) (idOf w) [] = rw k (walked-is s ks ls cs os fk fl h low low-room (r - 1 - low) w [] (omega (arith, top, e)) (previous-fit ks ls q (r - 1) fk fl small)) in
             rw (a, b)
             (ap (λ (i : Id). then (walk v low (r - 1 - low) i []) (checkOldest low)) (previous-id s ks ls cs os fk fl h q u (omega arith) (r - 1))
             ∙ ap (λ x. then x (checkOldest low)) (sym go))
 
-        by : (b : Bool) → chainFrom v q (cond b (some (digestAt ls (q * 328 + 72 + authorAt ks q * 4))) none) ≡ cond b (then (walked s ks ls cs os low (r - low) (previousWords ks ls q (r - 1)) []) (checkOldest low)) (bad (number 16))
+        by : (b : Bool) → chainFrom v q (cond b (some (digestAt ls (q * 328 + 72 + authorAt ks q * 4))) none) ≡ cond b (then (walked s ks ls cs os low (r - low) (previousId ks ls q (r - 1)) []) (checkOldest low)) (bad (number 16))
         by true = start (lowestWalked v) (store.roundAt v q) low-is round-of
         by false = refl
 
@@ -191,17 +186,11 @@ module _ (s : State) (ks ls cs os : List ℕ) (fk : Fit ks) (fl : Fit ls) (h : c
     unfolding triggered triggerConflict proved triggeredAt triggerCode
     trigger-is =
         let st = statusAt ks q in
-        let c = ltb 0 (heightOf (getD cs q 0)) in
-        let f = bitOf 0x8000 (getD cs q 0) in
         (λ i. refuse (not (resolved-at s ks ls cs os fk fl h q u i)) 9 (elim (eqb (status-at s ks ls cs os fk fl h q u i) 1) [
           | true ↦ chain.chain v q
-          | false ↦ elim (conflicts (eqb (status-at s ks ls cs os fk fl h q u i) 2) (certified-at s ks ls cs os fk fl h q u i) (top-at s ks ls cs os fk fl h q u i)) [
-            | true ↦ bad (conflict (round-of i))
-            | false ↦ refuse (not (certified-at s ks ls cs os fk fl h q u i)) 15 (good [])
-          ]
+          | false ↦ other (eqb (status-at s ks ls cs os fk fl h q u i) 2) (certified-at s ks ls cs os fk fl h q u i) (top-at s ks ls cs os fk fl h q u i) (round-of i)
         ]))
-        ∙ (status-is st c f r (chain.chain v q)
-        ∙ ap (λ x. cond (eqb (statusCode st c f) 0) x (bad (refusalOf (statusCode st c f) r))) walk-is)
+        ∙ (status-is st (getD cs q 0) r (chain.chain v q) (status-most s ks ls cs os fk fl h q u) ∙ ap (unlessFailed (triggerOf (caseOf st) (getD cs q 0) r)) walk-is)
 
   module _ (i : PointId) (fi : Fit (idWords i)) where
     -- the place of the trigger
@@ -256,33 +245,34 @@ module _ (s : State) (ks ls cs os : List ℕ) (fk : Fit ks) (fl : Fit ls) (h : c
     Says c = chainOut c ≡ anchorsOf v (idOf i)
 
     module _ (b : Bool) (is : b ≡ isBelow s i) where
-      pub of-below : b ≡ true → (c : Chain) → c ≡ noAnchors 0 (i .round) → Says c
-      of-below y c e = none-good c _ e ∙ sym (anchors-is ∙ rw (sym is ∙ y) refl)
+      pub of-below : b ≡ true → (c : Chain) → c ≡ noAnchors Passed → Says c
+      of-below y c e = none-good c e ∙ sym (anchors-is ∙ rw (sym is ∙ y) refl)
 
       module _ (n : b ≡ false) (k : ℕ) (code : k ≡ pointCode s ks os i) where
         tests : anchorsOf v (idOf i) ≡ unless k (triggeredAt s ks ls cs os q r)
         tests = anchors-is ∙ rw (sym is ∙ n, ← code) refl
 
-        pub of-refused : (k ≡ 0 → ⊥) → (c : Chain) → c ≡ noAnchors k (i .round) → Says c
-        of-refused d c e = none-bad c k _ e d ∙ (unless-number k r _ d (omega (arith, code, code-small s ks os i)) ∙ sym tests)
+        pub of-refused : (k ≡ 0 → ⊥) → (c : Chain) → c ≡ noAnchors (failed k) → Says c
+        unfolding refusalOf
+        of-refused d c e = none-bad c (Number k) e ∙ (unless-number k _ d ∙ sym tests)
 
-        module _ (z : k ≡ 0) (p : ℕ) (at : p ≡ placeFor s ks os i) (m : ℕ) (trigger : m ≡ triggerCode ks cs p) where
+        module _ (z : k ≡ 0) (p : ℕ) (at : p ≡ placeFor s ks os i) (m : Check) (trigger : m ≡ triggerCode ks cs p r) where
           at-trigger : anchorsOf v (idOf i) ≡ triggeredAt s ks ls cs os p r
           unfolding unless
           at-trigger = tests ∙ rw (z, unless, ← at) refl
 
-          pub of-trigger : (m ≡ 0 → ⊥) → (c : Chain) → c ≡ noAnchors m (i .round) → Says c
-          unfolding triggeredAt
-          of-trigger d c e = none-bad c m _ e d ∙ sym (at-trigger ∙ rw (← trigger, ne-eqb m 0 d) refl)
+          pub of-trigger : (w : Refusal) → m ≡ Failed w → (c : Chain) → c ≡ noAnchors (Failed w) → Says c
+          unfolding triggeredAt unlessFailed
+          of-trigger w d c e = none-bad c w e ∙ sym (at-trigger ∙ rw (sym trigger ∙ d) refl)
 
-          module _ (none : m ≡ 0) (l : ℕ) (lowest : l ≡ lowOf s) (a : Bool) (walk : a ≡ walks s ks p r l) where
-            pub of-none : not a ≡ true → (c : Chain) → c ≡ noAnchors 0 (i .round) → Says c
-            unfolding triggeredAt
-            of-none y c e = none-good c _ e ∙ sym (at-trigger ∙ rw (← trigger, eq-eqb m 0 none, ← lowest, sym walk ∙ not-true a y) refl)
+          module _ (none : m ≡ Passed) (l : ℕ) (lowest : l ≡ lowOf s) (a : Bool) (walk : a ≡ walks s ks p r l) where
+            pub of-none : not a ≡ true → (c : Chain) → c ≡ noAnchors Passed → Says c
+            unfolding triggeredAt unlessFailed
+            of-none y c e = none-good c e ∙ sym (at-trigger ∙ rw (sym trigger ∙ none, ← lowest, sym walk ∙ not-true a y) refl)
 
             pub of-chain : not a ≡ false → (c : Chain) → chainOut c ≡ chainedFrom s ks ls cs os p r l → Says c
-            unfolding triggeredAt
-            of-chain y c e = e ∙ sym (at-trigger ∙ rw (← trigger, eq-eqb m 0 none, ← lowest, sym walk ∙ not-false a y) refl)
+            unfolding triggeredAt unlessFailed
+            of-chain y c e = e ∙ sym (at-trigger ∙ rw (sym trigger ∙ none, ← lowest, sym walk ∙ not-false a y) refl)
 
             -- what the walk is given
             pub of-ready : not a ≡ false → Used os (s .count) p × ((l < r) × (r - l ≤ 511))

@@ -2,27 +2,29 @@
 use Prim.Native.Nat.{ℕ, zero, suc, _+_, _-_, _<_, _≤_}
 use mathlib.Core.Path.{_≡_, refl, _∙_}
 use mathlib.Core.List.{List, [], _∷_}
-use mathlib.Core.Bool.{cond}
 use native.Mathlib.Omega.{arith}
 use native.Mathlib.Numerals.{add-one}
-use lib.Dec.{eqb}
 use lib.ListN.{length, getD, set, replicate}
 use lib.Seq.{getD-set-same, getD-set-other}
-use borrow.Author.Tests.{eq-eqb, ne-eqb, lt-ltb, le-ltb}
+use borrow.Author.Tests.{lt-ltb, le-ltb}
 use Rattle.spec.specs.Chain as chain
 use Rattle.spec.specs.Chain.{Out, bad, good, then, refuse, unlinked, checkOldest}
-use Rattle.models.specs.declared.parts.Round.{Round}
+use Rattle.models.specs.Refusal.{refusalOf, unlessFailed, failed}
+use Rattle.models.specs.declared.refusal.Refusal.{Refusal}
+use Rattle.models.specs.declared.refusal.Refusal.the-variants.{Number}
+use Rattle.models.specs.declared.refusal.Check.{Check}
+use Rattle.models.specs.declared.refusal.Check.the-variants.{Passed, Failed}
 use Rattle.back_walk.specs.declared.Enqueued.{Enqueued}
-use Rattle.back_walk.specs.Visit.{refusalOf, enqueuedOf}
+use Rattle.back_walk.specs.Visit.{enqueuedOf}
 use Rattle.back_chain.specs.declared.Chain.{Chain}
 
 -- an entry that no anchor has
 abbrev pub noEnqueued : Enqueued
-noEnqueued = record { anchor = 0; proof = 0; «prev_proof_round» = 0 }
+noEnqueued = record { anchor = 0; proof = 0; «prev_proof_round» = record { 0 = 0 } }
 
--- no anchors, with the number of a refusal or 0
-abbrev pub noAnchors : ℕ → Round → Chain
-noAnchors k r = record { code = k; round = r; count = 0; list = replicate 512 noEnqueued }
+-- no anchors
+abbrev pub noAnchors : Check → Chain
+noAnchors c = record { check = c; count = 0; list = replicate 512 noEnqueued }
 
 -- the first n entries, oldest first
 unfoldable pub chainOf : List Enqueued → ℕ → List chain.Enqueued
@@ -31,15 +33,15 @@ chainOf l (suc n) = enqueuedOf (getD l n noEnqueued) ∷ chainOf l n
 
 -- the chain as the definitions': its anchors, or the refusal
 unfoldable pub chainOut : Chain → Out (List chain.Enqueued)
-chainOut c = cond (eqb (c .code) 0) (good (chainOf (c .list) (c .count))) (bad (refusalOf (c .code) (c .round .0)))
+chainOut c = unlessFailed (c .check) (good (chainOf (c .list) (c .count)))
 
-pub out-good : (c : Chain) → c .code ≡ 0 → chainOut c ≡ good (chainOf (c .list) (c .count))
-unfolding chainOut
-out-good c z = rw (eq-eqb (c .code) 0 z) refl
+pub out-good : (c : Chain) → c .check ≡ Passed → chainOut c ≡ good (chainOf (c .list) (c .count))
+unfolding chainOut unlessFailed
+out-good c z = rw z refl
 
-pub out-bad : (c : Chain) → (c .code ≡ 0 → ⊥) → chainOut c ≡ bad (refusalOf (c .code) (c .round .0))
-unfolding chainOut
-out-bad c d = rw (ne-eqb (c .code) 0 d) refl
+pub out-bad : (c : Chain) (r : Refusal) → c .check ≡ Failed r → chainOut c ≡ bad (refusalOf r)
+unfolding chainOut unlessFailed
+out-bad c r e = rw e refl
 
 -- ---- the list
 
@@ -69,11 +71,11 @@ chain-head l (suc n) h = rw (sub-one n) refl
 -- ---- 19
 
 module _ (low : ℕ) (c : Chain) where
-  pub check-bad : (c .code ≡ 0 → ⊥) → chainOut c ≡ then (chainOut c) (checkOldest low)
-  check-bad d = rw (out-bad c d) refl
+  pub check-bad : (r : Refusal) → c .check ≡ Failed r → chainOut c ≡ then (chainOut c) (checkOldest low)
+  check-bad r e = rw (out-bad c r e) refl
 
   -- the walk came out well
-  module _ (z : c .code ≡ 0) where
+  module _ (z : c .check ≡ Passed) where
     pub check-none : c .count ≡ 0 → chainOut c ≡ then (chainOut c) (checkOldest low)
     unfolding checkOldest unlinked refuse
     check-none e = rw (out-good c z, e, chain-none (c .list)) refl
@@ -83,10 +85,10 @@ module _ (low : ℕ) (c : Chain) where
       abbrev last : Enqueued
       last = getD (c .list) (c .count - 1) noEnqueued
 
-      pub check-apart : low < last .«prev_proof_round» → (r : Chain) → r .code ≡ 19 → chainOut r ≡ then (chainOut c) (checkOldest low)
+      pub check-apart : low < last .«prev_proof_round» .0 → (r : Chain) → r .check ≡ failed 19 → chainOut r ≡ then (chainOut c) (checkOldest low)
       unfolding checkOldest unlinked refuse refusalOf
-      check-apart l r e = out-bad r (λ d. omega arith) ∙ rw (e, out-good c z, chain-head (c .list) (c .count) (omega arith), lt-ltb low (last .«prev_proof_round») l) refl
+      check-apart l r e = out-bad r (Number 19) e ∙ rw (out-good c z, chain-head (c .list) (c .count) (omega arith), lt-ltb low (last .«prev_proof_round» .0) l) refl
 
-      pub check-on : last .«prev_proof_round» ≤ low → chainOut c ≡ then (chainOut c) (checkOldest low)
+      pub check-on : last .«prev_proof_round» .0 ≤ low → chainOut c ≡ then (chainOut c) (checkOldest low)
       unfolding checkOldest unlinked refuse
-      check-on l = rw (out-good c z, chain-head (c .list) (c .count) (omega arith), le-ltb low (last .«prev_proof_round») l) refl
+      check-on l = rw (out-good c z, chain-head (c .list) (c .count) (omega arith), le-ltb low (last .«prev_proof_round» .0) l) refl

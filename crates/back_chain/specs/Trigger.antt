@@ -10,14 +10,22 @@ use borrow.Author.Tests.{eq-eqb, ne-eqb, le-ltb, lt-ltb, not-true, not-false}
 use Rattle.laws.specs.Test.{and-no, and-yes}
 use Rattle.spec.specs.Chain as chain
 use Rattle.spec.specs.Chain.{Out, number, bad, then, checkOldest}
-use Rattle.models.specs.Cert.{bitOf, heightOf}
+use Rattle.models.specs.Cert.{bitOf, heightOf, hasProof}
 use Rattle.models.specs.Tables.{statusAt, marksAt}
+use Rattle.models.specs.DagPoint.{caseOf, isValid, valid-is}
+use Rattle.models.specs.Refusal.{refusalOf, failed, conflicting, notValid}
+use Rattle.models.specs.declared.dag_point.DagPoint.{DagPoint}
+use Rattle.models.specs.declared.dag_point.DagPoint.the-variants.{Valid, TransInvalid, Invalid, IllFormed, NotFound}
+use Rattle.models.specs.declared.dag_point.Resolved.{Resolved}
+use Rattle.models.specs.declared.dag_point.Resolved.the-variants.{Case, Nothing}
+use Rattle.models.specs.declared.refusal.Refusal.the-variants.{Number}
+use Rattle.models.specs.declared.refusal.Check.{Check}
+use Rattle.models.specs.declared.refusal.Check.the-variants.{Passed}
 use Rattle.models.specs.declared.parts.PointId.{PointId}
 use Rattle.dag_state.specs.declared.state.State.{State}
-use Rattle.back_walk.specs.Words.{hasPrevious, previousWords}
-use Rattle.back_walk.specs.Visit.{refusalOf}
+use Rattle.back_walk.specs.Words.{hasPrevious, previousId}
 use Rattle.back_chain.specs.Walked.{walked}
-use Rattle.back_chain.specs.Chain.{chainOut, out-bad}
+use Rattle.back_chain.specs.Chain.{noAnchors, chainOut, out-bad}
 use Rattle.back_chain.specs.declared.Chain.{Chain}
 
 -- the id is of a peer's number and below the bottom
@@ -28,13 +36,18 @@ isBelow s i = ltb (i .author) 32 && ltb (i .round .0) (s .bottom .0)
 unfoldable pub lowOf : State → ℕ
 lowOf s = max (s .«last_proof» - 1) (s .bottom .0)
 
--- what a trigger of the status st is refused with, 0 if it isn't; is it certified, has it the top bit
-unfoldable pub statusCode : ℕ → Bool → Bool → ℕ
-statusCode st c f = cond (eqb st 0) 9 (cond (eqb st 1) 0 (cond c (cond (eqb st 2) (cond f 13 0) 13) 15))
+-- what a trigger is refused with, by its case, its certificate word and its round
+unfoldable pub triggerOf : Resolved → ℕ → ℕ → Check
+triggerOf Nothing c r = failed 9
+triggerOf (Case Valid) c r = Passed
+triggerOf (Case TransInvalid) c r = cond (hasProof c) (conflicting r) (cond (ltb 0 (heightOf c)) Passed (failed 15))
+triggerOf (Case Invalid) c r = notValid c r
+triggerOf (Case IllFormed) c r = notValid c r
+triggerOf (Case NotFound) c r = notValid c r
 
--- what the trigger at the place q is refused with, 0 if it isn't
-unfoldable pub triggerCode : List ℕ → List ℕ → ℕ → ℕ
-triggerCode ks cs q = statusCode (statusAt ks q) (ltb 0 (heightOf (getD cs q 0))) (bitOf 0x8000 (getD cs q 0))
+-- what the trigger at the place q, of the round r, is refused with
+unfoldable pub triggerCode : List ℕ → List ℕ → ℕ → ℕ → Check
+triggerCode ks cs q r = triggerOf (caseOf (statusAt ks q)) (getD cs q 0) r
 
 -- the point at the place q, of the round r, is a valid trigger with rounds to walk
 unfoldable pub walks : State → List ℕ → ℕ → ℕ → ℕ → Bool
@@ -43,7 +56,7 @@ walks s ks q r low = eqb (statusAt ks q) 1 && (bitOf 2 (marksAt ks q) && (not (e
 -- the chain of the trigger at the place q, of the round r
 unfoldable pub chainedFrom : State → List ℕ → List ℕ → List ℕ → List ℕ → ℕ → ℕ → ℕ → Out (List chain.Enqueued)
 chainedFrom s ks ls cs os q r low =
-    cond (hasPrevious ks ls q) (then (walked s ks ls cs os low (r - low) (previousWords ks ls q (r - 1)) []) (checkOldest low)) (bad (number 16))
+    cond (hasPrevious ks ls q) (then (walked s ks ls cs os low (r - low) (previousId ks ls q (r - 1)) []) (checkOldest low)) (bad (number 16))
 
 -- ---- the code's steps
 
@@ -69,59 +82,59 @@ module _ (s : State) where
   unfolding lowOf
   low-bottom l = omega arith
 
-module _ (ks cs : List ℕ) (q : ℕ) where
-  pub trigger-named : statusAt ks q ≡ 0 → 9 ≡ triggerCode ks cs q
-  unfolding triggerCode statusCode
-  trigger-named e = rw (eq-eqb (statusAt ks q) 0 e) refl
+module _ (ks cs : List ℕ) (q r : ℕ) (x : Resolved) (is : x ≡ caseOf (statusAt ks q)) where
+  pub trigger-by : (y : Resolved) → x ≡ y → (c : Check) → c ≡ triggerOf y (getD cs q 0) r → c ≡ triggerCode ks cs q r
+  unfolding triggerCode
+  trigger-by y e c h = h ∙ ap (λ z. triggerOf z (getD cs q 0) r) (sym e ∙ is)
 
-  pub trigger-valid : statusAt ks q ≡ 1 → 0 ≡ triggerCode ks cs q
-  unfolding triggerCode statusCode
-  trigger-valid e = rw (ne-eqb (statusAt ks q) 0 (λ d. omega arith), eq-eqb (statusAt ks q) 1 e) refl
+  pub trigger-case : (p y : DagPoint) → x ≡ Case p → p ≡ y → (c : Check) → c ≡ triggerOf (Case y) (getD cs q 0) r → c ≡ triggerCode ks cs q r
+  trigger-case p y e f = trigger-by (Case y) (e ∙ ap Case f)
 
-  -- other statuses
-  module _ (d : statusAt ks q ≡ 0 → ⊥) (e : statusAt ks q ≡ 1 → ⊥) (b : Bool) (is : b ≡ ltb 0 (heightOf (getD cs q 0))) where
-    pub trigger-flat : not b ≡ true → 15 ≡ triggerCode ks cs q
-    unfolding triggerCode statusCode
-    trigger-flat h = rw (ne-eqb (statusAt ks q) 0 d, ne-eqb (statusAt ks q) 1 e, sym is ∙ not-true b h) refl
+-- a trans-invalid one: proved, certified or neither
+module _ (c r : ℕ) (a : Bool) (proof : a ≡ hasProof c) where
+  pub trans-proved : a ≡ true → conflicting r ≡ triggerOf (Case TransInvalid) c r
+  unfolding triggerOf
+  trans-proved h = rw (← proof, h) refl
 
-    module _ (h : not b ≡ false) where
-      pub trigger-worse : (statusAt ks q ≡ 2 → ⊥) → 13 ≡ triggerCode ks cs q
-      unfolding triggerCode statusCode
-      trigger-worse x = rw (ne-eqb (statusAt ks q) 0 d, ne-eqb (statusAt ks q) 1 e, sym is ∙ not-false b h, ne-eqb (statusAt ks q) 2 x) refl
+  module _ (h : a ≡ false) (b : Bool) (height : b ≡ ltb 0 (heightOf c)) where
+    pub trans-flat : not b ≡ true → failed 15 ≡ triggerOf (Case TransInvalid) c r
+    unfolding triggerOf
+    trans-flat k = rw (← proof, h, sym height ∙ not-true b k) refl
 
-      pub trigger-proved : statusAt ks q ≡ 2 → getD cs q 0 / 32768 % 2 ≡ 1 → 13 ≡ triggerCode ks cs q
-      unfolding triggerCode statusCode
-      trigger-proved x y = rw (ne-eqb (statusAt ks q) 0 d, ne-eqb (statusAt ks q) 1 e, sym is ∙ not-false b h, eq-eqb (statusAt ks q) 2 x, eq-eqb (getD cs q 0 / 32768 % 2) 1 y) refl
+    pub trans-certified : not b ≡ false → Passed ≡ triggerOf (Case TransInvalid) c r
+    unfolding triggerOf
+    trans-certified k = rw (← proof, h, sym height ∙ not-false b k) refl
 
-      pub trigger-turned : statusAt ks q ≡ 2 → (getD cs q 0 / 32768 % 2 ≡ 1 → ⊥) → 0 ≡ triggerCode ks cs q
-      unfolding triggerCode statusCode
-      trigger-turned x y = rw (ne-eqb (statusAt ks q) 0 d, ne-eqb (statusAt ks q) 1 e, sym is ∙ not-false b h, eq-eqb (statusAt ks q) 2 x, ne-eqb (getD cs q 0 / 32768 % 2) 1 y) refl
+module _ (s : State) (ks : List ℕ) (q r low : ℕ) (x : Resolved) (is : x ≡ caseOf (statusAt ks q)) (b : Bool) (valid : b ≡ isValid x) where
+  -- the test of the status
+  status-is : b ≡ eqb (statusAt ks q) 1
+  status-is = valid ∙ (ap isValid is ∙ valid-is (statusAt ks q))
 
-module _ (s : State) (ks : List ℕ) (q r low : ℕ) where
-  pub walks-invalid : (statusAt ks q ≡ 1 → ⊥) → false ≡ walks s ks q r low
+  pub walks-invalid : not b ≡ true → false ≡ walks s ks q r low
   unfolding walks
-  walks-invalid d = rw (ne-eqb (statusAt ks q) 1 d) refl
+  walks-invalid h = rw (sym status-is ∙ not-true b h) refl
 
-  module _ (e : statusAt ks q ≡ 1) where
+  module _ (h : not b ≡ false) where
     pub walks-unmarked : (marksAt ks q / 2 % 2 ≡ 1 → ⊥) → false ≡ walks s ks q r low
     unfolding walks
-    walks-unmarked d = rw (eq-eqb (statusAt ks q) 1 e, ne-eqb (marksAt ks q / 2 % 2) 1 d) refl
+    walks-unmarked d = rw (sym status-is ∙ not-false b h, ne-eqb (marksAt ks q / 2 % 2) 1 d) refl
 
     module _ (m : marksAt ks q / 2 % 2 ≡ 1) where
       pub walks-genesis : r ≡ s .genesis .0 → false ≡ walks s ks q r low
       unfolding walks
-      walks-genesis g = rw (eq-eqb (statusAt ks q) 1 e, eq-eqb (marksAt ks q / 2 % 2) 1 m, eq-eqb r (s .genesis .0) g) refl
+      walks-genesis g = rw (sym status-is ∙ not-false b h, eq-eqb (marksAt ks q / 2 % 2) 1 m, eq-eqb r (s .genesis .0) g) refl
 
       pub walks-by : (r ≡ s .genesis .0 → ⊥) → ltb low r ≡ walks s ks q r low
       unfolding walks
-      walks-by g = rw (eq-eqb (statusAt ks q) 1 e, eq-eqb (marksAt ks q / 2 % 2) 1 m, ne-eqb r (s .genesis .0) g) refl
+      walks-by g = rw (sym status-is ∙ not-false b h, eq-eqb (marksAt ks q / 2 % 2) 1 m, ne-eqb r (s .genesis .0) g) refl
 
 module _ (s : State) (ks ls cs os : List ℕ) (q r low : ℕ) (b : Bool) (is : b ≡ hasPrevious ks ls q) where
-  pub from-none : not b ≡ true → (c : Chain) → c .code ≡ 16 → chainOut c ≡ chainedFrom s ks ls cs os q r low
+  pub from-none : not b ≡ true → (c : Chain) → c ≡ noAnchors (failed 16) → chainOut c ≡ chainedFrom s ks ls cs os q r low
   unfolding chainedFrom refusalOf
-  from-none h c e = out-bad c (λ z. omega arith) ∙ rw (e, sym is ∙ not-true b h) refl
+  from-none h c e = out-bad c (Number 16) (ap (λ (z : Chain). z .check) e) ∙ rw (sym is ∙ not-true b h) refl
 
-  pub from-walk : not b ≡ false → (w : List ℕ) → w ≡ previousWords ks ls q (r - 1) → (c d : Chain) → chainOut c ≡ walked s ks ls cs os low (r - low) w [] → chainOut d ≡ then (chainOut c) (checkOldest low)
+  pub from-walk : not b ≡ false → (p : ℕ) → p ≡ r - 1 → (i : PointId) → i ≡ previousId ks ls q p → (c d : Chain) → chainOut c ≡ walked s ks ls cs os low (r - low) i [] → chainOut d ≡ then (chainOut c) (checkOldest low)
       → chainOut d ≡ chainedFrom s ks ls cs os q r low
   unfolding chainedFrom
-  from-walk h w e c d f g = g ∙ (ap (λ x. then x (checkOldest low)) (f ∙ ap (λ (z : List ℕ). walked s ks ls cs os low (r - low) z []) e) ∙ rw (sym is ∙ not-false b h) refl)
+  from-walk h p o i e c d f g =
+      g ∙ (ap (λ x. then x (checkOldest low)) (f ∙ ap (λ (z : PointId). walked s ks ls cs os low (r - low) z []) (e ∙ ap (previousId ks ls q) o)) ∙ rw (sym is ∙ not-false b h) refl)

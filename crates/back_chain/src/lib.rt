@@ -7,6 +7,7 @@ ghost use mathlib.Core.Bool.{true};
 ghost use lib.ListN.{length};
 ghost use Rattle.spec.specs.Rules.{counts};
 ghost use Rattle.spec.specs.Chain.{then, checkOldest, anchorsOf};
+ghost use Rattle.models.specs.DagPoint.{isValid};
 ghost use Rattle.models.specs.Parts.{idOf};
 ghost use Rattle.models.specs.Tables.{Used};
 ghost use Rattle.dag_test.specs.View.{view};
@@ -24,29 +25,36 @@ use dag_settle::point_code;
 use dag_settle::point_place;
 use dag_state::state::State;
 use models::cert::Cert;
+use models::dag_point::DagPoint;
+use models::dag_point::Resolved;
 use models::parts::PointId;
 use models::parts::Round;
+use models::refusal::CHAIN_NOT_LINKED;
+use models::refusal::Check;
+use models::refusal::NO_PROOF;
+use models::refusal::NOT_NAMED;
+use models::refusal::NOT_USABLE;
+use models::refusal::Refusal;
+use models::refusal::not_valid;
 
-// The anchors, newest first, or the number of a refusal; the round is that of 13, the history conflict.
+// The anchors, newest first, unless the trigger or its walk is refused.
 pub struct Chain {
-    pub code: u32,
-    pub round: Round,
+    pub check: Check,
     pub count: usize,
     pub list: [Enqueued; 512],
 }
 
-// No anchors; refused unless the number is 0.
-fn no_anchors(code: u32, round: Round) -> Chain
-    ensures { λ r. ⌜ r ≡ noAnchors code round ⌝ }
+// No anchors.
+fn no_anchors(check: Check) -> Chain
+    ensures { λ r. ⌜ r ≡ noAnchors check ⌝ }
 {
     let empty = Enqueued {
         anchor: 0,
         proof: 0,
-        prev_proof_round: 0,
+        prev_proof_round: Round(0),
     };
     Chain {
-        code,
-        round,
+        check,
         count: 0,
         list: [empty; 512],
     }
@@ -59,45 +67,37 @@ fn anchor_chain(
     links: &[u64],
     certs: &[u64],
     order: &[u64],
-    low: u32,
+    low: Round,
     span: u32,
-    id: [u64; 8],
+    id: PointId,
 ) -> Chain
     requires { ⌜ Walkable s (now keys) (now certs) (now order) ⌝ }
     requires { ⌜ Linked s (now keys) (now links) (now order) ⌝ }
-    requires { ⌜ (span ≤ 511) × (low + span < 4294967296) ⌝ }
-    ensures { λ r. ⌜ chainOut r ≡ walked s (now (keys .entry)) (now (links .entry)) (now (certs .entry)) (now (order .entry)) low span id [] ⌝ }
+    requires { ⌜ (span ≤ 511) × (low .0 + span < 4294967296) ⌝ }
+    ensures { λ r. ⌜ chainOut r ≡ walked s (now (keys .entry)) (now (links .entry)) (now (certs .entry)) (now (order .entry)) (low .0) span id [] ⌝ }
     ensures { λ r. ⌜ r .count ≤ 511 ⌝ }
 {
-    let empty = Enqueued {
-        anchor: 0,
-        proof: 0,
-        prev_proof_round: 0,
-    };
-    let mut list = [empty; 512];
+    let empty = no_anchors(Check::Passed);
+    let mut list = empty.list;
     let mut count: usize = 0;
     let mut sought = id;
     let mut k = span;
     while 0 < k {
         k -= 1;
-        let x = low + k;
+        let x = low.plus(k);
         let step = visit(s, keys, links, certs, order, sought, low, x);
         match step {
             Step::Pass => {}
             Step::End => {
                 return Chain {
-                    code: 0,
-                    round: Round(x),
+                    check: Check::Passed,
                     count,
                     list,
                 };
             }
-            Step::Bad(f) => {
-                let code = f.code;
-                let round = f.round;
+            Step::Bad(r) => {
                 return Chain {
-                    code,
-                    round,
+                    check: Check::Failed(r),
                     count,
                     list,
                 };
@@ -111,20 +111,20 @@ fn anchor_chain(
         }
     }
     Chain {
-        code: 0,
-        round: Round(low),
+        check: Check::Passed,
         count,
         list,
     }
 }
 
 // 19, at the walk's end: the oldest anchor's top proof is above the lowest round.
-fn check_oldest(c: Chain, low: u32) -> Chain
+fn check_oldest(c: Chain, low: Round) -> Chain
     requires { ⌜ c .count ≤ 511 ⌝ }
-    ensures { λ r. ⌜ chainOut r ≡ then (chainOut c) (checkOldest low) ⌝ }
+    ensures { λ r. ⌜ chainOut r ≡ then (chainOut c) (checkOldest (low .0)) ⌝ }
     ensures { λ r. ⌜ r .count ≤ 511 ⌝ }
 {
-    if c.code != 0 {
+    let check = c.check;
+    if let Check::Failed(_) = check {
         return c;
     }
     let count = c.count;
@@ -133,11 +133,10 @@ fn check_oldest(c: Chain, low: u32) -> Chain
     }
     let list = c.list;
     let e = list[count - 1];
-    let round = c.round;
-    if low < e.prev_proof_round {
+    let oldest = e.prev_proof_round;
+    if low.0 < oldest.0 {
         return Chain {
-            code: 19,
-            round,
+            check: Check::Failed(Refusal::Number(CHAIN_NOT_LINKED)),
             count,
             list,
         };
@@ -146,65 +145,81 @@ fn check_oldest(c: Chain, low: u32) -> Chain
 }
 
 // The lowest round of a walk: the last committed proof's, or the bottom if there is none or if that is higher.
-fn lowest_walked(s: State) -> u32
-    ensures { λ r. ⌜ r ≡ lowOf s ⌝ }
+fn lowest_walked(s: State) -> Round
+    ensures { λ r. ⌜ r .0 ≡ lowOf s ⌝ }
 {
     let bottom = s.bottom;
-    let low = bottom.0;
     let last = s.last_proof;
     if last == 0 {
-        return low;
+        return bottom;
     }
-    if low < last - 1 {
-        return last - 1;
+    if bottom.0 < last - 1 {
+        return Round(last - 1);
     }
-    low
+    bottom
 }
 
-// What the trigger at place q is refused with: 9, 13 or 15, or 0.
-fn trigger_code(keys: &[u64], certs: &[u64], q: usize) -> u32
+// What the trigger at place q, of this round, is refused with: 9, 13 or 15 (`filter`).
+fn trigger_code(keys: &[u64], certs: &[u64], q: usize, round: Round) -> Check
     requires { ⌜ (q * 8 + 8 ≤ length (now keys)) × (q < length (now certs)) ⌝ }
-    ensures { λ r. ⌜ r ≡ triggerCode (now (keys .entry)) (now (certs .entry)) q ⌝ }
+    ensures { λ r. ⌜ r ≡ triggerCode (now (keys .entry)) (now (certs .entry)) q (round .0) ⌝ }
 {
-    let status = keys[q * 8 + 6];
-    if status == 0 {
-        return 9;
+    let case = dag_keys::case_at(keys, q);
+    let cert = Cert(certs[q]);
+    match case {
+        Resolved::Nothing => Check::Failed(Refusal::Number(NOT_NAMED)),
+        Resolved::Case(p) => match p {
+            DagPoint::Valid => Check::Passed,
+            DagPoint::TransInvalid => {
+                if cert.has_proof() {
+                    return Check::Failed(Refusal::Conflict(round));
+                }
+                if !cert.is_certified() {
+                    return Check::Failed(Refusal::Number(NOT_USABLE));
+                }
+                Check::Passed
+            }
+            DagPoint::Invalid => not_valid(cert, round),
+            DagPoint::IllFormed => not_valid(cert, round),
+            DagPoint::NotFound => not_valid(cert, round),
+        },
     }
-    if status == 1 {
-        return 0;
+}
+
+// Whether it is a valid point.
+fn is_valid(case: Resolved) -> bool
+    ensures { λ r. ⌜ r ≡ isValid case ⌝ }
+{
+    match case {
+        Resolved::Nothing => false,
+        Resolved::Case(p) => match p {
+            DagPoint::Valid => true,
+            DagPoint::TransInvalid => false,
+            DagPoint::Invalid => false,
+            DagPoint::IllFormed => false,
+            DagPoint::NotFound => false,
+        },
     }
-    let word = certs[q];
-    let cert = Cert(word);
-    if !cert.is_certified() {
-        return 15;
-    }
-    if status != 2 {
-        return 13;
-    }
-    if word / 32768 % 2 == 1 {
-        return 13;
-    }
-    0
 }
 
 // Whether the point at place q, of this round, is a valid trigger with rounds to walk. The genesis round has none.
-fn has_walk(s: State, keys: &[u64], q: usize, round: u32, low: u32) -> bool
+fn has_walk(s: State, keys: &[u64], q: usize, round: Round, low: Round) -> bool
     requires { ⌜ q * 8 + 8 ≤ length (now keys) ⌝ }
-    ensures { λ r. ⌜ r ≡ walks s (now (keys .entry)) q round low ⌝ }
+    ensures { λ r. ⌜ r ≡ walks s (now (keys .entry)) q (round .0) (low .0) ⌝ }
 {
-    let status = keys[q * 8 + 6];
-    let marks = keys[q * 8 + 7];
-    if status != 1 {
+    let case = dag_keys::case_at(keys, q);
+    if !is_valid(case) {
         return false;
     }
+    let marks = keys[q * 8 + 7];
     if marks / 2 % 2 != 1 {
         return false;
     }
     let genesis = s.genesis;
-    if round == genesis.0 {
+    if round.0 == genesis.0 {
         return false;
     }
-    low < round
+    low.0 < round.0
 }
 
 // The chain of the trigger at place q, of this round, above the lowest one.
@@ -215,21 +230,22 @@ fn chain_from(
     certs: &[u64],
     order: &[u64],
     q: usize,
-    round: u32,
-    low: u32,
+    round: Round,
+    low: Round,
 ) -> Chain
     requires { ⌜ Walkable s (now keys) (now certs) (now order) ⌝ }
     requires { ⌜ Linked s (now keys) (now links) (now order) ⌝ }
     requires { ⌜ Used (now order) (s .count) q ⌝ }
-    requires { ⌜ (low < round) × (round - low ≤ 511) ⌝ }
-    ensures { λ r. ⌜ chainOut r ≡ chainedFrom s (now (keys .entry)) (now (links .entry)) (now (certs .entry)) (now (order .entry)) q round low ⌝ }
+    requires { ⌜ (low .0 < round .0) × (round .0 - low .0 ≤ 511) ⌝ }
+    ensures { λ r. ⌜ chainOut r ≡ chainedFrom s (now (keys .entry)) (now (links .entry)) (now (certs .entry)) (now (order .entry)) q (round .0) (low .0) ⌝ }
     ensures { λ r. ⌜ r .count ≤ 511 ⌝ }
 {
     if !has_previous(keys, links, q) {
-        return no_anchors(16, Round(round));
+        return no_anchors(Check::Failed(Refusal::Number(NO_PROOF)));
     }
-    let first = previous(keys, links, q, (round - 1) as u64);
-    let c = anchor_chain(s, keys, links, certs, order, low, round - low, first);
+    let first = previous(keys, links, q, round.prev());
+    let span = round.0 - low.0;
+    let c = anchor_chain(s, keys, links, certs, order, low, span, first);
     check_oldest(c, low)
 }
 
@@ -260,20 +276,20 @@ pub fn chain_of(
 {
     let round = id.round;
     if below_bottom(s, id) {
-        return no_anchors(0, round);
+        return no_anchors(Check::Passed);
     }
     let code = point_code(s, keys, order, id);
     if code != 0 {
-        return no_anchors(code, round);
+        return no_anchors(Check::Failed(Refusal::Number(code)));
     }
     let q = point_place(s, keys, order, id);
-    let refused = trigger_code(keys, certs, q);
-    if refused != 0 {
-        return no_anchors(refused, round);
+    let check = trigger_code(keys, certs, q, round);
+    if let Check::Failed(r) = check {
+        return no_anchors(Check::Failed(r));
     }
     let low = lowest_walked(s);
-    if !has_walk(s, keys, q, round.0, low) {
-        return no_anchors(0, round);
+    if !has_walk(s, keys, q, round, low) {
+        return no_anchors(Check::Passed);
     }
-    chain_from(s, keys, links, certs, order, q, round.0, low)
+    chain_from(s, keys, links, certs, order, q, round, low)
 }

@@ -4,14 +4,18 @@ use mathlib.Core.Path.{_≡_, refl, sym, ap, subst, _∙_}
 use mathlib.Core.List.{List}
 use mathlib.Core.Bool.{Bool, true, false, cond}
 use native.Mathlib.Omega.{arith}
-use lib.Dec.{eqb, leb}
+use lib.Dec.{leb}
 use lib.ListN.{length}
-use borrow.Author.Tests.{eq-eqb, ne-eqb, le-leb, lt-leb, leb-true}
+use borrow.Author.Tests.{le-leb, lt-leb, leb-true}
 use Rattle.laws.specs.Test.{and-l, and-r}
 use Rattle.laws.specs.Scan.{any, those}
 use Rattle.models.specs.Digest.{Fit}
 use Rattle.models.specs.Tables.{roundAt, placeAt, Used}
+use Rattle.models.specs.Refusal.{failed, orNext}
 use Rattle.models.specs.declared.parts.Round.{Round}
+use Rattle.models.specs.declared.refusal.Refusal.{Refusal}
+use Rattle.models.specs.declared.refusal.Check.{Check}
+use Rattle.models.specs.declared.refusal.Check.the-variants.{Passed, Failed}
 use Rattle.dag_ids.specs.Ids.{idHolds}
 use Rattle.dag_state.specs.Numbers.{roundsHold, rangeHolds}
 use Rattle.dag_state.specs.declared.state.State.{State}
@@ -22,10 +26,9 @@ use Rattle.dag_drain.specs.Cut.{below, below-le}
 use Rattle.back_history.specs.Sweep.{limitOf, missing, marks, Range}
 use Rattle.back_history.specs.Need.{lowestOf, low-high}
 use Rattle.back_history.specs.Picked.{wantsAt, flatAt}
-use Rattle.back_points.specs.declared.fault.Fault.{Fault}
 use Rattle.back_points.specs.declared.anchor.Span.{Span}
 use Rattle.back_points.specs.declared.anchor.Tested.{Tested}
-use Rattle.back_points.specs.Fault.{plain, foundFault, Rounds}
+use Rattle.back_points.specs.Fault.{foundFault, Rounds}
 
 -- the limit and the positions of the history of an anchor of round r
 unfoldable pub spanOf : State → List ℕ → List ℕ → ℕ → Span
@@ -35,22 +38,17 @@ spanOf s ks os r = record {
   high = below ks os (s .count) (r + 1);
 }
 
--- a refusal, or what follows
-unfoldable pub orNext : Fault → Fault → Fault
-orNext f g = cond (eqb (f .code) 0) g f
-
 -- 22; 13 to 15; 17; 18
-unfoldable pub codeOf : State → List ℕ → List ℕ → List ℕ → List Bool → Span → ℕ → Fault
+unfoldable pub codeOf : State → List ℕ → List ℕ → List ℕ → List Bool → Span → ℕ → Check
 codeOf s ks cs os m x r =
-    cond (leb r (s .genesis .0)) (plain 22) (orNext (foundFault ks cs os m (x .low) (x .high))
-    (cond (missing (s .«full_history_bottom» .0) (x .limit .0) (s .bottom .0)) (plain 17) (cond (any (x .high - x .low) (flatAt cs os m (x .low))) (plain 18) (plain 0))))
+    cond (leb r (s .genesis .0)) (failed 22) (orNext (foundFault ks cs os m (x .low) (x .high))
+    (cond (missing (s .«full_history_bottom» .0) (x .limit .0) (s .bottom .0)) (failed 17) (cond (any (x .high - x .low) (flatAt cs os m (x .low))) (failed 18) Passed)))
 
 -- the tests of the anchor a, whose history has these positions
 unfoldable pub testedIn : State → List ℕ → List ℕ → List ℕ → List ℕ → ℕ → Span → Tested
 testedIn s ks ls cs os a x =
     let m = marks (s .bottom .0) ks ls cs os (x .low) (x .high) a in
-    let f = codeOf s ks cs os m x (roundAt ks a) in
-    record { code = f .code; round = f .round; low = x .low; high = x .high; count = length (those (x .high - x .low) (wantsAt cs os m (x .low))); marks = m }
+    record { check = codeOf s ks cs os m x (roundAt ks a); low = x .low; high = x .high; count = length (those (x .high - x .low) (wantsAt cs os m (x .low))); marks = m }
 
 -- the tests of the anchor a
 unfoldable pub testedOf : State → List ℕ → List ℕ → List ℕ → List ℕ → ℕ → Tested
@@ -70,43 +68,43 @@ span-by s ks os r x y low high a b c d = λ i. record {
 
 module _ (s : State) (ks cs os : List ℕ) (m : List Bool) (x : Span) (r : ℕ) where
   -- at genesis
-  pub code-genesis : r ≤ s .genesis .0 → plain 22 ≡ codeOf s ks cs os m x r
+  pub code-genesis : r ≤ s .genesis .0 → failed 22 ≡ codeOf s ks cs os m x r
   unfolding codeOf
   code-genesis l = rw (le-leb r (s .genesis .0) l) refl
 
-  module _ (l : s .genesis .0 < r) (f : Fault) (e : f ≡ foundFault ks cs os m (x .low) (x .high)) where
+  module _ (l : s .genesis .0 < r) (f : Check) (e : f ≡ foundFault ks cs os m (x .low) (x .high)) where
     -- a point is refused
-    pub code-fault : (f .code ≡ 0 → ⊥) → f ≡ codeOf s ks cs os m x r
+    pub code-fault : (w : Refusal) → f ≡ Failed w → Failed w ≡ codeOf s ks cs os m x r
     unfolding codeOf orNext
-    code-fault n = rw (lt-leb r (s .genesis .0) l, ← e, ne-eqb (f .code) 0 n) refl
+    code-fault w h = rw (lt-leb r (s .genesis .0) l, sym e ∙ h) refl
 
     -- none is
-    module _ (z : f .code ≡ 0) (a : Bool) (h : a ≡ missing (s .«full_history_bottom» .0) (x .limit .0) (s .bottom .0)) where
+    module _ (z : f ≡ Passed) (a : Bool) (h : a ≡ missing (s .«full_history_bottom» .0) (x .limit .0) (s .bottom .0)) where
       -- rounds are missing
-      pub code-missing : a ≡ true → plain 17 ≡ codeOf s ks cs os m x r
+      pub code-missing : a ≡ true → failed 17 ≡ codeOf s ks cs os m x r
       unfolding codeOf orNext
-      code-missing t = rw (lt-leb r (s .genesis .0) l, ← e, eq-eqb (f .code) 0 z, ← h, t) refl
+      code-missing t = rw (lt-leb r (s .genesis .0) l, sym e ∙ z, ← h, t) refl
 
       -- none are
       module _ (n : a ≡ false) (b : Bool) (g : b ≡ any (x .high - x .low) (flatAt cs os m (x .low))) where
         -- a point has the height 0
-        pub code-flat : b ≡ true → plain 18 ≡ codeOf s ks cs os m x r
+        pub code-flat : b ≡ true → failed 18 ≡ codeOf s ks cs os m x r
         unfolding codeOf orNext
-        code-flat t = rw (lt-leb r (s .genesis .0) l, ← e, eq-eqb (f .code) 0 z, ← h, n, ← g, t) refl
+        code-flat t = rw (lt-leb r (s .genesis .0) l, sym e ∙ z, ← h, n, ← g, t) refl
 
         -- none has
-        pub code-none : b ≡ false → plain 0 ≡ codeOf s ks cs os m x r
+        pub code-none : b ≡ false → Passed ≡ codeOf s ks cs os m x r
         unfolding codeOf orNext
-        code-none t = rw (lt-leb r (s .genesis .0) l, ← e, eq-eqb (f .code) 0 z, ← h, n, ← g, t) refl
+        code-none t = rw (lt-leb r (s .genesis .0) l, sym e ∙ z, ← h, n, ← g, t) refl
 
 -- all of it
-pub tested-by : (s : State) (ks ls cs os : List ℕ) (a : ℕ) (r : ℕ) (x : Span) (m : List Bool) (c : ℕ) (f : Fault) → r ≡ roundAt ks a → x ≡ spanOf s ks os r → m ≡ marks (s .bottom .0) ks ls cs os (x .low) (x .high) a
+pub tested-by : (s : State) (ks ls cs os : List ℕ) (a : ℕ) (r : ℕ) (x : Span) (m : List Bool) (c : ℕ) (f : Check) → r ≡ roundAt ks a → x ≡ spanOf s ks os r → m ≡ marks (s .bottom .0) ks ls cs os (x .low) (x .high) a
     → c ≡ length (those (x .high - x .low) (wantsAt cs os m (x .low))) → f ≡ codeOf s ks cs os m x r
-    → record { code = f .code; round = f .round; low = x .low; high = x .high; count = c; marks = m } ≡ testedOf s ks ls cs os a
+    → record { check = f; low = x .low; high = x .high; count = c; marks = m } ≡ testedOf s ks ls cs os a
 unfolding testedOf testedIn
 tested-by s ks ls cs os a r x m c f o e d g h =
-    (λ i. record { code = (h ∙ ap (codeOf s ks cs os m x) o) i .code; round = (h ∙ ap (codeOf s ks cs os m x) o) i .round; low = x .low; high = x .high; count = g i; marks = m })
-    ∙ ((λ i. record { code = codeOf s ks cs os (d i) x (roundAt ks a) .code; round = codeOf s ks cs os (d i) x (roundAt ks a) .round; low = x .low; high = x .high; count = length (those (x .high - x .low) (wantsAt cs os (d i) (x .low))); marks = d i })
+    (λ i. record { check = (h ∙ ap (codeOf s ks cs os m x) o) i; low = x .low; high = x .high; count = g i; marks = m })
+    ∙ ((λ i. record { check = codeOf s ks cs os (d i) x (roundAt ks a); low = x .low; high = x .high; count = length (those (x .high - x .low) (wantsAt cs os (d i) (x .low))); marks = d i })
     ∙ ap (testedIn s ks ls cs os a) (e ∙ ap (spanOf s ks os) o))
 
 -- ---- what started tables give the code

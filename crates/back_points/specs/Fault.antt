@@ -2,30 +2,44 @@
 use Prim.Native.Nat.{ℕ, _-_, _<_, _≤_}
 use mathlib.Core.Path.{_≡_, refl, sym, ap, subst, _∙_}
 use mathlib.Core.List.{List}
-use mathlib.Core.Bool.{Bool, true, false, not, _&&_, cond}
+use mathlib.Core.Bool.{Bool, true, false, _&&_, cond}
 use native.Mathlib.Omega.{arith}
-use lib.Dec.{eqb, ltb}
+use lib.Dec.{ltb}
 use lib.ListN.{getD}
-use borrow.Author.Tests.{eq-eqb, ne-eqb, le-ltb, lt-ltb}
-use Rattle.laws.specs.Test.{and-no, and-yes}
-use Rattle.spec.specs.Chain.{Refusal, number, conflict, Out, bad, good}
-use Rattle.models.specs.Cert.{heightOf, hasProof}
+use borrow.Author.Tests.{le-ltb, lt-ltb}
+use Rattle.laws.specs.Test.{and-no}
+use Rattle.models.specs.Cert.{hasProof}
 use Rattle.models.specs.Tables.{roundAt, statusAt, placeAt}
-use Rattle.models.specs.declared.parts.Round.{Round}
-use Rattle.back_points.specs.declared.fault.Fault.{Fault}
+use Rattle.models.specs.DagPoint.{caseOf}
+use Rattle.models.specs.Refusal.{failed, conflicting, notValid, isFailed}
+use Rattle.models.specs.declared.dag_point.DagPoint.{DagPoint}
+use Rattle.models.specs.declared.dag_point.DagPoint.the-variants.{Valid, TransInvalid, Invalid, IllFormed, NotFound}
+use Rattle.models.specs.declared.dag_point.Resolved.{Resolved}
+use Rattle.models.specs.declared.dag_point.Resolved.the-variants.{Case, Nothing}
+use Rattle.models.specs.declared.refusal.Check.{Check}
+use Rattle.models.specs.declared.refusal.Check.the-variants.{Passed, Failed}
 use Rattle.back_points.specs.Scan.{scanned}
 
--- 14, usable, 13 or 15, by the status and the certificate word
-unfoldable pub faultOf : ℕ → ℕ → ℕ
-faultOf st c = cond (eqb st 0) 14 (cond (eqb st 1) 0 (cond (eqb st 2) (cond (hasProof c) 13 0) (cond (ltb 0 (heightOf c)) 13 15)))
+-- what a point of a history is refused with, by its case, its certificate word and its round
+unfoldable pub committableOf : DagPoint → ℕ → ℕ → Check
+committableOf Valid c r = Passed
+committableOf TransInvalid c r = cond (hasProof c) (conflicting r) Passed
+committableOf Invalid c r = notValid c r
+committableOf IllFormed c r = notValid c r
+committableOf NotFound c r = notValid c r
+
+-- 14 if it isn't resolved
+unfoldable pub faultOf : Resolved → ℕ → ℕ → Check
+faultOf Nothing c r = failed 14
+faultOf (Case p) c r = committableOf p c r
 
 -- the same of place q
-unfoldable pub faultAt : List ℕ → List ℕ → ℕ → ℕ
-faultAt ks cs q = faultOf (statusAt ks q) (getD cs q 0)
+unfoldable pub faultAt : List ℕ → List ℕ → ℕ → Check
+faultAt ks cs q = faultOf (caseOf (statusAt ks q)) (getD cs q 0) (roundAt ks q)
 
 -- place q is marked, and its point isn't usable
 unfoldable pub faulty : List ℕ → List ℕ → List Bool → ℕ → Bool
-faulty ks cs m q = getD m q false && not (eqb (faultAt ks cs q) 0)
+faulty ks cs m q = getD m q false && isFailed (faultAt ks cs q)
 
 -- the place at position p is so
 unfoldable pub faultyAt : List ℕ → List ℕ → List ℕ → List Bool → ℕ → Bool
@@ -39,25 +53,9 @@ roundOf ks os p = roundAt ks (placeAt os p)
 unfoldable pub firstFault : List ℕ → List ℕ → List ℕ → List Bool → ℕ → ℕ → ℕ
 firstFault ks cs os m low high = scanned (faultyAt ks cs os m) (roundOf ks os) high (high - low)
 
--- a number without a round
-abbrev pub plain : ℕ → Fault
-plain n = record { code = n; round = record { 0 = 0 } }
-
--- what the point at place q is refused with, with its round in a history conflict
-unfoldable pub faultHere : List ℕ → List ℕ → ℕ → Fault
-faultHere ks cs q = cond (eqb (faultAt ks cs q) 13) (record { code = faultAt ks cs q; round = record { 0 = roundAt ks q } }) (plain (faultAt ks cs q))
-
 -- what the positions from low to high are refused with
-unfoldable pub foundFault : List ℕ → List ℕ → List ℕ → List Bool → ℕ → ℕ → Fault
-foundFault ks cs os m low high = let p = firstFault ks cs os m low high in cond (ltb p high) (faultHere ks cs (placeAt os p)) (plain 0)
-
--- 01's refusal of a number other than 0
-unfoldable pub refusalOf : ℕ → ℕ → Refusal
-refusalOf k r = cond (eqb k 13) (conflict r) (number k)
-
--- what a number, with the round of a history conflict, stands for: 0 for a
-unfoldable pub outOf : ℕ → ℕ → ℕ → Out ℕ
-outOf k r a = cond (eqb k 0) (good a) (bad (refusalOf k r))
+unfoldable pub foundFault : List ℕ → List ℕ → List ℕ → List Bool → ℕ → ℕ → Check
+foundFault ks cs os m low high = let p = firstFault ks cs os m low high in cond (ltb p high) (faultAt ks cs (placeAt os p)) Passed
 
 -- the rounds of the first n positions are rounds of 01
 abbrev pub Rounds : List ℕ → List ℕ → ℕ → Type 0
@@ -66,41 +64,16 @@ Rounds ks os n = (p : ℕ) → p < n → roundAt ks (placeAt os p) ≤ 4_000_000
 -- ---- the steps of the code
 
 module _ (ks cs : List ℕ) (q : ℕ) where
-  -- unresolved
-  pub fault-none : statusAt ks q ≡ 0 → 14 ≡ faultAt ks cs q
-  unfolding faultAt faultOf
-  fault-none e = rw (eq-eqb (statusAt ks q) 0 e) refl
+  module _ (x : Resolved) (is : x ≡ caseOf (statusAt ks q)) where
+    -- unresolved
+    pub fault-none : x ≡ Nothing → failed 14 ≡ faultAt ks cs q
+    unfolding faultAt faultOf
+    fault-none e = rw (sym is ∙ e) refl
 
-  -- valid
-  pub fault-valid : statusAt ks q ≡ 1 → 0 ≡ faultAt ks cs q
-  unfolding faultAt faultOf
-  fault-valid e = rw e refl
-
-  -- trans-invalid
-  fault-trans : statusAt ks q ≡ 2 → faultAt ks cs q ≡ cond (hasProof (getD cs q 0)) 13 0
-  unfolding faultAt faultOf
-  fault-trans e = rw e refl
-
-  -- and proved
-  pub fault-proved : statusAt ks q ≡ 2 → (h : Bool) → h ≡ hasProof (getD cs q 0) → h ≡ true → 13 ≡ faultAt ks cs q
-  fault-proved e h d t = sym (fault-trans e ∙ rw (sym d ∙ t) refl)
-
-  -- or not
-  pub fault-unproved : statusAt ks q ≡ 2 → (h : Bool) → h ≡ hasProof (getD cs q 0) → h ≡ false → 0 ≡ faultAt ks cs q
-  fault-unproved e h d t = sym (fault-trans e ∙ rw (sym d ∙ t) refl)
-
-  -- another status
-  fault-else : (statusAt ks q ≡ 0 → ⊥) → (statusAt ks q ≡ 1 → ⊥) → (statusAt ks q ≡ 2 → ⊥) → faultAt ks cs q ≡ cond (ltb 0 (heightOf (getD cs q 0))) 13 15
-  unfolding faultAt faultOf
-  fault-else a b c = rw (ne-eqb (statusAt ks q) 0 a, ne-eqb (statusAt ks q) 1 b, ne-eqb (statusAt ks q) 2 c) refl
-
-  -- and certified
-  pub fault-certified : (statusAt ks q ≡ 0 → ⊥) → (statusAt ks q ≡ 1 → ⊥) → (statusAt ks q ≡ 2 → ⊥) → (h : Bool) → h ≡ ltb 0 (heightOf (getD cs q 0)) → h ≡ true → 13 ≡ faultAt ks cs q
-  fault-certified a b c h d t = sym (fault-else a b c ∙ rw (sym d ∙ t) refl)
-
-  -- or not
-  pub fault-flat : (statusAt ks q ≡ 0 → ⊥) → (statusAt ks q ≡ 1 → ⊥) → (statusAt ks q ≡ 2 → ⊥) → (h : Bool) → h ≡ ltb 0 (heightOf (getD cs q 0)) → h ≡ false → 15 ≡ faultAt ks cs q
-  fault-flat a b c h d t = sym (fault-else a b c ∙ rw (sym d ∙ t) refl)
+    -- resolved, of the case y
+    pub fault-by : (p y : DagPoint) → x ≡ Case p → p ≡ y → (r : ℕ) → r ≡ roundAt ks q → (c : Check) → c ≡ committableOf y (getD cs q 0) r → c ≡ faultAt ks cs q
+    unfolding faultAt faultOf
+    fault-by p y e f r o c h = h ∙ rw (sym is ∙ (e ∙ ap Case f), o) refl
 
   module _ (m : List Bool) where
     -- not marked
@@ -108,10 +81,20 @@ module _ (ks cs : List ℕ) (q : ℕ) where
     unfolding faulty
     faulty-not h = sym (and-no _ h)
 
-    -- marked: its number decides
-    pub faulty-by : (k : ℕ) → getD m q false ≡ true → k ≡ faultAt ks cs q → not (eqb k 0) ≡ faulty ks cs m q
+    -- marked: what it is refused with decides
+    pub faulty-by : (c d : Check) → getD m q false ≡ true → c ≡ faultAt ks cs q → c ≡ d → isFailed d ≡ faulty ks cs m q
     unfolding faulty
-    faulty-by k h e = rw (h, e) refl
+    faulty-by c d h e f = rw (h, sym e ∙ f) refl
+
+-- trans-invalid: proved or not
+module _ (c r : ℕ) (b : Bool) (is : b ≡ hasProof c) where
+  pub trans-proved : b ≡ true → conflicting r ≡ committableOf TransInvalid c r
+  unfolding committableOf
+  trans-proved h = rw (← is, h) refl
+
+  pub trans-unproved : b ≡ false → Passed ≡ committableOf TransInvalid c r
+  unfolding committableOf
+  trans-unproved h = rw (← is, h) refl
 
 -- the round of the place at position p
 pub round-of : (ks os : List ℕ) (i p : ℕ) → i ≡ placeAt os p → roundAt ks i ≡ roundOf ks os p
@@ -127,24 +110,13 @@ pub faulty-at : (ks cs os : List ℕ) (m : List Bool) (q p : ℕ) (b : Bool) →
 unfolding faultyAt
 faulty-at ks cs os m q p b e h = h ∙ ap (faulty ks cs m) e
 
-module _ (ks cs os : List ℕ) (m : List Bool) (low high : ℕ) where
+module _ (ks cs os : List ℕ) (m : List Bool) (low high p : ℕ) (e : p ≡ firstFault ks cs os m low high) where
   -- no point is refused
-  pub found-none : (p : ℕ) → p ≡ firstFault ks cs os m low high → high ≤ p → plain 0 ≡ foundFault ks cs os m low high
+  pub found-none : high ≤ p → Passed ≡ foundFault ks cs os m low high
   unfolding foundFault
-  found-none p e l = rw (le-ltb (firstFault ks cs os m low high) high (omega arith)) refl
+  found-none l = rw (le-ltb (firstFault ks cs os m low high) high (omega arith)) refl
 
   -- the point at position p is
-  found-at : (p q : ℕ) → p ≡ firstFault ks cs os m low high → p < high → q ≡ placeAt os p → faultHere ks cs q ≡ foundFault ks cs os m low high
+  pub found-at : p < high → (q : ℕ) → q ≡ placeAt os p → (c : Check) → c ≡ faultAt ks cs q → c ≡ foundFault ks cs os m low high
   unfolding foundFault
-  found-at p q e l d = rw (lt-ltb (firstFault ks cs os m low high) high (omega arith)) (ap (faultHere ks cs) (d ∙ ap (placeAt os) e))
-
-  -- by 14 or 15
-  pub found-plain : (p q k : ℕ) → p ≡ firstFault ks cs os m low high → p < high → q ≡ placeAt os p → k ≡ faultAt ks cs q → (k ≡ 13 → ⊥) → plain k ≡ foundFault ks cs os m low high
-  unfolding faultHere
-  found-plain p q k e l d f n = ap plain f ∙ (rw (ne-eqb (faultAt ks cs q) 13 (λ g. n (f ∙ g))) refl ∙ found-at p q e l d)
-
-  -- by a history conflict
-  pub found-conflict : (p q k : ℕ) (r : Round) → p ≡ firstFault ks cs os m low high → p < high → q ≡ placeAt os p → k ≡ faultAt ks cs q → k ≡ 13 → r .0 ≡ roundAt ks q
-      → record { code = k; round = r } ≡ foundFault ks cs os m low high
-  unfolding faultHere
-  found-conflict p q k r e l d f n g = (λ i. record { code = f i; round = record { 0 = g i } }) ∙ (rw (eq-eqb (faultAt ks cs q) 13 (sym f ∙ n)) refl ∙ found-at p q e l d)
+  found-at l q d c h = h ∙ rw (lt-ltb (firstFault ks cs os m low high) high (omega arith)) (ap (faultAt ks cs) (d ∙ ap (placeAt os) e))

@@ -1,5 +1,5 @@
 -- The first point that isn't usable is the one that document 01 finds first (01: 'Refusals' 13 to 15).
-use Prim.Native.Nat.{ℕ, _+_, _<_, _≤_}
+use Prim.Native.Nat.{ℕ, zero, suc, _+_, _<_, _≤_}
 use mathlib.Core.Path.{_≡_, refl, sym, ap, subst, _∙_}
 use mathlib.Core.List.{List, [], _∷_, List·Memᴰ, List·Memᴰ·head, List·Memᴰ·tail, List·Memᴰ·cases-cons, List·Memᴰ·not-nil}
 use mathlib.Core.Bool.{Bool, true, false, not, _&&_, _||_, cond}
@@ -7,8 +7,8 @@ use mathlib.Core.Logic.{_⊎_, inl, inr, ⊎-elim}
 use native.Mathlib.Omega.{arith}
 use lib.Dec.{eqb, ltb}
 use lib.ListN.{getD}
-use borrow.Author.Tests.{eqb-true, eqb-false, eq-eqb, ne-eqb, leb-true, ltb-true, lt-ltb, le-ltb, not-true}
-use Rattle.laws.specs.Test.{byTest, both, and-l, and-r, or-cases, not-no, sameOr, leOr}
+use borrow.Author.Tests.{eqb-true, eq-eqb, ne-eqb, leb-true, ltb-true, lt-ltb, le-ltb}
+use Rattle.laws.specs.Test.{both, and-l, and-r, or-cases, sameOr, leOr}
 use Rattle.laws.specs.Scan.{those, those-elim, those-intro}
 use Rattle.laws.specs.Lists.{Pairs}
 use Rattle.laws.specs.Sort.{sort, sort-mem, sort-rises}
@@ -23,6 +23,10 @@ use Rattle.spec.specs.Order.{falls-total, falls-trans}
 use Rattle.models.specs.Cert.{flagsOf, heightOf, hasProof}
 use Rattle.models.specs.Digest.{Fit}
 use Rattle.models.specs.Tables.{roundAt, statusAt, placeAt, Used}
+use Rattle.models.specs.DagPoint.{caseOf}
+use Rattle.models.specs.Refusal.{refusalOf, unlessFailed, conflicting, notValid, isFailed, verdict-not, byCheck, failed-elim}
+use Rattle.models.specs.declared.refusal.Refusal.{Refusal}
+use Rattle.models.specs.declared.refusal.Check.the-variants.{Passed, Failed}
 use Rattle.dag_keys.specs.Sorted.{rounds-rise}
 use Rattle.dag_state.specs.View.{pointAt, toldAt}
 use Rattle.dag_state.specs.declared.state.State.{State}
@@ -35,46 +39,25 @@ use Rattle.back_history.specs.Marks.{On}
 use Rattle.back_history.specs.Need.{lowOf, highOf, marksOf, used-point, used-round, used-height, low-high, needed-elim, needed-intro}
 use Rattle.back_history.specs.History.{ids-rise}
 use Rattle.back_points.specs.Scan.{First, Earlier, first-is}
-use Rattle.back_points.specs.Fault.{faultOf, faultAt, faulty, faultyAt, roundOf, firstFault, faultHere, foundFault, refusalOf, outOf}
+use Rattle.back_points.specs.Fault.{committableOf, faultOf, faultAt, faulty, faultyAt, roundOf, firstFault, foundFault}
 
 -- ---- one point
 
--- 01's verdict by the status, whether it is certified, and the top bit
-verdict-is : (st : ℕ) (g t : Bool) (r q : ℕ) → verdict (ltb 0 st) (eqb st 1 || (eqb st 2 && not (g && t))) g r q
-    ≡ outOf (cond (eqb st 0) 14 (cond (eqb st 1) 0 (cond (eqb st 2) (cond (g && t) 13 0) (cond g 13 15)))) r q
-unfolding verdict outOf refusalOf
-verdict-is st g t r q =
-    sameOr st 0 (λ e. rw e refl)
-    (λ a. sameOr st 1 (λ e. rw e refl)
-    (λ b. sameOr st 2 (λ e. rw e (trans g t))
-    (λ c. rw (lt-ltb 0 st (omega arith), ne-eqb st 0 a, ne-eqb st 1 b, ne-eqb st 2 c) (other g))))
+-- 01's verdict by the status and the certificate word
+verdict-is : (st c r q : ℕ) → st ≤ 5 → verdict (ltb 0 st) (eqb st 1 || (eqb st 2 && not (hasProof c))) (ltb 0 (heightOf c)) r q ≡ unlessFailed (faultOf (caseOf st) c r) (good q)
+unfolding verdict unlessFailed refusalOf caseOf faultOf committableOf hasProof notValid
+verdict-is zero c r q l = refl
+verdict-is (suc zero) c r q l = refl
+verdict-is (suc (suc zero)) c r q l = by (ltb 0 (heightOf c)) (flagsOf c .top)
   where
-    trans : (g t : Bool) → verdict true (not (g && t)) g r q ≡ outOf (cond (g && t) 13 0) r q
-    trans true true = refl
-    trans true false = refl
-    trans false t = refl
-
-    other : (g : Bool) → verdict true false g r q ≡ outOf (cond g 13 15) r q
-    other true = refl
-    other false = refl
-
--- 0 stands for a
-out-good : (k r a : ℕ) → k ≡ 0 → outOf k r a ≡ good a
-unfolding outOf
-out-good k r a e = rw (eq-eqb k 0 e) refl
-
--- another number refuses
-out-bad : (k r a : ℕ) → (k ≡ 0 → ⊥) → outOf k r a ≡ bad (refusalOf k r)
-unfolding outOf
-out-bad k r a n = rw (ne-eqb k 0 n) refl
-
--- the same with a round in a history conflict only
-here-bad : (ks cs : List ℕ) (q a : ℕ) → (faultAt ks cs q ≡ 0 → ⊥) → outOf (faultHere ks cs q .code) (faultHere ks cs q .round .0) a ≡ bad (refusalOf (faultAt ks cs q) (roundAt ks q))
-unfolding faultHere refusalOf
-here-bad ks cs q a n =
-    byTest (eqb (faultAt ks cs q) 13)
-    (λ t. rw t (out-bad (faultAt ks cs q) (roundAt ks q) a n ∙ rw t refl))
-    (λ f. rw f (out-bad (faultAt ks cs q) 0 a n ∙ rw f refl))
+    by : (g t : Bool) → verdict true (not (g && t)) g r q ≡ unlessFailed (cond (g && t) (conflicting r) Passed) (good q)
+    by true true = refl
+    by true false = refl
+    by false t = refl
+verdict-is (suc (suc (suc zero))) c r q l = verdict-not c r q
+verdict-is (suc (suc (suc (suc zero)))) c r q l = verdict-not c r q
+verdict-is (suc (suc (suc (suc (suc zero))))) c r q l = verdict-not c r q
+verdict-is (suc (suc (suc (suc (suc (suc n)))))) c r q l = absurd (omega arith)
 
 -- ---- the points in the order of the tests
 
@@ -124,8 +107,8 @@ module _ (s : State) (ks ls cs os : List ℕ) (fk : Fit ks) (fl : Fit ls) (t : S
       ∙ sameOr (statusAt ks q) 0 (λ e. rw (eq-eqb (statusAt ks q) 0 e) (sym e)) (λ d. rw (ne-eqb (statusAt ks q) 0 d) refl)
 
   -- what 01 says of a used place is what the code says
-  judged-is : (q : ℕ) → Used os n q → judged v usableInHistory q ≡ outOf (faultAt ks cs q) (roundAt ks q) q
-  unfolding judged usableInHistory certified proved pointAt faultAt faultOf hasProof
+  judged-is : (q : ℕ) → Used os n q → judged v usableInHistory q ≡ unlessFailed (faultAt ks cs q) (good q)
+  unfolding judged usableInHistory certified proved pointAt faultAt hasProof
   judged-is q u =
       let told = status-is q u in
       let high : height v q ≡ heightOf (getD cs q 0) = sym (used-height s ks ls cs os fk fl t q u) in
@@ -133,7 +116,7 @@ module _ (s : State) (ks ls cs os : List ℕ) (fk : Fit ks) (fl : Fit ls) (t : S
       let done : resolved (v .pt q) ≡ ltb 0 (statusAt ks q) = ap resolved (used-point s ks ls cs os fk fl t q u) ∙ resolved-is ks ls cs q in
       let round = used-round s ks ls cs os fk fl t q u in
       (λ i. verdict (done i) (eqb (told i) 1 || (eqb (told i) 2 && not (ltb 0 (high i) && top i))) (ltb 0 (high i)) (round i) q)
-      ∙ verdict-is (statusAt ks q) (ltb 0 (heightOf (getD cs q 0))) (flagsOf (getD cs q 0) .top) (roundAt ks q) q
+      ∙ verdict-is (statusAt ks q) (getD cs q 0) (roundAt ks q) q (t .facts .words q u .named .status)
 
   module _ (a : ℕ) (used : Used os n a) where
     -- the first position of the history
@@ -181,14 +164,14 @@ module _ (s : State) (ks ls cs os : List ℕ) (fk : Fit ks) (fl : Fit ls) (t : S
     found = first-is (faultyAt ks cs os m) (roundOf ks os) high (λ i j l h. rounds-rise ks os n i j (t .facts .sorted) l (omega (arith, high-le))) low (low-high s ks ls cs os fk fl t a used)
 
     -- a marked point, by what it is refused with
-    marked-faulty : (i q : ℕ) → placeAt os i ≡ q → On m q → (faultAt ks cs q ≡ 0 → ⊥) → faultyAt ks cs os m i ≡ true
-    unfolding faultyAt faulty
-    marked-faulty i q e o d = subst (λ y. faulty ks cs m y ≡ true) (sym e) (both o (not-no (ne-eqb _ 0 d)))
+    marked-faulty : (i q : ℕ) → placeAt os i ≡ q → On m q → (r : Refusal) → faultAt ks cs q ≡ Failed r → faultyAt ks cs os m i ≡ true
+    unfolding faultyAt faulty isFailed
+    marked-faulty i q e o r d = subst (λ y. faulty ks cs m y ≡ true) (sym e) (both o (ap isFailed d))
 
     -- and back
-    faulty-elim : (i : ℕ) → faultyAt ks cs os m i ≡ true → On m (placeAt os i) × (faultAt ks cs (placeAt os i) ≡ 0 → ⊥)
+    faulty-elim : (i : ℕ) → faultyAt ks cs os m i ≡ true → On m (placeAt os i) × ((r : Refusal) × (faultAt ks cs (placeAt os i) ≡ Failed r))
     unfolding faultyAt faulty
-    faulty-elim i h = (and-l _ _ h, eqb-false _ _ (not-true _ (and-r (getD m (placeAt os i) false) _ h)))
+    faulty-elim i h = (and-l _ _ h, failed-elim _ (and-r (getD m (placeAt os i) false) _ h))
 
     -- a position that is tested earlier is not after one that is tested later
     earlier-falls : (i j : ℕ) → i < n → j < n → Earlier (roundOf ks os) i j → falls (idAt v (placeAt os j)) (idAt v (placeAt os i)) ≡ true → ⊥
@@ -207,26 +190,24 @@ module _ (s : State) (ks ls cs os : List ℕ) (fk : Fit ks) (fl : Fit ls) (t : S
         go ri rj (inr d) (inr g) = ⊎-elim (λ b. omega (arith, g .0)) (λ b. omega (arith, g .1, b .1)) (ids-rise s ks ls cs os fk fl t i j (d .1) h)
 
     -- what the points of the history are refused with
-    pub faults-is : faults v a ≡ outOf (foundFault ks cs os m low high .code) (foundFault ks cs os m low high .round .0) 0
-    unfolding faults foundFault
+    pub faults-is : faults v a ≡ unlessFailed (foundFault ks cs os m low high) (good 0)
+    unfolding faults foundFault unlessFailed
     faults-is = leOr high x none some
       where
-        none : high ≤ x → faults v a ≡ outOf (foundFault ks cs os m low high .code) (foundFault ks cs os m low high .round .0) 0
+        none : high ≤ x → faults v a ≡ unlessFailed (foundFault ks cs os m low high) (good 0)
         none l = rw (le-ltb x high l) (all-good v inOrder (λ q k. let (o, (i, lo, hi, e)) = order-elim q k in
-            judged-is q (i, omega (arith, hi, high-le), e) ∙ out-good (faultAt ks cs q) (roundAt ks q) q
-            (sameOr (faultAt ks cs q) 0 (λ z. z) (λ d. absurd (omega (arith, l, found .least i lo hi (marked-faulty i q e o d) .0)))))
-            ∙ sym (out-good 0 0 0 refl))
+            judged-is q (i, omega (arith, hi, high-le), e) ∙ byCheck (faultAt ks cs q) (λ z. rw z refl)
+            (λ r d. absurd (omega (arith, l, found .least i lo hi (marked-faulty i q e o r d) .0)))))
 
-        some : x < high → faults v a ≡ outOf (foundFault ks cs os m low high .code) (foundFault ks cs os m low high .round .0) 0
+        some : x < high → faults v a ≡ unlessFailed (foundFault ks cs os m low high) (good 0)
         some l =
-            let (o, d) = faulty-elim x (found .passes l) in
+            let (o, (r, d)) = faulty-elim x (found .passes l) in
             let p : ℕ = placeAt os x in
-            rw (lt-ltb x high l) (first-bad v (λ p q. falls (idAt v p) (idAt v q) ≡ true) p (bad (refusalOf (faultAt ks cs p) (roundAt ks p))) inOrder order-falls
+            rw (lt-ltb x high l, d) (first-bad v (λ p q. falls (idAt v p) (idAt v q) ≡ true) p (bad (refusalOf r)) inOrder order-falls
             (order-intro x (found .above) l o)
-            (judged-is p (x, omega (arith, l, high-le), refl) ∙ out-bad (faultAt ks cs p) (roundAt ks p) p d) (λ f. refl)
+            (judged-is p (x, omega (arith, l, high-le), refl) ∙ rw d refl) (λ f. refl)
             (λ q k. let (w, (i, lo, hi, e)) = order-elim q k in
-            sameOr (faultAt ks cs q) 0
-            (λ z. inl (judged-is q (i, omega (arith, hi, high-le), e) ∙ out-good (faultAt ks cs q) (roundAt ks q) q z))
-            (λ z. inr (⊎-elim (λ g. inl (sym e ∙ ap (placeAt os) g)) (λ g. inr (λ h. earlier-falls x i (omega (arith, l, high-le)) (omega (arith, hi, high-le)) g (subst (λ y. falls (idAt v y) (idAt v p) ≡ true) (sym e) h)))
-            (found .least i lo hi (marked-faulty i q e w z) .1))))
-            ∙ sym (here-bad ks cs p 0 d))
+            byCheck (faultAt ks cs q)
+            (λ z. inl (judged-is q (i, omega (arith, hi, high-le), e) ∙ rw z refl))
+            (λ y z. inr (⊎-elim (λ g. inl (sym e ∙ ap (placeAt os) g)) (λ g. inr (λ h. earlier-falls x i (omega (arith, l, high-le)) (omega (arith, hi, high-le)) g (subst (λ y. falls (idAt v y) (idAt v p) ≡ true) (sym e) h)))
+            (found .least i lo hi (marked-faulty i q e w y z) .1)))))

@@ -2,15 +2,16 @@
 ghost use mathlib.Core.Path.{_≡_};
 ghost use Prim.Native.Nat.{_*_, _≤_};
 ghost use lib.ListN.{length};
+ghost use Rattle.spec.specs.Chain.{good};
 ghost use Rattle.spec.specs.History.{tested};
+ghost use Rattle.models.specs.Refusal.{unlessFailed};
 ghost use Rattle.models.specs.Tables.{Used};
 ghost use Rattle.dag_test.specs.View.{view};
 ghost use Rattle.dag_test.specs.Counts.{Started};
 ghost use Rattle.dag_name.specs.Name.{Ready};
 ghost use Rattle.back_history.specs.Sweep.{Range};
-ghost use Rattle.back_points.specs.Fault.{Rounds, outOf};
+ghost use Rattle.back_points.specs.Fault.{Rounds};
 ghost use Rattle.back_points.specs.Anchor.{spanOf, codeOf, testedOf};
-use crate::fault::Fault;
 use crate::fault::history_fault;
 use crate::fault::round_at;
 use back_history::any_flat;
@@ -21,6 +22,11 @@ use back_history::needed;
 use back_history::rounds_missing;
 use dag_state::state::State;
 use models::parts::Round;
+use models::refusal::ANCHOR_AT_GENESIS;
+use models::refusal::Check;
+use models::refusal::NOT_CERTIFIED;
+use models::refusal::ROUNDS_MISSING;
+use models::refusal::Refusal;
 
 // The positions of a history, from `low` to `high`, and its limit.
 pub struct Span {
@@ -29,11 +35,10 @@ pub struct Span {
     pub high: usize,
 }
 
-// What an anchor is refused with: 22, 13 to 15, 17, 18, 0 if it isn't; the round of a history conflict, else 0. Its history: the marked
-// places that are not committed, of the positions from `low` to `high`, and their number.
+// What an anchor's tests give, which refuse it with 22, 13 to 15, 17 or 18. Its history: the marked places that are not committed, of
+// the positions from `low` to `high`, and their number.
 pub struct Tested {
-    pub code: u32,
-    pub round: Round,
+    pub check: Check,
     pub low: usize,
     pub high: usize,
     pub count: usize,
@@ -69,43 +74,31 @@ fn anchor_code(
     order: &[u64],
     span: Span,
     round: Round,
-) -> Fault
+) -> Check
     requires { ⌜ Range (now certs) (now order) (span .low) (span .high) ⌝ }
     requires { ⌜ (length (now keys) ≡ length (now order) * 8) × Rounds (now keys) (now order) (span .high) ⌝ }
     ensures { λ r. ⌜ r ≡ codeOf s (now (keys .entry)) (now (certs .entry)) (now (order .entry)) (now (marks .entry)) span (round .0) ⌝ }
 {
     let genesis = s.genesis;
     if round.0 <= genesis.0 {
-        return Fault {
-            code: 22,
-            round: Round(0),
-        };
+        return Check::Failed(Refusal::Number(ANCHOR_AT_GENESIS));
     }
     let low = span.low;
     let high = span.high;
-    let fault = history_fault(marks, keys, certs, order, low, high);
-    if fault.code != 0 {
-        return fault;
+    let check = history_fault(marks, keys, certs, order, low, high);
+    if let Check::Failed(r) = check {
+        return Check::Failed(r);
     }
     let full = s.full_history_bottom;
     let limit = span.limit;
     let bottom = s.bottom;
     if rounds_missing(full, limit, bottom) {
-        return Fault {
-            code: 17,
-            round: Round(0),
-        };
+        return Check::Failed(Refusal::Number(ROUNDS_MISSING));
     }
     if any_flat(marks, certs, order, low, high) {
-        return Fault {
-            code: 18,
-            round: Round(0),
-        };
+        return Check::Failed(Refusal::Number(NOT_CERTIFIED));
     }
-    Fault {
-        code: 0,
-        round: Round(0),
-    }
+    Check::Passed
 }
 
 // The tests of the anchor at a used place.
@@ -120,7 +113,7 @@ pub fn test_anchor(
     requires { ⌜ Started s (now keys) (now links) (now certs) (now order) ⌝ }
     requires { ⌜ Used (now order) (s .count) anchor ⌝ }
     ensures whole { λ r. ⌜ r ≡ testedOf s (now (keys .entry)) (now (links .entry)) (now (certs .entry)) (now (order .entry)) anchor ⌝ }
-    ensures outcome { λ r. ⌜ outOf (r .code) (r .round .0) anchor ≡ tested (view s (now (keys .entry)) (now (links .entry)) (now (certs .entry)) (now (order .entry))) anchor ⌝ }
+    ensures outcome { λ r. ⌜ unlessFailed (r .check) (good anchor) ≡ tested (view s (now (keys .entry)) (now (links .entry)) (now (certs .entry)) (now (order .entry))) anchor ⌝ }
 {
     let round = round_at(keys, anchor);
     let span = span_of(s, keys, order, round);
@@ -129,11 +122,9 @@ pub fn test_anchor(
     let bottom = s.bottom;
     let marks = needed(keys, links, certs, order, bottom, low, high, anchor);
     let count = count_points(&marks, certs, order, low, high);
-    let fault = anchor_code(s, &marks, keys, certs, order, span, round);
-    let conflict = fault.round;
+    let check = anchor_code(s, &marks, keys, certs, order, span, round);
     Tested {
-        code: fault.code,
-        round: conflict,
+        check,
         low: low,
         high: high,
         count: count,

@@ -8,13 +8,13 @@ ghost use Rattle.back_history.specs.Sweep.{Range};
 ghost use Rattle.back_points.specs.Scan.{soonerOf};
 ghost use Rattle.back_points.specs.Fault.{faultAt, faulty, roundOf, firstFault, foundFault, Rounds};
 use models::cert::Cert;
+use models::dag_point::DagPoint;
+use models::dag_point::Resolved;
 use models::parts::Round;
-
-// A number that refuses an anchor, 0 for none, and the round of a history conflict, else 0.
-pub struct Fault {
-    pub code: u32,
-    pub round: Round,
-}
+use models::refusal::Check;
+use models::refusal::NOT_RESOLVED;
+use models::refusal::Refusal;
+use models::refusal::not_valid;
 
 // The round of place q.
 pub fn round_at(keys: &[u64], q: usize) -> Round
@@ -24,41 +24,44 @@ pub fn round_at(keys: &[u64], q: usize) -> Round
     Round(keys[q * 8 + 0] as u32)
 }
 
-// What the point at place q of a history is refused with: 14 unresolved, 13 conflict, 15 neither usable nor certified, 0 if it is usable.
-pub fn fault_at(keys: &[u64], certs: &[u64], q: usize) -> u32
-    requires { ⌜ (q * 8 + 8 ≤ length (now keys)) × (q < length (now certs)) ⌝ }
+// What the point at place q of a history is refused with: 14, 13 or 15 (`committable_point`).
+pub fn fault_at(keys: &[u64], certs: &[u64], q: usize) -> Check
+    requires { ⌜ (q * 8 + 8 ≤ length (now keys)) × (roundAt (now keys) q ≤ 4000000000) × (q < length (now certs)) ⌝ }
     ensures { λ r. ⌜ r ≡ faultAt (now (keys .entry)) (now (certs .entry)) q ⌝ }
 {
-    let status = keys[q * 8 + 6];
-    if status == 0 {
-        return 14;
+    let case = dag_keys::case_at(keys, q);
+    let round = round_at(keys, q);
+    let cert = Cert(certs[q]);
+    match case {
+        Resolved::Nothing => Check::Failed(Refusal::Number(NOT_RESOLVED)),
+        Resolved::Case(p) => match p {
+            DagPoint::Valid => Check::Passed,
+            DagPoint::TransInvalid => {
+                if cert.has_proof() {
+                    return Check::Failed(Refusal::Conflict(round));
+                }
+                Check::Passed
+            }
+            DagPoint::Invalid => not_valid(cert, round),
+            DagPoint::IllFormed => not_valid(cert, round),
+            DagPoint::NotFound => not_valid(cert, round),
+        },
     }
-    if status == 1 {
-        return 0;
-    }
-    let word = certs[q];
-    let cert = Cert(word);
-    if status == 2 {
-        if cert.has_proof() {
-            return 13;
-        }
-        return 0;
-    }
-    if cert.is_certified() {
-        return 13;
-    }
-    15
 }
 
 // Whether place q is marked and its point isn't usable.
 fn is_faulty(marks: &[bool; 4096], keys: &[u64], certs: &[u64], q: usize) -> bool
-    requires { ⌜ (q < 4096) × (q * 8 + 8 ≤ length (now keys)) × (q < length (now certs)) ⌝ }
+    requires { ⌜ (q < 4096) × (q * 8 + 8 ≤ length (now keys)) × (roundAt (now keys) q ≤ 4000000000) × (q < length (now certs)) ⌝ }
     ensures { λ r. ⌜ r ≡ faulty (now (keys .entry)) (now (certs .entry)) (now (marks .entry)) q ⌝ }
 {
-    if marks[q] {
-        return fault_at(keys, certs, q) != 0;
+    if !marks[q] {
+        return false;
     }
-    false
+    let check = fault_at(keys, certs, q);
+    match check {
+        Check::Passed => false,
+        Check::Failed(_) => true,
+    }
 }
 
 // The sooner tested of the position found so far (`none` for none yet) and p, which stands below it.
@@ -89,7 +92,7 @@ pub fn first_fault(
     high: usize,
 ) -> usize
     requires { ⌜ Range (now certs) (now order) low high ⌝ }
-    requires { ⌜ length (now keys) ≡ length (now order) * 8 ⌝ }
+    requires { ⌜ (length (now keys) ≡ length (now order) * 8) × Rounds (now keys) (now order) high ⌝ }
     ensures { λ r. ⌜ r ≡ firstFault (now (keys .entry)) (now (certs .entry)) (now (order .entry)) (now (marks .entry)) low high ⌝ }
 {
     let mut found = high;
@@ -112,29 +115,15 @@ pub fn history_fault(
     order: &[u64],
     low: usize,
     high: usize,
-) -> Fault
+) -> Check
     requires { ⌜ Range (now certs) (now order) low high ⌝ }
     requires { ⌜ (length (now keys) ≡ length (now order) * 8) × Rounds (now keys) (now order) high ⌝ }
     ensures { λ r. ⌜ r ≡ foundFault (now (keys .entry)) (now (certs .entry)) (now (order .entry)) (now (marks .entry)) low high ⌝ }
 {
     let p = first_fault(marks, keys, certs, order, low, high);
     if high <= p {
-        return Fault {
-            code: 0,
-            round: Round(0),
-        };
+        return Check::Passed;
     }
     let q = dag_places::place(order, high, p);
-    let code = fault_at(keys, certs, q);
-    if code != 13 {
-        return Fault {
-            code: code,
-            round: Round(0),
-        };
-    }
-    let round = round_at(keys, q);
-    Fault {
-        code: code,
-        round: round,
-    }
+    fault_at(keys, certs, q)
 }

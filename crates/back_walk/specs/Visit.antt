@@ -7,7 +7,7 @@ use mathlib.Core.Option.{none, some}
 use native.Mathlib.Omega.{arith}
 use lib.Dec.{eqb, leb, ltb}
 use lib.ListN.{getD}
-use borrow.Author.Tests.{eq-eqb, ne-eqb, eqb-true, leb-true, ltb-true, ltb-false, lt-ltb}
+use borrow.Author.Tests.{eq-eqb, ne-eqb, leb-true, ltb-true}
 use Rattle.laws.specs.Test.{byTest, sameOr, and-l, and-r, cond-yes, cond-no}
 use Rattle.laws.specs.Scan.{first-hit}
 use Rattle.spec.specs.Ids.{Id, Ref}
@@ -17,10 +17,17 @@ use Rattle.spec.specs.Paths.{certified}
 use Rattle.spec.specs.Rules.{counts}
 use Rattle.spec.specs.Started.{Wf, counts-elim}
 use Rattle.spec.specs.Chain as chain
-use Rattle.spec.specs.Chain.{Refusal, number, conflict, Out, bad, good, then, Onward, verdict, judged, usableInWalk, needInWalk, enqueue, toAnchor, toPrevious, atUsed}
+use Rattle.spec.specs.Chain.{number, Out, bad, good, then, Onward, verdict, judged, usableInWalk, needInWalk, enqueue, toAnchor, toPrevious, atUsed}
 use Rattle.models.specs.Cert.{bitOf, flagsOf, heightOf}
 use Rattle.models.specs.Digest.{Fit, words, digestAt}
 use Rattle.models.specs.Tables.{roundAt, authorAt, statusAt, marksAt, placeAt, Used, targetAt, used-is}
+use Rattle.models.specs.Parts.{idOf}
+use Rattle.models.specs.DagPoint.{caseOf}
+use Rattle.models.specs.Refusal.{refusalOf, unlessFailed, verdict-not}
+use Rattle.models.specs.declared.parts.PointId.{PointId}
+use Rattle.models.specs.declared.refusal.Refusal.the-variants.{Number}
+use Rattle.models.specs.declared.refusal.Check.{Check}
+use Rattle.models.specs.declared.refusal.Check.the-variants.{Passed, Failed}
 use Rattle.dag_links.specs.Words.{proofRoundAt}
 use Rattle.dag_keys.specs.Key.{key, same-eq}
 use Rattle.dag_keys.specs.Sorted as sorted
@@ -35,52 +42,73 @@ use Rattle.dag_test.specs.View.{view, seen-used}
 use Rattle.dag_test.specs.Edges.{resolved-is}
 use Rattle.dag_test.specs.Whole.{sized}
 use Rattle.dag_test.specs.Counts.{Started, counted}
+use Rattle.dag_name.specs.Name.{idWords}
 use Rattle.dag_name.specs.Tests.{ready}
 use Rattle.dag_settle.specs.Point.{positionFor}
-use Rattle.dag_settle.specs.Found.{idFor, find-is}
+use Rattle.dag_settle.specs.Found.{find-is, words-id}
 use Rattle.back_walk.specs.declared.Enqueued.{Enqueued}
 use Rattle.back_walk.specs.declared.Needed.{Needed}
+use Rattle.back_walk.specs.declared.Needed.the-variants.{At, Refused}
 use Rattle.back_walk.specs.declared.Step.{Step}
 use Rattle.back_walk.specs.declared.Step.the-variants.{Pass, End, Bad, Found}
-use Rattle.back_walk.specs.Words.{hasPrevious, previousWords, topWords}
-use Rattle.back_walk.specs.Step.{Walkable, Linked, judgeCode, needed, needed-used, needed-valid, proofAt, anchorAt, usedAt, atProof, markedStep, stepAt, fault}
+use Rattle.back_walk.specs.Words.{idFrom, hasPrevious, previousId, topId}
+use Rattle.back_walk.specs.Step.{Walkable, Linked, judgeOf, judgeAt, neededAt, needed, needed-at, proofOf, proofAt, anchorOf, anchorAt, usedAt, atProof, markedStep, stepAt}
 
--- a refusal by its number; 13 comes with its round
-unfoldable pub refusalOf : ℕ → ℕ → Refusal
-refusalOf n r = cond (eqb n 13) (conflict r) (number n)
-
--- the place of a needed point of the round r, or what it is refused with
-unfoldable pub placeOr : Needed → ℕ → Out ℕ
-placeOr f r = cond (eqb (f .code) 0) (good (f .place)) (bad (refusalOf (f .code) r))
+-- the place of a needed point, or what it is refused with
+unfoldable pub placeOr : Needed → Out ℕ
+placeOr (At q) = good q
+placeOr (Refused r) = bad (refusalOf r)
 
 -- an anchor of the code as the definitions'
 abbrev pub enqueuedOf : Enqueued → chain.Enqueued
-enqueuedOf e = record { anchor = e .anchor; proof = e .proof; prevProofRound = e .«prev_proof_round» }
+enqueuedOf e = record { anchor = e .anchor; proof = e .proof; prevProofRound = e .«prev_proof_round» .0 }
 
--- how the walk goes on below, from the words of the sought proof's id and the anchors found so far
+-- how the walk goes on below, from the sought proof's id and the anchors found so far
 abbrev pub Below : Type 0
-Below = List ℕ → List chain.Enqueued → Out (List chain.Enqueued)
+Below = PointId → List chain.Enqueued → Out (List chain.Enqueued)
 
 -- how it goes on after a step
 unfoldable pub onward : List ℕ → Step → Below → Below
-onward ls Pass f w acc = f w acc
-onward ls End f w acc = good acc
-onward ls (Bad e) f w acc = bad (refusalOf (e .code) (e .round .0))
-onward ls (Found e) f w acc = f (topWords ls (e .anchor)) (enqueuedOf e ∷ acc)
+onward ls Pass f i acc = f i acc
+onward ls End f i acc = good acc
+onward ls (Bad r) f i acc = bad (refusalOf r)
+onward ls (Found e) f i acc = f (topId ls (e .anchor)) (enqueuedOf e ∷ acc)
 
--- ---- words of ids
+-- ---- ids
 
--- the id of the words
-from-id : (t : List ℕ) (p r a : ℕ) → idFor (idFrom t p r a) ≡ record { round = r; author = a; digest = digestAt t p }
-unfolding idFrom
-from-id t p r a = λ i. record { round = r; author = a; digest = from-digest t p r a i }
+-- the id from words, as the definitions'
+from-id : (t : List ℕ) (p r a : ℕ) → idOf (idFrom t p r a) ≡ record { round = r; author = a; digest = digestAt t p }
+unfolding idFrom words digestAt
+from-id t p r a = rw (none p, two p, three p) refl
+  where
+    none : (p : ℕ) → p + 0 ≡ p
+    none p = omega arith
 
-pub previous-fit : (ks ls : List ℕ) (q r : ℕ) → Fit ks → Fit ls → r < 2 ^ 64 → Fit (previousWords ks ls q r)
-unfolding previousWords
+    two : (p : ℕ) → p + 1 + 1 ≡ p + 2
+    two p = omega arith
+
+    three : (p : ℕ) → p + 2 + 1 ≡ p + 3
+    three p = omega arith
+
+-- its words fit
+from-fit : (t : List ℕ) (p r a : ℕ) → Fit t → r < 2 ^ 64 → a < 2 ^ 64 → Fit (idWords (idFrom t p r a))
+unfolding idWords idFrom
+from-fit t p r a f l m zero = l
+from-fit t p r a f l m (suc zero) = m
+from-fit t p r a f l m (suc (suc zero)) = f (p + 0)
+from-fit t p r a f l m (suc (suc (suc zero))) = f (p + 1)
+from-fit t p r a f l m (suc (suc (suc (suc zero)))) = f (p + 2)
+from-fit t p r a f l m (suc (suc (suc (suc (suc zero))))) = f (p + 3)
+from-fit t p r a f l m (suc (suc (suc (suc (suc (suc zero)))))) = omega arith
+from-fit t p r a f l m (suc (suc (suc (suc (suc (suc (suc zero))))))) = omega arith
+from-fit t p r a f l m (suc (suc (suc (suc (suc (suc (suc (suc i)))))))) = omega arith
+
+pub previous-fit : (ks ls : List ℕ) (q r : ℕ) → Fit ks → Fit ls → r < 2 ^ 64 → Fit (idWords (previousId ks ls q r))
+unfolding previousId
 previous-fit ks ls q r fk fl l = from-fit ls (q * 328 + 72 + authorAt ks q * 4) r (authorAt ks q) fl l (fk (q * 8 + 1))
 
-pub top-fit : (ls : List ℕ) (q : ℕ) → Fit ls → Fit (topWords ls q)
-unfolding topWords
+pub top-fit : (ls : List ℕ) (q : ℕ) → Fit ls → Fit (idWords (topId ls q))
+unfolding topId
 top-fit ls q f = from-fit ls (q * 328 + 3) _ _ f (f (q * 328 + 1)) (f (q * 328 + 2))
 
 -- ---- the include under an author
@@ -118,17 +146,22 @@ module _ (ls : List ℕ) (q a : ℕ) where
 
 -- ---- points
 
--- a judgement as a number
-verdict-code : (st : ℕ) (c : Bool) (r q : ℕ) → verdict (ltb 0 st) (eqb st 1) c r q ≡ placeOr (record { code = cond (eqb st 0) 14 (cond (eqb st 1) 0 (cond c 13 15)); place = q }) r
-unfolding verdict placeOr refusalOf
-verdict-code zero c r q = refl
-verdict-code (suc zero) c r q = refl
-verdict-code (suc (suc st)) c r q =
-    rw (lt-ltb 0 (suc (suc st)) (omega arith), ne-eqb (suc (suc st)) 0 (λ e. omega arith), ne-eqb (suc (suc st)) 1 (λ e. omega arith)) (by c)
-  where
-    by : (c : Bool) → verdict true false c r q ≡ placeOr (record { code = cond c 13 15; place = q }) r
-    by true = refl
-    by false = refl
+-- a needed place, by what it is refused with
+place-is : (q : ℕ) (c : Check) → placeOr (neededAt q c) ≡ unlessFailed c (good q)
+unfolding placeOr neededAt unlessFailed
+place-is q Passed = refl
+place-is q (Failed r) = refl
+
+-- 01's verdict by the status and the certificate word
+verdict-is : (st c r q : ℕ) → st ≤ 5 → verdict (ltb 0 st) (eqb st 1) (ltb 0 (heightOf c)) r q ≡ unlessFailed (judgeOf (caseOf st) c r) (good q)
+unfolding verdict unlessFailed refusalOf caseOf judgeOf
+verdict-is zero c r q l = refl
+verdict-is (suc zero) c r q l = refl
+verdict-is (suc (suc zero)) c r q l = verdict-not c r q
+verdict-is (suc (suc (suc zero))) c r q l = verdict-not c r q
+verdict-is (suc (suc (suc (suc zero)))) c r q l = verdict-not c r q
+verdict-is (suc (suc (suc (suc (suc zero))))) c r q l = verdict-not c r q
+verdict-is (suc (suc (suc (suc (suc (suc n)))))) c r q l = absurd (omega arith)
 
 -- the lowest bit of the marks
 mark-is : (m : ℕ) → bitOf 1 m ≡ not (eqb (m % 2) 0)
@@ -162,7 +195,7 @@ module _ (s : State) (ks ls cs os : List ℕ) (fk : Fit ks) (fl : Fit ls) (h : c
   walkable = (ready s ks ls cs os fk fl h, shape-says ks ls cs os (t .shaped) .2)
 
   pub linked : Linked s ks ls os
-  linked = (shape-says ks ls cs os (t .shaped) .1, (λ q u. t .facts .words q u .named .author), λ q u l. t .facts .words q u .told l .round)
+  linked = (shape-says ks ls cs os (t .shaped) .1, (λ q u. t .facts .words q u .named .author), λ q u l. let x = t .facts .words q u .told l in (x .round, x .author))
 
   module _ (q : ℕ) (u : Used os n q) where
     -- a used place holds its point
@@ -184,6 +217,9 @@ module _ (s : State) (ks ls cs os : List ℕ) (fk : Fit ks) (fl : Fit ls) (h : c
     pub status-at : store.statusAt v q ≡ statusAt ks q
     unfolding pointAt toldAt
     status-at = ap (λ (p : Point). p .told .status) point ∙ sameOr (statusAt ks q) 0 (λ e. rw (eq-eqb (statusAt ks q) 0 e) (sym e)) (λ d. rw (ne-eqb (statusAt ks q) 0 d) refl)
+
+    pub status-most : statusAt ks q ≤ 5
+    status-most = t .facts .words q u .named .status
 
     height-at : v .heights q ≡ heightOf (getD cs q 0)
     unfolding view
@@ -216,45 +252,49 @@ module _ (s : State) (ks ls cs os : List ℕ) (fk : Fit ks) (fl : Fit ls) (h : c
       previous-at = (λ i. under (author-at i) (given-at i .includes)) ∙ under-is ls q (authorAt ks q) 0 32 (omega arith) (t .facts .words q u .named .author)
 
       -- the previous point's id
-      pub previous-id : (r : ℕ) → record { round = r; author = store.idAt v q .author; digest = digestAt ls (q * 328 + 72 + authorAt ks q * 4) } ≡ idFor (previousWords ks ls q r)
-      unfolding previousWords
+      pub previous-id : (r : ℕ) → record { round = r; author = store.idAt v q .author; digest = digestAt ls (q * 328 + 72 + authorAt ks q * 4) } ≡ idOf (previousId ks ls q r)
+      unfolding previousId
       previous-id r = (λ i. record { round = r; author = author-at i; digest = digestAt ls (q * 328 + 72 + authorAt ks q * 4) }) ∙ sym (from-id ls (q * 328 + 72 + authorAt ks q * 4) r (authorAt ks q))
 
       -- the top proof's id
-      top-id : v .pt q .told .topProof ≡ idFor (topWords ls q)
-      unfolding topWords
+      top-id : v .pt q .told .topProof ≡ idOf (topId ls q)
+      unfolding topId
       top-id = (λ i. given-at i .topProof) ∙ sym (from-id ls (q * 328 + 3) (getD ls (q * 328 + 1) 0) (getD ls (q * 328 + 2) 0))
 
   -- ---- a needed point
 
-  module _ (w : List ℕ) (fw : Fit w) where
+  module _ (i : PointId) (fi : Fit (idWords i)) where
     -- the position of the id's point
     abbrev pos : ℕ
-    pos = positionFor ks os n w
+    pos = positionFor ks os n (idWords i)
 
-    found : ltb pos n ≡ true → find v (idFor w) ≡ some (placeAt os pos)
-    found y = find-is s ks ls cs os fk fl h w fw ∙ rw y refl
+    find-by : find v (idOf i) ≡ cond (ltb pos n) (some (placeAt os pos)) none
+    find-by = ap (find v) (sym (words-id i)) ∙ find-is s ks ls cs os fk fl h (idWords i) fi
 
-    lost : ltb pos n ≡ false → find v (idFor w) ≡ none
-    lost y = find-is s ks ls cs os fk fl h w fw ∙ rw y refl
+    -- the point is of the id's round
+    round-by : pos < n → roundAt ks (placeAt os pos) ≡ i .round .0
+    unfolding idWords
+    round-by l = found-round ks os n (idWords i) l
 
-    need-is : needInWalk v (idFor w) ≡ placeOr (needed s ks cs os w) (getD w 0 0)
-    unfolding needInWalk judged usableInWalk needed judgeCode placeOr refusalOf
+    need-is : needInWalk v (idOf i) ≡ placeOr (needed s ks cs os i)
+    unfolding needInWalk judged usableInWalk needed judgeAt placeOr refusalOf
     need-is =
         byTest (ltb pos n)
         (λ y. let q = placeAt os pos in
         let l = ltb-true pos n y in
         let u : Used os n q = (pos, l, refl) in
-        rw (found y, needInWalk, y)
-        ((λ i. verdict (resolved-at q u i) (eqb (status-at q u i) 1) (certified-at q u i) ((round-at q u ∙ found-round ks os n w l) i) q) ∙ verdict-code (statusAt ks q) (ltb 0 (heightOf (getD cs q 0))) (getD w 0 0) q))
-        (λ y. rw (lost y, needInWalk, y) refl)
+        let found : find v (idOf i) ≡ some q = find-by ∙ rw y refl in
+        rw (found, needInWalk, y)
+        ((λ j. verdict (resolved-at q u j) (eqb (status-at q u j) 1) (certified-at q u j) ((round-at q u ∙ round-by l) j) q)
+        ∙ (verdict-is (statusAt ks q) (getD cs q 0) (i .round .0) q (status-most q u) ∙ sym (place-is q (judgeOf (caseOf (statusAt ks q)) (getD cs q 0) (i .round .0))))))
+        (λ y. let lost : find v (idOf i) ≡ none = find-by ∙ rw y refl in rw (lost, needInWalk, y) refl)
 
   -- ---- a round
 
-  module _ (low x : ℕ) (room : s .bottom .0 ≤ x) (top : x ≤ s .top .0) (below : Onward) (w : List ℕ) (fw : Fit w) (acc : List chain.Enqueued) where
-    -- the walk goes on with the words of an id
+  module _ (low x : ℕ) (room : s .bottom .0 ≤ x) (top : x ≤ s .top .0) (below : Onward) (i : PointId) (fi : Fit (idWords i)) (acc : List chain.Enqueued) where
+    -- the walk goes on with an id
     abbrev on : Below
-    on z l = below (idFor z) l
+    on z l = below (idOf z) l
 
     -- a round fits
     small : x < 2 ^ 64
@@ -263,62 +303,53 @@ module _ (s : State) (ks ls cs os : List ℕ) (fk : Fit ks) (fl : Fit ls) (h : c
 
     module _ (p : ℕ) (u : Used os n p) (valid : statusAt ks p ≡ 1) where
       -- the anchor's id
-      abbrev to : List ℕ
-      to = previousWords ks ls p (x - 1)
+      abbrev to : PointId
+      to = previousId ks ls p (x - 1)
 
-      -- its round
-      to-round : getD to 0 0 ≡ x - 1
-      unfolding previousWords idFrom
-      to-round = refl
-
-      anchor-is : then (needInWalk v (idFor to)) (enqueue v below acc p) ≡ onward ls (anchorAt s ks ls cs os p (x - 1)) on w acc
-      unfolding enqueue anchorAt onward placeOr topWords idFrom
+      anchor-is : then (needInWalk v (idOf to)) (enqueue v below acc p) ≡ onward ls (anchorAt s ks ls cs os p (x - 1)) on i acc
+      unfolding enqueue anchorAt anchorOf onward placeOr topId idFrom
       anchor-is =
-          let f = needed s ks cs os to in
-          rw (need-is to (previous-fit ks ls p (x - 1) fk fl (omega (arith, small))), to-round)
-          (byTest (eqb (f .code) 0)
-          (λ y. let z = eqb-true _ _ y in
-          rw y (next (f .place) (needed-used s ks cs os to f refl z) (needed-valid s ks cs os to f refl z)))
-          (λ y. rw y refl))
+          ap (λ (o : Out ℕ). then o (enqueue v below acc p)) (need-is to (previous-fit ks ls p (x - 1) fk fl (omega (arith, small))))
+          ∙ by (needed s ks cs os to) refl
         where
-          next : (a : ℕ) → Used os n a → statusAt ks a ≡ 1 → enqueue v below acc p a ≡ on (topWords ls a) (record { anchor = a; proof = p; prevProofRound = proofRoundAt ls a } ∷ acc)
-          next a k e = ap (λ (i : Id). below i (record { anchor = a; proof = p; prevProofRound = i .round } ∷ acc)) (top-id a k (omega arith))
+          next : (a : ℕ) → Used os n a → statusAt ks a ≡ 1 → enqueue v below acc p a ≡ on (topId ls a) (record { anchor = a; proof = p; prevProofRound = proofRoundAt ls a } ∷ acc)
+          next a k e = ap (λ (j : Id). below j (record { anchor = a; proof = p; prevProofRound = j .round } ∷ acc)) (top-id a k (omega arith))
 
-      proof-is : chain.atProof v x (leb x low) below acc p ≡ onward ls (cond (eqb (marksAt ks p % 2) 0) (fault 16 x) (cond (hasPrevious ks ls p) (cond (leb x low) End (anchorAt s ks ls cs os p (x - 1))) (fault 16 x))) on w acc
-      unfolding chain.atProof toPrevious toAnchor onward refusalOf
+          by : (f : Needed) → f ≡ needed s ks cs os to → then (placeOr f) (enqueue v below acc p) ≡ onward ls (anchorOf ls p f) on i acc
+          by (Refused r) e = refl
+          by (At a) e = let (k, o) = needed-at s ks cs os to _ refl a (sym e) in next a k o
+
+      proof-is : chain.atProof v x (leb x low) below acc p ≡ onward ls (atProof s ks ls cs os low x (proofOf ks ls (At p))) on i acc
+      unfolding chain.atProof toPrevious toAnchor onward refusalOf proofOf atProof
       proof-is =
           let st : 0 < statusAt ks p = omega arith in
-          (λ i. elim (((λ j. given-at p u st j .proof) ∙ mark-is (marksAt ks p)) i) [ true ↦ toPrevious v x (leb x low) below acc p (previous-at p u st i) | false ↦ bad (number 16) ])
-          ∙ by (eqb (marksAt ks p % 2) 0) (hasPrevious ks ls p) (leb x low)
+          (λ j. elim (((λ k. given-at p u st k .proof) ∙ mark-is (marksAt ks p)) j) [ true ↦ toPrevious v x (leb x low) below acc p (previous-at p u st j) | false ↦ bad (number 16) ])
+          ∙ by (eqb (marksAt ks p % 2) 0) (hasPrevious ks ls p)
         where
-          by : (a b c : Bool) → _≡_ {A = Out (List chain.Enqueued)} (elim (not a) [ true ↦ toPrevious v x c below acc p (cond b (some (digestAt ls (p * 328 + 72 + authorAt ks p * 4))) none) | false ↦ bad (number 16) ])
-              (onward ls (cond a (fault 16 x) (cond b (cond c End (anchorAt s ks ls cs os p (x - 1))) (fault 16 x))) on w acc)
-          by true b c = refl
-          by false false c = refl
-          by false true true = refl
-          by false true false = ap (λ (i : Id). then (needInWalk v i) (enqueue v below acc p)) (previous-id p u (omega arith) (x - 1)) ∙ anchor-is
+          -- the walk's lowest round, or a higher one
+          lowest : (c : Bool) → toAnchor v x c below acc p (digestAt ls (p * 328 + 72 + authorAt ks p * 4)) ≡ onward ls (cond c End (anchorAt s ks ls cs os p (x - 1))) on i acc
+          lowest true = refl
+          lowest false = ap (λ (j : Id). then (needInWalk v j) (enqueue v below acc p)) (previous-id p u (omega arith) (x - 1)) ∙ anchor-is
+
+          by : (a b : Bool) → _≡_ {A = Out (List chain.Enqueued)} (elim (not a) [ true ↦ toPrevious v x (leb x low) below acc p (cond b (some (digestAt ls (p * 328 + 72 + authorAt ks p * 4))) none) | false ↦ bad (number 16) ])
+              (onward ls (atProof s ks ls cs os low x (cond a (Refused (Number 16)) (cond b (At p) (Refused (Number 16))))) on i acc)
+          by true b = refl
+          by false false = refl
+          by false true = lowest (leb x low)
 
     -- a round without a used mark, which is that of the sought proof
-    sought-is : getD w 0 0 ≡ x → then (needInWalk v (idFor w)) (chain.atProof v x (leb x low) below acc) ≡ onward ls (atProof s ks ls cs os low x (proofAt s ks ls cs os w)) on w acc
-    unfolding placeOr atProof proofAt onward
-    sought-is e =
-        let f = needed s ks cs os w in
-        rw (need-is w fw, e)
-        (byTest (eqb (f .code) 0)
-        (λ y. let z = eqb-true _ _ y in
-        rw y (proof-is (f .place) (needed-used s ks cs os w f refl z) (needed-valid s ks cs os w f refl z) ∙ by f (eqb (marksAt ks (f .place) % 2) 0) (hasPrevious ks ls (f .place)) y))
-        (λ y. rw (y, y) refl))
+    sought-is : then (needInWalk v (idOf i)) (chain.atProof v x (leb x low) below acc) ≡ onward ls (atProof s ks ls cs os low x (proofAt s ks ls cs os i)) on i acc
+    unfolding placeOr atProof proofAt proofOf onward
+    sought-is = ap (λ (o : Out ℕ). then o (chain.atProof v x (leb x low) below acc)) (need-is i fi) ∙ by (needed s ks cs os i) refl
       where
-        by : (f : Needed) (a b : Bool) → eqb (f .code) 0 ≡ true → onward ls (cond a (fault 16 x) (cond b (cond (leb x low) End (anchorAt s ks ls cs os (f .place) (x - 1))) (fault 16 x))) on w acc
-            ≡ onward ls (atProof s ks ls cs os low x (cond a (record { code = 16; place = f .place }) (cond b f (record { code = 16; place = f .place })))) on w acc
-        by f true b y = refl
-        by f false false y = refl
-        by f false true y = rw y refl
+        by : (f : Needed) → f ≡ needed s ks cs os i → then (placeOr f) (chain.atProof v x (leb x low) below acc) ≡ onward ls (atProof s ks ls cs os low x (proofOf ks ls f)) on i acc
+        by (Refused r) e = refl
+        by (At p) e = let (u, o) = needed-at s ks cs os i _ refl p (sym e) in proof-is p u o
 
-    marked-is : (u : ℕ) → getD w 0 0 ≡ x → atUsed v x (leb x low) below acc (idFor w) (optionOf u) ≡ onward ls (markedStep s ks ls cs os low x u w) on w acc
+    marked-is : (u : ℕ) → atUsed v x (leb x low) below acc (idOf i) (optionOf u) ≡ onward ls (markedStep s ks ls cs os low x u i) on i acc
     unfolding optionOf atUsed markedStep usedAt onward refusalOf
-    marked-is zero e = sought-is e
-    marked-is (suc a) e = rw (less a, ne-eqb (suc a) 0 (λ d. omega arith)) (byTest (eqb a (getD w 1 0)) (λ y. rw (y, atUsed) refl) (λ y. rw (y, atUsed) refl))
+    marked-is zero = sought-is
+    marked-is (suc a) = rw (less a, ne-eqb (suc a) 0 (λ d. omega arith)) (byTest (eqb a (i .author)) (λ y. rw (y, atUsed) refl) (λ y. rw (y, atUsed) refl))
       where
         less : (a : ℕ) → suc a - 1 ≡ a
         less a = omega arith
@@ -329,11 +360,11 @@ module _ (s : State) (ks ls cs os : List ℕ) (fk : Fit ks) (fl : Fit ls) (h : c
     used-mark = ap (λ (r : store.Round). r .used) (window-in (s .rounds) (s .bottom .0) (s .top .0) x room top)
 
     -- a round of the walk
-    pub visit-is : chain.visit v x (leb x low) below (idFor w) acc ≡ onward ls (stepAt s ks ls cs os low x w) on w acc
+    pub visit-is : chain.visit v x (leb x low) below (idOf i) acc ≡ onward ls (stepAt s ks ls cs os low x i) on i acc
     unfolding chain.visit stepAt onward refusalOf
     visit-is =
-        byTest (ltb (getD w 0 0) x)
+        byTest (ltb (i .round .0) x)
         (λ y. rw (y, chain.visit) refl)
-        (λ y. byTest (ltb x (getD w 0 0))
+        (λ y. byTest (ltb x (i .round .0))
         (λ z. rw (y, chain.visit, z, chain.visit) refl)
-        (λ z. rw (y, chain.visit, z, chain.visit) (ap (atUsed v x (leb x low) below acc (idFor w)) used-mark ∙ marked-is (recordOf (s .rounds) x .used) (omega (arith, ltb-false (getD w 0 0) x y, ltb-false x (getD w 0 0) z)))))
+        (λ z. rw (y, chain.visit, z, chain.visit) (ap (atUsed v x (leb x low) below acc (idOf i)) used-mark ∙ marked-is (recordOf (s .rounds) x .used))))

@@ -1,28 +1,37 @@
--- The ids that a place leads to, as words: its previous point and its top proof (01: info.rs).
+-- The ids that a place leads to: its previous point and its top proof (01: info.rs).
 use Prim.Native.Nat.{ℕ, _+_, _*_, _<_, _≤_}
 use mathlib.Core.Path.{_≡_, _∙_, ap, ap₂}
-use mathlib.Core.List.{List}
+use mathlib.Core.List.{List, [], _∷_}
 use mathlib.Core.Bool.{Bool}
 use lib.Dec.{ltb}
 use lib.ListN.{length, getD}
 use Rattle.models.specs.Tables.{authorAt, targetAt}
-use Rattle.dag_keys.specs.Id.{idFrom}
+use Rattle.models.specs.declared.parts.PointId.{PointId}
+use Rattle.dag_links.specs.Words.{proofRoundAt, proofAuthorAt}
+
+-- the id with the round r and the author a, and the digest in the four words of t from p on
+unfoldable pub idFrom : List ℕ → ℕ → ℕ → ℕ → PointId
+idFrom t p r a = record { round = record { 0 = r }; author = a; digest = record { 0 = getD t (p + 0) 0 ∷ getD t (p + 1) 0 ∷ getD t (p + 2) 0 ∷ getD t (p + 3) 0 ∷ [] } }
 
 -- the place q has an include under its own author
 unfoldable pub hasPrevious : List ℕ → List ℕ → ℕ → Bool
 hasPrevious ks ls q = ltb 0 (targetAt ls q (authorAt ks q))
 
 -- the id of that include, in the round r
-unfoldable pub previousWords : List ℕ → List ℕ → ℕ → ℕ → List ℕ
-previousWords ks ls q r = idFrom ls (q * 328 + 72 + authorAt ks q * 4) r (authorAt ks q)
+unfoldable pub previousId : List ℕ → List ℕ → ℕ → ℕ → PointId
+previousId ks ls q r = idFrom ls (q * 328 + 72 + authorAt ks q * 4) r (authorAt ks q)
 
 -- the id of the top proof of the place q
-unfoldable pub topWords : List ℕ → ℕ → List ℕ
-topWords ls q = idFrom ls (q * 328 + 3) (getD ls (q * 328 + 1) 0) (getD ls (q * 328 + 2) 0)
+unfoldable pub topId : List ℕ → ℕ → PointId
+topId ls q = idFrom ls (q * 328 + 3) (proofRoundAt ls q) (proofAuthorAt ls q)
 
 -- the place q lies in the tables, and its author is a peer's number
 abbrev pub Placed : List ℕ → List ℕ → ℕ → Type 0
 Placed ks ls q = (q * 8 + 8 ≤ length ks) × (q * 328 + 328 ≤ length ls) × (authorAt ks q < 32)
+
+-- the links of the place q lie in the table, its top proof's round and author in their ranges
+abbrev pub Topped : List ℕ → ℕ → Type 0
+Topped ls q = (q * 328 + 328 ≤ length ls) × (proofRoundAt ls q < 4294967296) × (proofAuthorAt ls q < 32)
 
 -- ---- the code's steps, by the author a that is read
 
@@ -31,11 +40,6 @@ module _ (ks ls : List ℕ) (q a k : ℕ) (f : a ≡ authorAt ks q) (e : k ≡ a
   unfolding hasPrevious
   previous-by x h = ap (ltb 0) (h ∙ ap (targetAt ls q) (e ∙ f))
 
-  pub previous-words : (r : ℕ) (w : List ℕ) → w ≡ idFrom ls (q * 328 + 72 + k * 4) r a → w ≡ previousWords ks ls q r
-  unfolding previousWords
-  previous-words r w h = h ∙ ap₂ (λ (x y : ℕ). idFrom ls (q * 328 + 72 + x * 4) r y) (e ∙ f) f
-
--- by the round and the author of the top proof that are read
-pub top-words : (ls : List ℕ) (q r a : ℕ) (w : List ℕ) → r ≡ getD ls (q * 328 + 1) 0 → a ≡ getD ls (q * 328 + 2) 0 → w ≡ idFrom ls (q * 328 + 3) r a → w ≡ topWords ls q
-unfolding topWords
-top-words ls q r a w e f h = h ∙ ap₂ (idFrom ls (q * 328 + 3)) e f
+  pub previous-from : (r : ℕ) (i : PointId) → i ≡ idFrom ls (q * 328 + 72 + k * 4) r a → i ≡ previousId ks ls q r
+  unfolding previousId
+  previous-from r i h = h ∙ ap₂ (λ (x y : ℕ). idFrom ls (q * 328 + 72 + x * 4) r y) (e ∙ f) f

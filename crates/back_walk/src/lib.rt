@@ -4,37 +4,56 @@ ghost use mathlib.Core.Path.{_≡_};
 ghost use Prim.Native.Nat.{_+_, _*_, _<_, _≤_};
 ghost use lib.ListN.{length};
 ghost use Rattle.models.specs.Tables.{Used};
-ghost use Rattle.back_walk.specs.Words.{hasPrevious, previousWords, topWords, Placed};
-ghost use Rattle.back_walk.specs.Step.{judgeCode, needed, proofAt, anchorAt, usedAt, stepAt, Walkable, Linked};
+ghost use Rattle.back_walk.specs.Words.{idFrom, hasPrevious, previousId, topId, Placed, Topped};
+ghost use Rattle.back_walk.specs.Step.{judgeAt, needed, proofAt, anchorAt, usedAt, stepAt, Walkable, Linked};
 use dag_state::state::State;
 use models::cert::Cert;
+use models::dag_point::DagPoint;
+use models::dag_point::Resolved;
+use models::parts::Digest;
+use models::parts::PointId;
 use models::parts::Round;
+use models::refusal::Check;
+use models::refusal::NO_PROOF;
+use models::refusal::NOT_RESOLVED;
+use models::refusal::Refusal;
+use models::refusal::not_valid;
 
 // An anchor of the chain: its place, its proof's, and the round of the anchor's top proof (`EnqueuedAnchor`).
 pub struct Enqueued {
     pub anchor: usize,
     pub proof: usize,
-    pub prev_proof_round: u32,
+    pub prev_proof_round: Round,
 }
 
-// A point that the walk needs: 0 and its place, or the number that it is refused with.
-pub struct Needed {
-    pub code: u32,
-    pub place: usize,
-}
-
-// The number of a refusal; the round is that of 13, the history conflict.
-pub struct Fault {
-    pub code: u32,
-    pub round: Round,
+// A point that the walk needs: its place, or what it is refused with.
+pub enum Needed {
+    At(usize),
+    Refused(Refusal),
 }
 
 // A round of the walk is passed, ends it, refuses it, or has an anchor's proof.
 pub enum Step {
     Pass,
     End,
-    Bad(Fault),
+    Bad(Refusal),
     Found(Enqueued),
+}
+
+// The id with this round and author and the digest in the four words from `at` on.
+fn id_from(t: &[u64], at: usize, round: Round, author: u32) -> PointId
+    requires { ⌜ at + 4 ≤ length (now t) ⌝ }
+    ensures { λ r. ⌜ r ≡ idFrom (now (t .entry)) at (round .0) author ⌝ }
+{
+    let x = t[at + 0];
+    let y = t[at + 1];
+    let z = t[at + 2];
+    let w = t[at + 3];
+    PointId {
+        round,
+        author,
+        digest: Digest([x, y, z, w]),
+    }
 }
 
 // Whether the point at place q has a previous point: an include under its own author.
@@ -47,57 +66,62 @@ pub fn has_previous(keys: &[u64], links: &[u64], q: usize) -> bool
 }
 
 // The id of that point, which is of this round.
-pub fn previous(keys: &[u64], links: &[u64], q: usize, round: u64) -> [u64; 8]
+pub fn previous(keys: &[u64], links: &[u64], q: usize, round: Round) -> PointId
     requires { ⌜ Placed (now keys) (now links) q ⌝ }
-    ensures { λ r. ⌜ r ≡ previousWords (now (keys .entry)) (now (links .entry)) q round ⌝ }
+    ensures { λ r. ⌜ r ≡ previousId (now (keys .entry)) (now (links .entry)) q (round .0) ⌝ }
 {
     let author = dag_keys::author(keys, q);
     let k = laws::slot(author);
-    dag_keys::id_at(links, q * 328 + 72 + k * 4, round, author)
+    id_from(links, q * 328 + 72 + k * 4, round, author as u32)
 }
 
 // The id of the top proof of the point at place q.
-pub fn top_proof(links: &[u64], q: usize) -> [u64; 8]
-    requires { ⌜ q * 328 + 328 ≤ length (now links) ⌝ }
-    ensures { λ r. ⌜ r ≡ topWords (now (links .entry)) q ⌝ }
+pub fn top_proof(links: &[u64], q: usize) -> PointId
+    requires { ⌜ Topped (now links) q ⌝ }
+    ensures { λ r. ⌜ r ≡ topId (now (links .entry)) q ⌝ }
 {
-    let round = dag_links::head_word(links, q, 1);
-    let author = dag_links::head_word(links, q, 2);
-    dag_keys::id_at(links, q * 328 + 3, round, author)
+    let round = links[q * 328 + 1] as u32;
+    let author = links[q * 328 + 2] as u32;
+    id_from(links, q * 328 + 3, Round(round), author)
 }
 
-// 0 if the point at place q is valid, else 14, 13 or 15.
-fn judge(keys: &[u64], certs: &[u64], q: usize) -> u32
+// What the point at place q, of this round, is refused with in the walk, which needs a valid one: 14, 13 or 15.
+fn judge(keys: &[u64], certs: &[u64], q: usize, round: Round) -> Check
     requires { ⌜ (q * 8 + 8 ≤ length (now keys)) × (q < length (now certs)) ⌝ }
-    ensures { λ r. ⌜ r ≡ judgeCode (now (keys .entry)) (now (certs .entry)) q ⌝ }
+    ensures { λ r. ⌜ r ≡ judgeAt (now (keys .entry)) (now (certs .entry)) q (round .0) ⌝ }
 {
-    let status = keys[q * 8 + 6];
-    if status == 0 {
-        return 14;
-    }
-    if status == 1 {
-        return 0;
-    }
+    let case = dag_keys::case_at(keys, q);
     let cert = Cert(certs[q]);
-    if cert.is_certified() {
-        return 13;
+    match case {
+        Resolved::Nothing => Check::Failed(Refusal::Number(NOT_RESOLVED)),
+        Resolved::Case(p) => match p {
+            DagPoint::Valid => Check::Passed,
+            DagPoint::TransInvalid => not_valid(cert, round),
+            DagPoint::Invalid => not_valid(cert, round),
+            DagPoint::IllFormed => not_valid(cert, round),
+            DagPoint::NotFound => not_valid(cert, round),
+        },
     }
-    15
 }
 
 // The point with this id, as the walk needs it (`ready_valid_point`).
-fn need(s: State, keys: &[u64], certs: &[u64], order: &[u64], id: [u64; 8]) -> Needed
+fn need(s: State, keys: &[u64], certs: &[u64], order: &[u64], id: PointId) -> Needed
     requires { ⌜ Walkable s (now keys) (now certs) (now order) ⌝ }
     ensures { λ r. ⌜ r ≡ needed s (now (keys .entry)) (now (certs .entry)) (now (order .entry)) id ⌝ }
 {
     let n = s.count;
-    let at = dag_keys::find_point(keys, order, n, &id);
+    let words = dag_name::id_words(id);
+    let at = dag_keys::find_point(keys, order, n, &words);
     if n <= at {
-        return Needed { code: 14, place: 0 };
+        return Needed::Refused(Refusal::Number(NOT_RESOLVED));
     }
     let q = dag_places::place(order, n, at);
-    let code = judge(keys, certs, q);
-    Needed { code, place: q }
+    let round = id.round;
+    let check = judge(keys, certs, q, round);
+    match check {
+        Check::Passed => Needed::At(q),
+        Check::Failed(r) => Needed::Refused(r),
+    }
 }
 
 // The proof with this id: a point that the walk needs, marked as proof, with a previous point (`chained_proof`).
@@ -107,24 +131,25 @@ fn proof_at(
     links: &[u64],
     certs: &[u64],
     order: &[u64],
-    id: [u64; 8],
+    id: PointId,
 ) -> Needed
     requires { ⌜ Walkable s (now keys) (now certs) (now order) ⌝ }
     requires { ⌜ Linked s (now keys) (now links) (now order) ⌝ }
     ensures { λ r. ⌜ r ≡ proofAt s (now (keys .entry)) (now (links .entry)) (now (certs .entry)) (now (order .entry)) id ⌝ }
 {
     let found = need(s, keys, certs, order, id);
-    if found.code != 0 {
-        return found;
+    match found {
+        Needed::Refused(r) => Needed::Refused(r),
+        Needed::At(p) => {
+            if keys[p * 8 + 7] % 2 == 0 {
+                return Needed::Refused(Refusal::Number(NO_PROOF));
+            }
+            if !has_previous(keys, links, p) {
+                return Needed::Refused(Refusal::Number(NO_PROOF));
+            }
+            Needed::At(p)
+        }
     }
-    let p = found.place;
-    if keys[p * 8 + 7] % 2 == 0 {
-        return Needed { code: 16, place: p };
-    }
-    if !has_previous(keys, links, p) {
-        return Needed { code: 16, place: p };
-    }
-    found
 }
 
 // The anchor of the proof at place p, in this round.
@@ -135,41 +160,37 @@ fn anchor_at(
     certs: &[u64],
     order: &[u64],
     p: usize,
-    round: u32,
+    round: Round,
 ) -> Step
     requires { ⌜ Walkable s (now keys) (now certs) (now order) ⌝ }
     requires { ⌜ Linked s (now keys) (now links) (now order) ⌝ }
     requires { ⌜ Used (now order) (s .count) p ⌝ }
-    ensures { λ r. ⌜ r ≡ anchorAt s (now (keys .entry)) (now (links .entry)) (now (certs .entry)) (now (order .entry)) p round ⌝ }
+    ensures { λ r. ⌜ r ≡ anchorAt s (now (keys .entry)) (now (links .entry)) (now (certs .entry)) (now (order .entry)) p (round .0) ⌝ }
 {
-    let words = previous(keys, links, p, round as u64);
-    let found = need(s, keys, certs, order, words);
-    let code = found.code;
-    if code != 0 {
-        return Step::Bad(Fault {
-            code,
-            round: Round(round),
-        });
+    let id = previous(keys, links, p, round);
+    let found = need(s, keys, certs, order, id);
+    match found {
+        Needed::Refused(r) => Step::Bad(r),
+        Needed::At(q) => {
+            let top = top_proof(links, q);
+            let prev_proof_round = top.round;
+            Step::Found(Enqueued {
+                anchor: q,
+                proof: p,
+                prev_proof_round,
+            })
+        }
     }
-    let q = found.place;
-    Step::Found(Enqueued {
-        anchor: q,
-        proof: p,
-        prev_proof_round: links[q * 328 + 1] as u32,
-    })
 }
 
-// The round x of the walk, in which the author's proof is used: it ends the walk if it is the sought author's.
-fn at_used(used: u32, author: u64, x: u32) -> Step
-    ensures { λ r. ⌜ r ≡ usedAt used author x ⌝ }
+// A round of the walk in which the author's proof is used: it ends the walk if it is the sought author's.
+fn at_used(used: u32, author: u32) -> Step
+    ensures { λ r. ⌜ r ≡ usedAt used author ⌝ }
 {
-    if used as u64 == author {
+    if used == author {
         return Step::End;
     }
-    Step::Bad(Fault {
-        code: 16,
-        round: Round(x),
-    })
+    Step::Bad(Refusal::Number(NO_PROOF))
 }
 
 // The round x of the walk, which ends at the round low; id is the sought proof's.
@@ -179,39 +200,34 @@ pub fn visit(
     links: &[u64],
     certs: &[u64],
     order: &[u64],
-    id: [u64; 8],
-    low: u32,
-    x: u32,
+    id: PointId,
+    low: Round,
+    x: Round,
 ) -> Step
     requires { ⌜ Walkable s (now keys) (now certs) (now order) ⌝ }
     requires { ⌜ Linked s (now keys) (now links) (now order) ⌝ }
-    ensures { λ r. ⌜ r ≡ stepAt s (now (keys .entry)) (now (links .entry)) (now (certs .entry)) (now (order .entry)) low x id ⌝ }
+    ensures { λ r. ⌜ r ≡ stepAt s (now (keys .entry)) (now (links .entry)) (now (certs .entry)) (now (order .entry)) (low .0) (x .0) id ⌝ }
 {
-    let round = id[0];
-    if round < x as u64 {
+    let round = id.round;
+    if round.0 < x.0 {
         return Step::Pass;
     }
-    if (x as u64) < round {
-        return Step::Bad(Fault {
-            code: 16,
-            round: Round(x),
-        });
+    if x.0 < round.0 {
+        return Step::Bad(Refusal::Number(NO_PROOF));
     }
-    let record = s.rounds[(x % 512) as usize];
+    let record = s.rounds[(x.0 % 512) as usize];
     let used = record.used;
     if used != 0 {
-        return at_used(used - 1, id[1], x);
+        return at_used(used - 1, id.author);
     }
     let found = proof_at(s, keys, links, certs, order, id);
-    let code = found.code;
-    if code != 0 {
-        return Step::Bad(Fault {
-            code,
-            round: Round(x),
-        });
+    match found {
+        Needed::Refused(r) => Step::Bad(r),
+        Needed::At(p) => {
+            if x.0 <= low.0 {
+                return Step::End;
+            }
+            anchor_at(s, keys, links, certs, order, p, x.prev())
+        }
     }
-    if x <= low {
-        return Step::End;
-    }
-    anchor_at(s, keys, links, certs, order, found.place, x - 1)
 }

@@ -1,16 +1,21 @@
 -- What one anchor's commit leaves, word for word.
 use Prim.Native.Nat.{ℕ, _+_, _*_, _-_, _<_, _≤_}
-use mathlib.Core.Path.{_≡_, refl}
+use mathlib.Core.Path.{_≡_, refl, sym, _∙_}
 use mathlib.Core.List.{List}
 use mathlib.Core.Bool.{Bool, cond}
 use native.Mathlib.Omega.{arith}
 use lib.Dec.{eqb, ltb}
 use lib.ListN.{length}
-use borrow.Author.Tests.{eq-eqb, ne-eqb, lt-ltb, le-ltb, eqb-false, ltb-false}
+use borrow.Author.Tests.{eq-eqb, ne-eqb, lt-ltb, le-ltb, ltb-false}
 use Rattle.laws.specs.Test.{byTest}
 use Rattle.laws.specs.Bytes.{written}
 use Rattle.spec.specs.Chain.{Enqueued}
 use Rattle.models.specs.Tables.{roundAt, authorAt, Inside}
+use Rattle.models.specs.Refusal.{failed, orNext, not-failed}
+use Rattle.models.specs.declared.refusal.Refusal.{Refusal}
+use Rattle.models.specs.declared.refusal.Refusal.the-variants.{Number}
+use Rattle.models.specs.declared.refusal.Check.{Check}
+use Rattle.models.specs.declared.refusal.Check.the-variants.{Passed, Failed}
 use Rattle.dag_state.specs.declared.state.State.{State}
 use Rattle.back_points.specs.declared.anchor.Tested.{Tested}
 use Rattle.back_points.specs.Anchor.{testedOf}
@@ -34,9 +39,9 @@ Placed ks cs e = (roundAt ks (e .anchor) ≤ 4000000000) × (roundAt ks (e .proo
 
 -- ---- mirrors
 
--- the number that refuses an anchor: that of its tests, 20, 21
-unfoldable pub numberFor : ℕ → ℕ → ℕ → ℕ → ℕ
-numberFor k gap n left = cond (eqb k 0) (cond (eqb gap 1) 20 (cond (ltb left (83 + n * 37)) 21 0)) k
+-- what refuses an anchor: its tests, 20, 21
+unfoldable pub numberFor : Check → ℕ → ℕ → ℕ → Check
+numberFor c gap n left = orNext c (cond (eqb gap 1) (failed 20) (cond (ltb left (83 + n * 37)) (failed 21) Passed))
 
 -- the anchor's record
 unfoldable pub recordFor : State → List ℕ → List ℕ → List ℕ → List Bool → ℕ → ℕ → Enqueued → List ℕ
@@ -46,62 +51,62 @@ recordFor s ks cs os m low high e =
 
 -- what one anchor leaves
 pub record Step : Type 0 where
-  pub code : ℕ
-  pub round : ℕ
+  pub check : Check
   pub state : State
   pub certs : List ℕ
   pub buffer : List ℕ
   pub end : ℕ
 
-abbrev pub stepOf : ℕ → ℕ → State → List ℕ → List ℕ → ℕ → Step
-stepOf k r s cs b end = record { code = k; round = r; state = s; certs = cs; buffer = b; end = end }
+abbrev pub stepOf : Check → State → List ℕ → List ℕ → ℕ → Step
+stepOf c s cs b end = record { check = c; state = s; certs = cs; buffer = b; end = end }
 
--- of an anchor with these tests
-unfoldable pub oneWith : State → List ℕ → List ℕ → List ℕ → List ℕ → ℕ → Enqueued → Tested → Step
-oneWith s ks cs os b at e t =
-    let k = numberFor (t .code) (s .gap) (t .count) (length b - at) in
-    cond (eqb k 0)
-    (stepOf 0 (t .round .0) (afterState s (roundAt ks (e .anchor)) (roundAt ks (e .proof)) (authorAt ks (e .anchor))) (marksAll os (t .marks) (t .low) cs (t .high))
-    (written b at (recordFor s ks cs os (t .marks) (t .low) (t .high) e)) (at + 83 + t .count * 37))
-    (stepOf k (t .round .0) s cs b at)
+-- of an anchor with what its tests gave, and what refuses it
+unfoldable pub oneWith : State → List ℕ → List ℕ → List ℕ → List ℕ → ℕ → Enqueued → Tested → Check → Step
+oneWith s ks cs os b at e t Passed =
+    stepOf Passed (afterState s (roundAt ks (e .anchor)) (roundAt ks (e .proof)) (authorAt ks (e .anchor))) (marksAll os (t .marks) (t .low) cs (t .high))
+    (written b at (recordFor s ks cs os (t .marks) (t .low) (t .high) e)) (at + 83 + t .count * 37)
+oneWith s ks cs os b at e t (Failed r) = stepOf (Failed r) s cs b at
+
+-- the same by its tests
+unfoldable pub oneIn : State → List ℕ → List ℕ → List ℕ → List ℕ → ℕ → Enqueued → Tested → Step
+oneIn s ks cs os b at e t = oneWith s ks cs os b at e t (numberFor (t .check) (s .gap) (t .count) (length b - at))
 
 unfoldable pub oneOf : State → List ℕ → List ℕ → List ℕ → List ℕ → List ℕ → ℕ → Enqueued → Step
-oneOf s ks ls cs os b at e = oneWith s ks cs os b at e (testedOf s ks ls cs os (e .anchor))
+oneOf s ks ls cs os b at e = oneIn s ks cs os b at e (testedOf s ks ls cs os (e .anchor))
 
 -- ---- the steps of the code
 
-module _ (k gap n left : ℕ) where
+module _ (c : Check) (gap n left : ℕ) where
   -- the tests refuse it
-  pub number-tested : (k ≡ 0 → ⊥) → k ≡ numberFor k gap n left
-  unfolding numberFor
-  number-tested d = rw (ne-eqb k 0 d) refl
+  pub number-tested : (r : Refusal) → c ≡ Failed r → Failed r ≡ numberFor c gap n left
+  unfolding numberFor orNext
+  number-tested r e = rw e refl
 
-  module _ (z : k ≡ 0) where
+  module _ (z : c ≡ Passed) where
     -- 20
-    pub number-gap : gap ≡ 1 → 20 ≡ numberFor k gap n left
-    unfolding numberFor
-    number-gap e = rw (eq-eqb k 0 z, eq-eqb gap 1 e) refl
+    pub number-gap : gap ≡ 1 → failed 20 ≡ numberFor c gap n left
+    unfolding numberFor orNext
+    number-gap e = rw (z, eq-eqb gap 1 e) refl
 
     module _ (d : gap ≡ 1 → ⊥) where
       -- 21
-      pub number-room : left < 83 + n * 37 → 21 ≡ numberFor k gap n left
-      unfolding numberFor
-      number-room l = rw (eq-eqb k 0 z, ne-eqb gap 1 d, lt-ltb left (83 + n * 37) l) refl
+      pub number-room : left < 83 + n * 37 → failed 21 ≡ numberFor c gap n left
+      unfolding numberFor orNext
+      number-room l = rw (z, ne-eqb gap 1 d, lt-ltb left (83 + n * 37) l) refl
 
       -- none
-      pub number-none : 83 + n * 37 ≤ left → 0 ≡ numberFor k gap n left
-      unfolding numberFor
-      number-none l = rw (eq-eqb k 0 z, ne-eqb gap 1 d, le-ltb left (83 + n * 37) l) refl
+      pub number-none : 83 + n * 37 ≤ left → Passed ≡ numberFor c gap n left
+      unfolding numberFor orNext
+      number-none l = rw (z, ne-eqb gap 1 d, le-ltb left (83 + n * 37) l) refl
 
 -- an anchor that nothing refuses has room for its record
-pub number-fits : (k gap n left : ℕ) → numberFor k gap n left ≡ 0 → 83 + n * 37 ≤ left
-unfolding numberFor
-number-fits k gap n left h =
-    byTest (eqb k 0)
-    (λ z. byTest (eqb gap 1)
-    (λ g. absurd (let d : _≡_ {A = ℕ} 20 0 = rw (z, g) at h in omega arith))
-    (λ g. byTest (ltb left (83 + n * 37)) (λ l. absurd (let d : _≡_ {A = ℕ} 21 0 = rw (z, g, l) at h in omega arith)) (λ l. ltb-false _ _ l)))
-    (λ z. absurd (eqb-false k 0 z (rw z at h)))
+pub number-fits : (c : Check) (gap n left : ℕ) → numberFor c gap n left ≡ Passed → 83 + n * 37 ≤ left
+unfolding numberFor orNext
+number-fits (Failed r) gap n left h = absurd (not-failed r h)
+number-fits Passed gap n left h =
+    byTest (eqb gap 1)
+    (λ g. absurd (not-failed (Number 20) (rw g at h)))
+    (λ g. byTest (ltb left (83 + n * 37)) (λ l. absurd (not-failed (Number 21) (rw (g, l) at h))) (λ l. ltb-false _ _ l))
 
 -- the record, from what is read for it
 pub record-by : (s : State) (ks cs os : List ℕ) (m : List Bool) (low high : ℕ) (e : Enqueued) (r : ℕ) (x : Bool) (p : ℕ) → r ≡ roundAt ks (e .anchor) → x ≡ executes s r → p ≡ previousOf s r (e .prevProofRound)
@@ -114,14 +119,14 @@ pub state-by : (s : State) (ks : List ℕ) (e : Enqueued) (a p n : ℕ) → a �
     → afterState s a p n ≡ afterState s (roundAt ks (e .anchor)) (roundAt ks (e .proof)) (authorAt ks (e .anchor))
 state-by s ks e a p n c d f = rw (c, d, f) refl
 
-module _ (s : State) (ks ls cs os b : List ℕ) (at : ℕ) (e : Enqueued) (t : Tested) (is : t ≡ testedOf s ks ls cs os (e .anchor)) (k : ℕ) (f : k ≡ numberFor (t .code) (s .gap) (t .count) (length b - at)) where
+module _ (s : State) (ks ls cs os b : List ℕ) (at : ℕ) (e : Enqueued) (t : Tested) (is : t ≡ testedOf s ks ls cs os (e .anchor)) (c : Check) (f : c ≡ numberFor (t .check) (s .gap) (t .count) (length b - at)) where
   -- refused
-  pub one-refused : (k ≡ 0 → ⊥) → stepOf k (t .round .0) s cs b at ≡ oneOf s ks ls cs os b at e
-  unfolding oneOf oneWith
-  one-refused d = rw (← is, ← f, ne-eqb k 0 d) refl
+  pub one-refused : (r : Refusal) → c ≡ Failed r → stepOf (Failed r) s cs b at ≡ oneOf s ks ls cs os b at e
+  unfolding oneOf oneIn oneWith
+  one-refused r h = rw (← is, sym f ∙ h) refl
 
   -- taken
-  pub one-taken : k ≡ 0 → (s′ : State) (cs′ b′ : List ℕ) (end : ℕ) → s′ ≡ afterState s (roundAt ks (e .anchor)) (roundAt ks (e .proof)) (authorAt ks (e .anchor)) → cs′ ≡ marksAll os (t .marks) (t .low) cs (t .high)
-      → b′ ≡ written b at (recordFor s ks cs os (t .marks) (t .low) (t .high) e) → end ≡ at + 83 + t .count * 37 → stepOf 0 (t .round .0) s′ cs′ b′ end ≡ oneOf s ks ls cs os b at e
-  unfolding oneOf oneWith
-  one-taken z s′ cs′ b′ end a c d g = rw (← is, ← f, eq-eqb k 0 z, a, c, d, g) refl
+  pub one-taken : c ≡ Passed → (s′ : State) (cs′ b′ : List ℕ) (end : ℕ) → s′ ≡ afterState s (roundAt ks (e .anchor)) (roundAt ks (e .proof)) (authorAt ks (e .anchor)) → cs′ ≡ marksAll os (t .marks) (t .low) cs (t .high)
+      → b′ ≡ written b at (recordFor s ks cs os (t .marks) (t .low) (t .high) e) → end ≡ at + 83 + t .count * 37 → stepOf Passed s′ cs′ b′ end ≡ oneOf s ks ls cs os b at e
+  unfolding oneOf oneIn oneWith
+  one-taken z s′ cs′ b′ end a g d h = rw (← is, sym f ∙ z, a, g, d, h) refl

@@ -6,7 +6,7 @@ use mathlib.Core.Bool.{Bool, true, not}
 use native.Mathlib.Omega.{arith}
 use lib.Dec.{eqb, leb, ltb}
 use lib.ListN.{length, length-map}
-use borrow.Author.Tests.{eq-eqb, ne-eqb, eqb-true, eqb-false, leb-true, ltb-true, le-leb, lt-ltb}
+use borrow.Author.Tests.{ne-eqb, leb-true, ltb-true, le-leb, lt-ltb}
 use Rattle.laws.specs.Test.{byTest, same-test, both, and-l, and-r}
 use Rattle.laws.specs.Scan.{those, those-most}
 use Rattle.laws.specs.Bytes.{written, written-length}
@@ -17,6 +17,10 @@ use Rattle.spec.specs.History.{isWaiting, testAnchor, recordBytes, committedAt}
 use Rattle.spec.specs.Links.{resolved-named}
 use Rattle.spec.specs.Walk.{Anchored, Tested, test-good}
 use Rattle.models.specs.Digest.{Fit}
+use Rattle.models.specs.Refusal.{refusalOf, unlessFailed, orNext, not-failed}
+use Rattle.models.specs.declared.refusal.Refusal.{Refusal}
+use Rattle.models.specs.declared.refusal.Check.{Check}
+use Rattle.models.specs.declared.refusal.Check.the-variants.{Passed, Failed}
 use Rattle.models.specs.Tables.{roundAt, authorAt, placeAt, Used}
 use Rattle.dag_keys.specs.Sorted.{sorted-apart}
 use Rattle.dag_state.specs.View.{gapOf, progressOf}
@@ -30,7 +34,6 @@ use Rattle.back_history.specs.Picked.{wantsAt}
 use Rattle.back_history.specs.Need.{named-used, low-high}
 use Rattle.back_history.specs.History.{well, in-elim, in-intro}
 use Rattle.back_points.specs.declared.anchor.Tested as code
-use Rattle.back_points.specs.Fault.{refusalOf, outOf}
 use Rattle.back_points.specs.Anchor.{spanOf, testedIn, testedOf}
 use Rattle.back_points.specs.Tested.{tested-is, tested-count}
 use Rattle.answer_bytes.specs.Bytes.{placeId}
@@ -41,16 +44,16 @@ use Rattle.commit_record.specs.Marks.{Small, marksAll}
 use Rattle.commit_record.specs.After.{afterState}
 use Rattle.commit_record.specs.History.{Picks, history-is}
 use Rattle.commit_record.specs.Commit.{anchor-ready, tables-ready, record-is, record-size, committed-view, committed-counts}
-use Rattle.commit_anchor.specs.One.{Pickable, Placed, numberFor, recordFor, Step, oneWith, oneOf}
+use Rattle.commit_anchor.specs.One.{Pickable, Placed, numberFor, recordFor, Step, oneWith, oneIn, oneOf}
 
 -- what the commit of the anchor e, from byte at on, leaves of the store v and the buffer b, in 01's terms
-pub record Says (v : Store) (b : List ℕ) (at : ℕ) (e : Enqueued) (k r : ℕ) (v′ : Store) (b′ : List ℕ) (end : ℕ) : Type 0 where
+pub record Says (v : Store) (b : List ℕ) (at : ℕ) (e : Enqueued) (c : Check) (v′ : Store) (b′ : List ℕ) (end : ℕ) : Type 0 where
   -- the anchor's tests
-  pub outcome : outOf k r (e .anchor) ≡ testAnchor v (length b - at) (length (recordBytes v e)) (e .anchor)
+  pub outcome : unlessFailed c (good (e .anchor)) ≡ testAnchor v (length b - at) (length (recordBytes v e)) (e .anchor)
   -- what an anchor that passes leaves
-  pub taken : k ≡ 0 → (v′ ≡ committedAt v e) × (b′ ≡ written b at (recordBytes v e)) × (end ≡ at + length (recordBytes v e))
+  pub taken : c ≡ Passed → (v′ ≡ committedAt v e) × (b′ ≡ written b at (recordBytes v e)) × (end ≡ at + length (recordBytes v e))
   -- a refused one leaves all as it was
-  pub stayed : (k ≡ 0 → ⊥) → (v′ ≡ v) × (b′ ≡ b)
+  pub stayed : (r : Refusal) → c ≡ Failed r → (v′ ≡ v) × (b′ ≡ b)
   -- the tables count as started again
   pub again : counts v′ ≡ true
   -- the buffer is as long as before, and the next free byte is within it
@@ -66,14 +69,13 @@ waiting-is zero = refl
 waiting-is (suc zero) = refl
 waiting-is (suc (suc n)) = ap not (lt-ltb 0 (suc n) (omega arith)) ∙ sym (ne-eqb (suc (suc n)) 1 (λ e. omega arith))
 
--- 20 and 21 after the tests that the number k stands for
-number-is : (k r a gap n left size : ℕ) (w : Bool) → w ≡ eqb gap 1 → size ≡ 83 + n * 37
-    → outOf (numberFor k gap n left) r a ≡ then (outOf k r a) (λ x. refuse w 20 (refuse (ltb left size) 21 (good a)))
-unfolding outOf numberFor refuse refusalOf
-number-is k r a gap n left size w e d =
-    byTest (eqb k 0)
-    (λ z. rw (z, e, d) (byTest (eqb gap 1) (λ g. rw g refl) (λ g. rw g (byTest (ltb left (83 + n * 37)) (λ l. rw l refl) (λ l. rw l refl)))))
-    (λ z. rw z (rw z refl))
+-- 20 and 21 after its tests
+number-is : (c : Check) (a gap n left size : ℕ) (w : Bool) → w ≡ eqb gap 1 → size ≡ 83 + n * 37
+    → unlessFailed (numberFor c gap n left) (good a) ≡ then (unlessFailed c (good a)) (λ x. refuse w 20 (refuse (ltb left size) 21 (good a)))
+unfolding unlessFailed numberFor orNext refuse refusalOf
+number-is (Failed r) a gap n left size w e d = refl
+number-is Passed a gap n left size w e d =
+    rw (e, d) (byTest (eqb gap 1) (λ g. rw g refl) (λ g. rw g (byTest (ltb left (83 + n * 37)) (λ l. rw l refl) (λ l. rw l refl))))
 
 module _ (s : State) (ks ls cs os : List ℕ) (fk : Fit ks) (fl : Fit ls) (h : counts (view s ks ls cs os) ≡ true) (e : Enqueued) (x : Anchored (view s ks ls cs os) e) where
   -- the store
@@ -146,22 +148,22 @@ module _ (s : State) (ks ls cs os : List ℕ) (fk : Fit ks) (fl : Fit ls) (h : c
   -- ---- what it leaves
 
   module _ (long : length (s .rounds) ≡ 512) (b : List ℕ) (at : ℕ) (within : at ≤ length b) where
-    -- the number that refuses it
-    abbrev k : ℕ
-    k = numberFor (t .code) (s .gap) (t .count) (length b - at)
+    -- what refuses it
+    abbrev k : Check
+    k = numberFor (t .check) (s .gap) (t .count) (length b - at)
 
-    -- it and its round stand for 01's refusal
-    outcome-is : outOf k (t .round .0) (e .anchor) ≡ testAnchor v (length b - at) (length (recordBytes v e)) (e .anchor)
+    -- it stands for 01's refusal
+    outcome-is : unlessFailed k (good (e .anchor)) ≡ testAnchor v (length b - at) (length (recordBytes v e)) (e .anchor)
     unfolding testAnchor view progressOf
     outcome-is =
-        number-is (t .code) (t .round .0) (e .anchor) (s .gap) (t .count) (length b - at) (length (recordBytes v e)) (isWaiting (gapOf (s .gap))) (waiting-is (s .gap)) size-is
+        number-is (t .check) (e .anchor) (s .gap) (t .count) (length b - at) (length (recordBytes v e)) (isWaiting (gapOf (s .gap))) (waiting-is (s .gap)) size-is
         ∙ ap (λ (o : Out ℕ). then o (λ y. refuse (isWaiting (gapOf (s .gap))) 20 (refuse (ltb (length b - at) (length (recordBytes v e))) 21 (good (e .anchor))))) (tested-is s ks ls cs os fk fl held (e .anchor) anchor-used)
 
     -- it passes
-    module _ (z : k ≡ 0) where
+    module _ (z : k ≡ Passed) where
       passes : testAnchor v (length b - at) (length (recordBytes v e)) (e .anchor) ≡ good (e .anchor)
-      unfolding outOf
-      passes = sym outcome-is ∙ rw (eq-eqb k 0 z) refl
+      unfolding unlessFailed
+      passes = sym outcome-is ∙ ap (λ (c : Check). unlessFailed c (good (e .anchor))) z
 
       -- the record
       bytes-is : written b at (recordFor s ks cs os (t .marks) (t .low) (t .high) e) ≡ written b at (recordBytes v e)
@@ -175,35 +177,42 @@ module _ (s : State) (ks ls cs os : List ℕ) (fk : Fit ks) (fl : Fit ls) (h : c
       end-within : at + 83 + t .count * 37 ≤ length b
       end-within = let p = test-good v _ _ (e .anchor) _ passes in omega (arith, size-is, p .2)
 
-      says-taken : Says v b at e 0 (t .round .0) (view (afterState s (roundAt ks (e .anchor)) (roundAt ks (e .proof)) (authorAt ks (e .anchor))) ks ls (marksAll os (t .marks) (t .low) cs (t .high)) os)
+      says-taken : Says v b at e Passed (view (afterState s (roundAt ks (e .anchor)) (roundAt ks (e .proof)) (authorAt ks (e .anchor))) ks ls (marksAll os (t .marks) (t .low) cs (t .high)) os)
           (written b at (recordFor s ks cs os (t .marks) (t .low) (t .high) e)) (at + 83 + t .count * 37)
-      unfolding outOf
+      unfolding unlessFailed
       says-taken = record {
         outcome = sym passes;
         taken = λ y. (committed-view s ks ls cs os fk fl h e anchor-used proof-used (t .marks) (t .low) (t .high) high-le picks long, bytes-is, end-is);
-        stayed = λ y. absurd (y refl);
+        stayed = λ r y. absurd (not-failed r (sym y));
         again = committed-counts s ks ls cs os fk fl h e anchor-used proof-used (t .marks) (t .low) (t .high) high-le picks long x (test-good v _ _ (e .anchor) _ passes .0);
         long = written-length b at _;
         within = end-within;
       }
 
     -- it is refused
-    says-refused : (k ≡ 0 → ⊥) → Says v b at e k (t .round .0) v b at
-    says-refused d = record {
-      outcome = outcome-is;
-      taken = λ y. absurd (d y);
-      stayed = λ y. (refl, refl);
+    says-refused : (r : Refusal) → k ≡ Failed r → Says v b at e (Failed r) v b at
+    says-refused r d = record {
+      outcome = ap (λ (c : Check). unlessFailed c (good (e .anchor))) (sym d) ∙ outcome-is;
+      taken = λ y. absurd (not-failed r y);
+      stayed = λ w y. (refl, refl);
       again = h;
       long = refl;
       within = within;
     }
 
+    -- what an outcome says
+    abbrev SaysOf : Step → Type 0
+    SaysOf o = Says v b at e (o .check) (view (o .state) ks ls (o .certs) os) (o .buffer) (o .end)
+
     -- what the mirror leaves
-    one-is : Says v b at e (oneOf s ks ls cs os b at e .code) (oneOf s ks ls cs os b at e .round) (view (oneOf s ks ls cs os b at e .state) ks ls (oneOf s ks ls cs os b at e .certs) os) (oneOf s ks ls cs os b at e .buffer)
-        (oneOf s ks ls cs os b at e .end)
-    unfolding oneOf oneWith
-    one-is = byTest (eqb k 0) (λ z. rw z (says-taken (eqb-true k 0 z))) (λ z. rw z (says-refused (eqb-false k 0 z)))
+    one-is : SaysOf (oneOf s ks ls cs os b at e)
+    unfolding oneOf oneIn oneWith
+    one-is = by k refl
+      where
+        by : (c : Check) → k ≡ c → SaysOf (oneWith s ks cs os b at e t c)
+        by Passed d = says-taken d
+        by (Failed r) d = says-refused r d
 
     -- what the code leaves
-    pub one-says : (r : Step) → r ≡ oneOf s ks ls cs os b at e → Says v b at e (r .code) (r .round) (view (r .state) ks ls (r .certs) os) (r .buffer) (r .end)
-    one-says r d = subst (λ (o : Step). Says v b at e (o .code) (o .round) (view (o .state) ks ls (o .certs) os) (o .buffer) (o .end)) (sym d) one-is
+    pub one-says : (r : Step) → r ≡ oneOf s ks ls cs os b at e → Says v b at e (r .check) (view (r .state) ks ls (r .certs) os) (r .buffer) (r .end)
+    one-says r d = subst SaysOf (sym d) one-is

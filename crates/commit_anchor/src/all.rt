@@ -11,12 +11,11 @@ ghost use Rattle.commit_anchor.specs.All.{leftOf, finishedOf, allOf};
 use crate::one::commit_one;
 use back_walk::Enqueued;
 use dag_state::state::State;
-use models::parts::Round;
+use models::refusal::Check;
 
-// What stopped the anchors, 0 if nothing did, with the round of a history conflict; the state and the number of finished anchors.
+// What stopped the anchors, if anything did; the state and the number of finished anchors.
 pub struct All {
-    pub code: u32,
-    pub round: Round,
+    pub check: Check,
     pub state: State,
     pub finished: u32,
 }
@@ -36,8 +35,8 @@ pub fn commit_all(
     requires { ⌜ counts (view s (now keys) (now links) (now certs) (now order)) ≡ true ⌝ }
     requires { ⌜ Rising (view s (now keys) (now links) (now certs) (now order)) 0 (chainOf list count) ⌝ }
     requires { ⌜ count ≤ 512 ⌝ }
-    ensures words { λ r. ⌜ leftOf (r .code) (r .round .0) (r .state) (now (certs .exit)) (now (b .exit)) (r .finished) ≡ allOf (now (keys .entry)) (now (links .entry)) (now (order .entry)) s (now (certs .entry)) (now (b .entry)) 0 0 (chainOf list count) ⌝ }
-    ensures finished { λ r. ⌜ finishedOf (now (keys .entry)) (now (links .entry)) (now (order .entry)) (leftOf (r .code) (r .round .0) (r .state) (now (certs .exit)) (now (b .exit)) (r .finished)) ≡ commitAll (view s (now (keys .entry)) (now (links .entry)) (now (certs .entry)) (now (order .entry))) (now (b .entry)) 0 0 (chainOf list count) ⌝ }
+    ensures words { λ r. ⌜ leftOf (r .check) (r .state) (now (certs .exit)) (now (b .exit)) (r .finished) ≡ allOf (now (keys .entry)) (now (links .entry)) (now (order .entry)) s (now (certs .entry)) (now (b .entry)) 0 0 (chainOf list count) ⌝ }
+    ensures finished { λ r. ⌜ finishedOf (now (keys .entry)) (now (links .entry)) (now (order .entry)) (leftOf (r .check) (r .state) (now (certs .exit)) (now (b .exit)) (r .finished)) ≡ commitAll (view s (now (keys .entry)) (now (links .entry)) (now (certs .entry)) (now (order .entry))) (now (b .entry)) 0 0 (chainOf list count) ⌝ }
 {
     let mut cur = s;
     let mut end: usize = 0;
@@ -47,12 +46,11 @@ pub fn commit_all(
         k -= 1;
         let e = list[k];
         let o = commit_one(cur, keys, links, certs, order, b, end, e);
-        let round = o.round;
         cur = o.state;
-        if o.code != 0 {
+        let check = o.check;
+        if let Check::Failed(r) = check {
             return All {
-                code: o.code,
-                round,
+                check: Check::Failed(r),
                 state: cur,
                 finished,
             };
@@ -61,8 +59,7 @@ pub fn commit_all(
         finished += 1;
     }
     All {
-        code: 0,
-        round: Round(0),
+        check: Check::Passed,
         state: cur,
         finished,
     }

@@ -22,32 +22,34 @@ use commit_record::record::executable;
 use commit_record::record::previous_anchor;
 use commit_record::record::put_record;
 use dag_state::state::State;
-use models::parts::Round;
+use models::refusal::BUFFER_TOO_SMALL;
+use models::refusal::Check;
+use models::refusal::GAP_NOT_ASKED;
+use models::refusal::Refusal;
 
-// What one anchor was refused with, 0 if it wasn't, and the round of a history conflict; the state, and the next free byte.
+// The tests of one anchor; the state, and the next free byte.
 pub struct One {
-    pub code: u32,
-    pub round: Round,
+    pub check: Check,
     pub state: State,
     pub end: usize,
 }
 
-// What refuses an anchor of this many points: the number of its tests, 20 while the gap question isn't put, 21 if its record is longer
-// than what is left of the buffer.
-fn number_for(code: u32, gap: u32, count: usize, left: usize) -> u32
+// What refuses an anchor of this many points: its tests, 20 while the gap question isn't put, 21 if its record is longer than what is
+// left of the buffer.
+fn number_for(check: Check, gap: u32, count: usize, left: usize) -> Check
     requires { ⌜ count ≤ 4096 ⌝ }
-    ensures { λ r. ⌜ r ≡ numberFor code gap count left ⌝ }
+    ensures { λ r. ⌜ r ≡ numberFor check gap count left ⌝ }
 {
-    if code != 0 {
-        return code;
+    if let Check::Failed(r) = check {
+        return Check::Failed(r);
     }
     if gap == 1 {
-        return 20;
+        return Check::Failed(Refusal::Number(GAP_NOT_ASKED));
     }
     if left < 83 + count * 37 {
-        return 21;
+        return Check::Failed(Refusal::Number(BUFFER_TOO_SMALL));
     }
-    0
+    Check::Passed
 }
 
 // The record of the anchor, of `count` points.
@@ -71,10 +73,10 @@ fn put_anchor(
 {
     let anchor = e.anchor;
     let proof = e.proof;
-    let r = round_at(keys, anchor);
-    let round = r.0;
+    let round = round_at(keys, anchor);
     let x = executable(s, round);
-    let before = previous_anchor(s, round, e.prev_proof_round);
+    let prev_proof_round = e.prev_proof_round;
+    let before = previous_anchor(s, round, prev_proof_round);
     put_record(
         b,
         at,
@@ -103,7 +105,7 @@ fn next_state(s: State, keys: &[u64], certs: &[u64], e: Enqueued) -> State
     let ar = round_at(keys, anchor);
     let pr = round_at(keys, proof);
     let author = dag_keys::author(keys, anchor) as u32;
-    after_anchor(s, ar.0, pr.0, author)
+    after_anchor(s, ar, pr, author)
 }
 
 // One anchor, its record from byte `at` on. Nothing changes if it is refused.
@@ -120,17 +122,16 @@ pub fn commit_one(
     requires { ⌜ counts (view s (now keys) (now links) (now certs) (now order)) ≡ true ⌝ }
     requires { ⌜ Anchored (view s (now keys) (now links) (now certs) (now order)) (enqueuedOf e) ⌝ }
     requires { ⌜ at ≤ length (now b) ⌝ }
-    ensures words { λ r. ⌜ stepOf (r .code) (r .round .0) (r .state) (now (certs .exit)) (now (b .exit)) (r .end) ≡ oneOf s (now (keys .entry)) (now (links .entry)) (now (certs .entry)) (now (order .entry)) (now (b .entry)) at (enqueuedOf e) ⌝ }
-    ensures says { λ r. ⌜ Says (view s (now (keys .entry)) (now (links .entry)) (now (certs .entry)) (now (order .entry))) (now (b .entry)) at (enqueuedOf e) (r .code) (r .round .0) (view (r .state) (now (keys .entry)) (now (links .entry)) (now (certs .exit)) (now (order .entry))) (now (b .exit)) (r .end) ⌝ }
+    ensures words { λ r. ⌜ stepOf (r .check) (r .state) (now (certs .exit)) (now (b .exit)) (r .end) ≡ oneOf s (now (keys .entry)) (now (links .entry)) (now (certs .entry)) (now (order .entry)) (now (b .entry)) at (enqueuedOf e) ⌝ }
+    ensures says { λ r. ⌜ Says (view s (now (keys .entry)) (now (links .entry)) (now (certs .entry)) (now (order .entry))) (now (b .entry)) at (enqueuedOf e) (r .check) (view (r .state) (now (keys .entry)) (now (links .entry)) (now (certs .exit)) (now (order .entry))) (now (b .exit)) (r .end) ⌝ }
 {
     let t = test_anchor(s, keys, links, certs, order, e.anchor);
     let count = t.count;
-    let round = t.round;
-    let code = number_for(t.code, s.gap, count, b.len() - at);
-    if code != 0 {
+    let tested = t.check;
+    let check = number_for(tested, s.gap, count, b.len() - at);
+    if let Check::Failed(r) = check {
         return One {
-            code,
-            round,
+            check: Check::Failed(r),
             state: s,
             end: at,
         };
@@ -152,8 +153,7 @@ pub fn commit_one(
     let next = next_state(s, keys, certs, e);
     mark_all(&marks, order, certs, t.low, t.high);
     One {
-        code: 0,
-        round,
+        check: Check::Passed,
         state: next,
         end,
     }

@@ -3,9 +3,8 @@ use Prim.Native.Nat.{ℕ}
 use mathlib.Core.Path.{_≡_, refl, sym, ap, subst, _∙_}
 use mathlib.Core.List.{List}
 use mathlib.Core.Bool.{Bool, true, false, not, cond}
-use mathlib.Core.Option.{Option, none, some}
 use native.Mathlib.Omega.{arith}
-use borrow.Author.Tests.{eqb-true, eq-eqb, ne-eqb, not-true, not-false}
+use borrow.Author.Tests.{eqb-true, not-true, not-false}
 use Rattle.laws.specs.Test.{byTest}
 use Rattle.spec.specs.Ids.{Id}
 use Rattle.spec.specs.Store.{Store}
@@ -23,13 +22,13 @@ use Rattle.dag_state.specs.declared.state.State.{State}
 use Rattle.dag_test.specs.View.{view}
 use Rattle.dag_test.specs.Whole.{sized}
 use Rattle.dag_test.specs.Counts.{Started, counted}
-use Rattle.back_walk.specs.Visit as visit
-use Rattle.back_points.specs.Fault as fault
 use Rattle.back_chain.specs.declared.Chain.{Chain}
 use Rattle.back_chain.specs.Chain.{chainOf, chainOut, out-good, out-bad}
 use Rattle.commit_anchor.specs.All.{Left, stopOf, leftOf, finishedOf, allOf, all-kept}
 use Rattle.models.specs.declared.refusal.Refusal.{Refusal}
 use Rattle.models.specs.declared.refusal.Refusal.the-variants.{Number, Conflict}
+use Rattle.models.specs.declared.refusal.Check.{Check}
+use Rattle.models.specs.declared.refusal.Check.the-variants.{Passed, Failed}
 use Rattle.commit_answer.specs.declared.answer.Answer.{Answer}
 use Rattle.commit_answer.specs.declared.answer.Answer.the-variants.{Handed, Refused}
 use Rattle.commit_answer.specs.declared.answer.Outcome.{Outcome}
@@ -44,17 +43,13 @@ unfoldable pub whyFrom : chain.Refusal → Refusal
 whyFrom (number n) = Number n
 whyFrom (conflict r) = Conflict (record { 0 = r })
 
--- the refusal of a number and a round
-unfoldable pub whyOf : ℕ → ℕ → Refusal
-whyOf k r = whyFrom (fault.refusalOf k r)
-
 -- the answer after n finished anchors
-unfoldable pub answerFrom : Option chain.Refusal → ℕ → Answer
-answerFrom none n = Handed n
-answerFrom (some r) n = Refused (whyFrom r) n
+unfoldable pub answerFrom : Check → ℕ → Answer
+answerFrom Passed n = Handed n
+answerFrom (Failed r) n = Refused r n
 
-unfoldable pub endedOf : ℕ → ℕ → State → ℕ → Outcome
-endedOf k r s n = record { answer = answerFrom (stopOf k r) n; state = s }
+unfoldable pub endedOf : Check → State → ℕ → Outcome
+endedOf c s n = record { answer = answerFrom c n; state = s }
 
 unfoldable pub outcomeOf : Left → Outcome
 outcomeOf l = record { answer = answerFrom (l .stopped) (l .finished); state = l .state }
@@ -65,7 +60,7 @@ walked v i = cond (counts v) (anchorsOf v i) (bad (number 2))
 
 -- what is left after the walk
 unfoldable pub afterWalk : List ℕ → List ℕ → List ℕ → State → List ℕ → List ℕ → Out (List Enqueued) → Left
-afterWalk ks ls os s cs b (bad r) = record { state = s; certs = cs; buffer = b; finished = 0; stopped = some r }
+afterWalk ks ls os s cs b (bad r) = record { state = s; certs = cs; buffer = b; finished = 0; stopped = Failed (whyFrom r) }
 afterWalk ks ls os s cs b (good es) = allOf ks ls os s cs b 0 0 es
 
 -- what the call leaves
@@ -84,40 +79,34 @@ unfolding refusalOf whyFrom
 why-is (number n) = refl
 why-is (conflict r) = refl
 
+-- and 01's the code's
+why-of : (r : Refusal) → whyFrom (refusalOf r) ≡ r
+unfolding refusalOf whyFrom
+why-of (Number n) = refl
+why-of (Conflict r) = refl
+
 -- nothing was done: no anchor is finished, whatever stopped them
-idle-none : (o : Option chain.Refusal) (n : ℕ) → isIdle (answerFrom o n) ≡ true → n ≡ 0
+idle-none : (c : Check) (n : ℕ) → isIdle (answerFrom c n) ≡ true → n ≡ 0
 unfolding isIdle answerFrom
-idle-none none n e = eqb-true n 0 e
-idle-none (some r) n e = eqb-true n 0 e
+idle-none Passed n e = eqb-true n 0 e
+idle-none (Failed r) n e = eqb-true n 0 e
 
 -- what a finished chain leaves is what 01's commit ends with
-end-is : (o : Option chain.Refusal) (f : Finished) → f .stopped ≡ o → record { answer = answerOf (answerFrom o (f .anchors)); store = f .store; buffer = f .buffer } ≡ commitEnd f
-unfolding answerOf answerFrom commitEnd
-end-is none f e = rw e refl
-end-is (some r) f e = rw (e, why-is r) refl
+end-is : (c : Check) (f : Finished) → f .stopped ≡ stopOf c → record { answer = answerOf (answerFrom c (f .anchors)); store = f .store; buffer = f .buffer } ≡ commitEnd f
+unfolding answerOf answerFrom commitEnd stopOf
+end-is Passed f e = rw e refl
+end-is (Failed r) f e = rw e refl
 
 -- ---- one law for each way out of the code
 
-pub why-conflict : (k : ℕ) (r : ℕ) → k ≡ 13 → Conflict (record { 0 = r }) ≡ whyOf k r
-unfolding whyOf whyFrom fault.refusalOf
-why-conflict k r e = rw (eq-eqb k 13 e) refl
-
-pub why-number : (k r : ℕ) → (k ≡ 13 → ⊥) → Number k ≡ whyOf k r
-unfolding whyOf whyFrom fault.refusalOf
-why-number k r d = rw (ne-eqb k 13 d) refl
-
-pub ended-handed : (k r : ℕ) (s : State) (n : ℕ) → k ≡ 0 → record { answer = Handed n; state = s } ≡ endedOf k r s n
-unfolding endedOf answerFrom stopOf
-ended-handed k r s n e = rw (eq-eqb k 0 e) refl
-
-pub ended-refused : (k r : ℕ) (s : State) (n : ℕ) (w : Refusal) → (k ≡ 0 → ⊥) → w ≡ whyOf k r → record { answer = Refused w n; state = s } ≡ endedOf k r s n
-unfolding endedOf answerFrom stopOf whyOf
-ended-refused k r s n w d e = rw (ne-eqb k 0 d, e) refl
+pub ended-by-check : (c d : Check) (s : State) (n : ℕ) → c ≡ d → record { answer = answerFrom d n; state = s } ≡ endedOf c s n
+unfolding endedOf
+ended-by-check c d s n e = rw e refl
 
 -- refused by the walk
-pub ended-why : (k r : ℕ) (s : State) (n : ℕ) → (k ≡ 0 → ⊥) → endedOf k r s n ≡ record { answer = Refused (whyFrom (visit.refusalOf k r)) n; state = s }
-unfolding endedOf answerFrom stopOf fault.refusalOf visit.refusalOf
-ended-why k r s n d = rw (ne-eqb k 0 d) refl
+pub ended-why : (r : Refusal) (s : State) (n : ℕ) → endedOf (Failed r) s n ≡ record { answer = Refused (whyFrom (refusalOf r)) n; state = s }
+unfolding endedOf answerFrom
+ended-why r s n = rw (why-of r) refl
 
 -- ---- the anchors
 
@@ -127,10 +116,10 @@ Ended ks ls os s cs b es o cs′ b′ =
     let x = allOf ks ls os s cs b 0 0 es in
     (o ≡ outcomeOf x) × (cs′ ≡ x .certs) × (b′ ≡ x .buffer) × (finishedOf ks ls os x ≡ commitAll (view s ks ls cs os) b 0 0 es)
 
-pub ended-by : (ks ls os : List ℕ) (s : State) (cs b : List ℕ) (es : List Enqueued) (k r : ℕ) (s′ : State) (cs′ b′ : List ℕ) (n : ℕ) → leftOf k r s′ cs′ b′ n ≡ allOf ks ls os s cs b 0 0 es
-    → finishedOf ks ls os (leftOf k r s′ cs′ b′ n) ≡ commitAll (view s ks ls cs os) b 0 0 es → (o : Outcome) → o ≡ endedOf k r s′ n → Ended ks ls os s cs b es o cs′ b′
+pub ended-by : (ks ls os : List ℕ) (s : State) (cs b : List ℕ) (es : List Enqueued) (c : Check) (s′ : State) (cs′ b′ : List ℕ) (n : ℕ) → leftOf c s′ cs′ b′ n ≡ allOf ks ls os s cs b 0 0 es
+    → finishedOf ks ls os (leftOf c s′ cs′ b′ n) ≡ commitAll (view s ks ls cs os) b 0 0 es → (o : Outcome) → o ≡ endedOf c s′ n → Ended ks ls os s cs b es o cs′ b′
 unfolding outcomeOf endedOf
-ended-by ks ls os s cs b es k r s′ cs′ b′ n w f o g =
+ended-by ks ls os s cs b es c s′ cs′ b′ n w f o g =
     (g ∙ ap outcomeOf w, ap (λ (y : Left). y .certs) w, ap (λ (y : Left). y .buffer) w, subst (λ (y : Left). finishedOf ks ls os y ≡ commitAll (view s ks ls cs os) b 0 0 es) w f)
 
 -- ---- the walk
@@ -145,11 +134,11 @@ module _ (v : Store) (i : Id) (r : Bool) (e : r ≡ counts v) where
     walked-counts = sym e ∙ not-false r h
 
     module _ (c : Chain) (d : chainOut c ≡ anchorsOf v i) where
-      pub walked-bad : (c .code ≡ 0 → ⊥) → walked v i ≡ bad (visit.refusalOf (c .code) (c .round .0))
+      pub walked-bad : (w : Refusal) → c .check ≡ Failed w → walked v i ≡ bad (refusalOf w)
       unfolding walked
-      walked-bad z = rw walked-counts (sym d ∙ out-bad c z)
+      walked-bad w z = rw walked-counts (sym d ∙ out-bad c w z)
 
-      pub walked-good : c .code ≡ 0 → walked v i ≡ good (chainOf (c .list) (c .count))
+      pub walked-good : c .check ≡ Passed → walked v i ≡ good (chainOf (c .list) (c .count))
       unfolding walked
       walked-good z = rw walked-counts (sym d ∙ out-good c z)
 
@@ -203,7 +192,7 @@ module _ (s : State) (ks ls cs os : List ℕ) (i : Id) (b : List ℕ) where
   pub says-refused : (r : chain.Refusal) → walked v i ≡ bad r → (o : Outcome) → o ≡ record { answer = Refused (whyFrom r) 0; state = s } → Says o cs b
   unfolding committed afterWalk answers.outcomeOf answerOf answerFrom outcomeOf
   says-refused r e o f =
-      says (record { state = s; certs = cs; buffer = b; finished = 0; stopped = some r }) (sym (ap (afterWalk ks ls os s cs b) e))
+      says (record { state = s; certs = cs; buffer = b; finished = 0; stopped = Failed (whyFrom r) }) (sym (ap (afterWalk ks ls os s cs b) e))
       (ap (λ (y : chain.Refusal). record { answer = calls.refused y 0; store = v; buffer = b }) (why-is r) ∙ sym (call-is ∙ ap leaveBy e))
       (λ z. (refl, refl, refl)) o f
 

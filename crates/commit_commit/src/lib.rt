@@ -9,7 +9,7 @@ ghost use Rattle.models.specs.Parts.{idOf};
 ghost use Rattle.dag_test.specs.View.{view};
 ghost use Rattle.back_chain.specs.Chain.{chainOf};
 ghost use Rattle.commit_answer.specs.Answer.{Did, board, left};
-ghost use Rattle.commit_commit.specs.Commit.{whyOf, endedOf, Ended, commitLeft};
+ghost use Rattle.commit_commit.specs.Commit.{endedOf, Ended, commitLeft};
 use back_chain::Chain;
 use back_chain::chain_of;
 use commit_anchor::all::commit_all;
@@ -19,34 +19,23 @@ use commit_answer::answer::refused;
 use dag_state::state::State;
 use dag_test::counts_as_started;
 use models::parts::PointId;
-use models::parts::Round;
+use models::refusal::Check;
 use models::refusal::NOT_STARTED;
 use models::refusal::Refusal;
 
-// A refusal with this number; 13, the history conflict, holds its round.
-fn refusal_of(code: u32, round: Round) -> Refusal
-    ensures { λ r. ⌜ r ≡ whyOf code (round .0) ⌝ }
+// The outcome of a commit that finished this many anchors.
+fn ended(check: Check, state: State, finished: u32) -> Outcome
+    ensures { λ r. ⌜ r ≡ endedOf check state finished ⌝ }
 {
-    if code == 13 {
-        return Refusal::Conflict(round);
-    }
-    Refusal::Number(code)
-}
-
-// The outcome of a commit that finished this many anchors; refused unless the number is 0.
-fn ended(code: u32, round: Round, state: State, finished: u32) -> Outcome
-    ensures { λ r. ⌜ r ≡ endedOf code (round .0) state finished ⌝ }
-{
-    if code == 0 {
-        return Outcome {
+    match check {
+        Check::Passed => Outcome {
             answer: Answer::Handed(finished),
             state,
-        };
-    }
-    let why = refusal_of(code, round);
-    Outcome {
-        answer: Answer::Refused(why, finished),
-        state,
+        },
+        Check::Failed(r) => Outcome {
+            answer: Answer::Refused(r, finished),
+            state,
+        },
     }
 }
 
@@ -67,8 +56,8 @@ fn commit_chain(
 {
     let list = c.list;
     let all = commit_all(s, keys, links, certs, order, b, list, c.count);
-    let round = all.round;
-    ended(all.code, round, all.state, all.finished)
+    let check = all.check;
+    ended(check, all.state, all.finished)
 }
 
 // Commits the anchors that a trigger yields: their records go into the buffer, their histories are marked. A refusal says how many
@@ -90,9 +79,9 @@ pub fn commit(
         return refused(s, Refusal::Number(NOT_STARTED));
     }
     let c = chain_of(s, keys, links, certs, order, id);
-    let round = c.round;
-    if c.code != 0 {
-        return ended(c.code, round, s, 0);
+    let check = c.check;
+    if let Check::Failed(r) = check {
+        return ended(Check::Failed(r), s, 0);
     }
     commit_chain(s, keys, links, certs, order, b, c)
 }

@@ -8,7 +8,6 @@ use native.Mathlib.Omega.{arith}
 use lib.Dec.{ltb}
 use lib.ListN.{length, getD, set, length-append, length-set}
 use lib.Seq.{getD-set-same, getD-set-other}
-use borrow.Author.Tests.{eq-eqb, ne-eqb}
 use Rattle.laws.specs.Test.{byTest, sameOr}
 use Rattle.laws.specs.Lists.{joined}
 use Rattle.laws.specs.Bytes.{be, be-length, written, written-length, written-append, andThen}
@@ -17,19 +16,22 @@ use Rattle.spec.specs.Store.{Store, idAt}
 use Rattle.spec.specs.Rules.{counts}
 use Rattle.spec.specs.Records.{id-length}
 use Rattle.spec.specs.Chain as chain
-use Rattle.spec.specs.Chain.{Refusal, Out, bad, good, then, refuse, anchorsOf}
+use Rattle.spec.specs.Chain.{Out, bad, good, then, refuse, anchorsOf}
 use Rattle.spec.specs.Outlook.{outlook-length}
 use Rattle.spec.specs.History.{history, tested, outlookBytes, outlookAll}
 use Rattle.spec.specs.Calls.{handed, refused, doOutlook}
 use Rattle.spec.specs.Walk.{Anchored, Rising}
 use Rattle.models.specs.Digest.{Fit}
+use Rattle.models.specs.Refusal.{refusalOf, unlessFailed, not-failed}
+use Rattle.models.specs.declared.refusal.Refusal.{Refusal}
+use Rattle.models.specs.declared.refusal.Check.{Check}
+use Rattle.models.specs.declared.refusal.Check.the-variants.{Passed, Failed}
 use Rattle.dag_state.specs.declared.state.State.{State}
 use Rattle.dag_test.specs.View.{view}
 use Rattle.dag_test.specs.Tested.{shape-says}
 use Rattle.back_history.specs.History.{well}
 use Rattle.back_walk.specs.declared.Enqueued.{Enqueued}
 use Rattle.back_walk.specs.Visit.{enqueuedOf}
-use Rattle.back_points.specs.Fault.{refusalOf, outOf}
 use Rattle.back_chain.specs.Chain.{noEnqueued, chainOf, chain-head, chain-none}
 use Rattle.answer_bytes.specs.Bytes.{placeId}
 use Rattle.commit_record.specs.History.{id-seen}
@@ -60,16 +62,16 @@ abbrev pub Placed : List ℕ → List Enqueued → ℕ → Type 0
 Placed ks l n = (j : ℕ) → j < n → entry l j * 8 + 8 ≤ length ks
 
 -- what the anchors' tests leave: the numbers ns if none is refused
-pub record Looked (v : Store) (ks : List ℕ) (room : ℕ) (l : List Enqueued) (count k r : ℕ) (ns : List ℕ) : Type 0 where
-  pub pass : k ≡ 0 → outlookAll v room (chainOf l count) ≡ good (chainBytes v (chainOf l count))
-  pub fits : k ≡ 0 → count * 41 ≤ room
-  pub bytes : k ≡ 0 → looksIn ks l ns count ≡ chainBytes v (chainOf l count)
-  pub stopped : (k ≡ 0 → ⊥) → outlookAll v room (chainOf l count) ≡ bad (refusalOf k r)
+pub record Looked (v : Store) (ks : List ℕ) (room : ℕ) (l : List Enqueued) (count : ℕ) (c : Check) (ns : List ℕ) : Type 0 where
+  pub pass : c ≡ Passed → outlookAll v room (chainOf l count) ≡ good (chainBytes v (chainOf l count))
+  pub fits : c ≡ Passed → count * 41 ≤ room
+  pub bytes : c ≡ Passed → looksIn ks l ns count ≡ chainBytes v (chainOf l count)
+  pub stopped : (r : Refusal) → c ≡ Failed r → outlookAll v room (chainOf l count) ≡ bad (refusalOf r)
 
 -- what the outlook of the chain es leaves of the buffer b: "with nothing written" if it is refused
-pub record Told (v : Store) (b : List ℕ) (es : List chain.Enqueued) (k r : ℕ) (b′ : List ℕ) : Type 0 where
-  pub handed : k ≡ 0 → (outlookAll v (length b) es ≡ good (chainBytes v es)) × (b′ ≡ written b 0 (chainBytes v es))
-  pub refused : (k ≡ 0 → ⊥) → (outlookAll v (length b) es ≡ bad (refusalOf k r)) × (b′ ≡ b)
+pub record Told (v : Store) (b : List ℕ) (es : List chain.Enqueued) (c : Check) (b′ : List ℕ) : Type 0 where
+  pub handed : c ≡ Passed → (outlookAll v (length b) es ≡ good (chainBytes v es)) × (b′ ≡ written b 0 (chainBytes v es))
+  pub refused : (r : Refusal) → c ≡ Failed r → (outlookAll v (length b) es ≡ bad (refusalOf r)) × (b′ ≡ b)
 
 -- ---- one anchor more
 
@@ -91,20 +93,20 @@ all-step v left e es = rw (outlookAll, outlook-length v (e .anchor)) (by (tested
     by (good a) d = rw d (byTest (ltb left 41) (λ t. rw t refl) (λ f. rw f refl))
 
 -- it is refused, or the others follow
-module _ (v : Store) (left : ℕ) (e : chain.Enqueued) (es : List chain.Enqueued) (k r : ℕ) (o : outOf k r (e .anchor) ≡ lookAt v left (e .anchor)) where
-  all-refused : (k ≡ 0 → ⊥) → outlookAll v left (e ∷ es) ≡ bad (refusalOf k r)
-  unfolding outOf
-  all-refused d = all-step v left e es ∙ rw (← o, ne-eqb k 0 d) refl
+module _ (v : Store) (left : ℕ) (e : chain.Enqueued) (es : List chain.Enqueued) (c : Check) (o : unlessFailed c (good (e .anchor)) ≡ lookAt v left (e .anchor)) where
+  all-refused : (r : Refusal) → c ≡ Failed r → outlookAll v left (e ∷ es) ≡ bad (refusalOf r)
+  unfolding unlessFailed
+  all-refused r d = all-step v left e es ∙ rw (← o, d) refl
 
-  all-taken : k ≡ 0 → outlookAll v left (e ∷ es) ≡ then (outlookAll v (left - 41) es) (λ rest. good (outlookBytes v (e .anchor) ++ rest))
-  unfolding outOf
-  all-taken z = all-step v left e es ∙ rw (← o, eq-eqb k 0 z) refl
+  all-taken : c ≡ Passed → outlookAll v left (e ∷ es) ≡ then (outlookAll v (left - 41) es) (λ rest. good (outlookBytes v (e .anchor) ++ rest))
+  unfolding unlessFailed
+  all-taken z = all-step v left e es ∙ rw (← o, z) refl
 
-  taken-pass : k ≡ 0 → outlookAll v (left - 41) es ≡ good (chainBytes v es) → outlookAll v left (e ∷ es) ≡ good (chainBytes v (e ∷ es))
+  taken-pass : c ≡ Passed → outlookAll v (left - 41) es ≡ good (chainBytes v es) → outlookAll v left (e ∷ es) ≡ good (chainBytes v (e ∷ es))
   unfolding chainBytes joined
   taken-pass z p = all-taken z ∙ rw p refl
 
-  taken-stop : k ≡ 0 → (y : Refusal) → outlookAll v (left - 41) es ≡ bad y → outlookAll v left (e ∷ es) ≡ bad y
+  taken-stop : c ≡ Passed → (y : chain.Refusal) → outlookAll v (left - 41) es ≡ bad y → outlookAll v left (e ∷ es) ≡ bad y
   taken-stop z y p = all-taken z ∙ rw p refl
 
 -- ---- the anchors of a chain
@@ -156,7 +158,7 @@ pub record Looking (v : Store) (l : List Enqueued) (count room : ℕ) (ns : List
   pub long : length ns ≡ 512
   pub counted : Counted v l k count ns
   pub pass : outlookAll v left (chainOf l k) ≡ good (chainBytes v (chainOf l k)) → outlookAll v room (chainOf l count) ≡ good (chainBytes v (chainOf l count))
-  pub stop : (r : Refusal) → outlookAll v left (chainOf l k) ≡ bad r → outlookAll v room (chainOf l count) ≡ bad r
+  pub stop : (r : chain.Refusal) → outlookAll v left (chainOf l k) ≡ bad r → outlookAll v room (chainOf l count) ≡ bad r
 
 module _ (v : Store) (l : List Enqueued) (count room : ℕ) where
   -- at first
@@ -167,15 +169,15 @@ module _ (v : Store) (l : List Enqueued) (count room : ℕ) where
     head : chainOf l k ≡ enqueuedOf (getD l (k - 1) noEnqueued) ∷ chainOf l (k - 1)
     head = chain-head l k more
 
-    module _ (code r : ℕ) (o : outOf code r (getD l (k - 1) noEnqueued .anchor) ≡ lookAt v left (getD l (k - 1) noEnqueued .anchor)) where
+    module _ (c : Check) (o : unlessFailed c (good (getD l (k - 1) noEnqueued .anchor)) ≡ lookAt v left (getD l (k - 1) noEnqueued .anchor)) where
       -- the next anchor is refused
-      looking-refused : (code ≡ 0 → ⊥) → outlookAll v room (chainOf l count) ≡ bad (refusalOf code r)
-      looking-refused d = g .stop _ (ap (outlookAll v left) head ∙ all-refused v left _ (chainOf l (k - 1)) code r o d)
+      looking-refused : (r : Refusal) → c ≡ Failed r → outlookAll v room (chainOf l count) ≡ bad (refusalOf r)
+      looking-refused r d = g .stop _ (ap (outlookAll v left) head ∙ all-refused v left _ (chainOf l (k - 1)) c o r d)
 
       -- it passes
-      pub looking-taken : code ≡ 0 → count ≤ 512 → (n : ℕ) → n ≡ length (history v (getD l (k - 1) noEnqueued .anchor)) → Looking v l count room (set ns (k - 1) n) (left - 41) (k - 1)
+      pub looking-taken : c ≡ Passed → count ≤ 512 → (n : ℕ) → n ≡ length (history v (getD l (k - 1) noEnqueued .anchor)) → Looking v l count room (set ns (k - 1) n) (left - 41) (k - 1)
       looking-taken z most n is =
-          let w = look-room v left code r _ o z in
+          let w = look-room v left _ c o z in
           record {
             most = omega (arith, g .most);
             free = omega (arith, g .free, w);
@@ -183,8 +185,8 @@ module _ (v : Store) (l : List Enqueued) (count room : ℕ) where
             counted = λ j p q. sameOr j (k - 1)
                 (λ e. ap (λ (i : ℕ). getD (set ns (k - 1) n) i 0) e ∙ (getD-set-same ns (k - 1) n 0 (omega (arith, g .long, g .most)) ∙ (is ∙ ap (λ (i : ℕ). length (history v (entry l i))) (sym e))))
                 (λ d. getD-set-other ns (k - 1) j n 0 d ∙ g .counted j (omega arith) q);
-            pass = λ p. g .pass (ap (outlookAll v left) head ∙ (taken-pass v left _ (chainOf l (k - 1)) code r o z p ∙ ap (λ (es : List chain.Enqueued). good (chainBytes v es)) (sym head)));
-            stop = λ y p. g .stop y (ap (outlookAll v left) head ∙ taken-stop v left _ (chainOf l (k - 1)) code r o z y p);
+            pass = λ p. g .pass (ap (outlookAll v left) head ∙ (taken-pass v left _ (chainOf l (k - 1)) c o z p ∙ ap (λ (es : List chain.Enqueued). good (chainBytes v es)) (sym head)));
+            stop = λ y p. g .stop y (ap (outlookAll v left) head ∙ taken-stop v left _ (chainOf l (k - 1)) c o z y p);
           }
 
 -- no anchor is left
@@ -199,22 +201,22 @@ module _ (s : State) (ks ls cs os : List ℕ) (fk : Fit ks) (fl : Fit ls) (h : c
   looking-anchored more = rising-at (view s ks ls cs os) 0 l count (k - 1) rise (omega (arith, g .most))
 
   -- the chain stops here
-  pub looked-refused : 0 < k → (code r : ℕ) → outOf code r (getD l (k - 1) noEnqueued .anchor) ≡ lookAt (view s ks ls cs os) left (getD l (k - 1) noEnqueued .anchor) → (code ≡ 0 → ⊥)
-      → Looked (view s ks ls cs os) ks room l count code r ns
-  looked-refused more code r o d = record {
-    pass = λ z. absurd (d z);
-    fits = λ z. absurd (d z);
-    bytes = λ z. absurd (d z);
-    stopped = λ y. looking-refused (view s ks ls cs os) l count room ns left k g more code r o d;
+  pub looked-refused : 0 < k → (c : Check) → unlessFailed c (good (getD l (k - 1) noEnqueued .anchor)) ≡ lookAt (view s ks ls cs os) left (getD l (k - 1) noEnqueued .anchor) → (r : Refusal) → c ≡ Failed r
+      → Looked (view s ks ls cs os) ks room l count (Failed r) ns
+  looked-refused more c o r d = record {
+    pass = λ z. absurd (not-failed r z);
+    fits = λ z. absurd (not-failed r z);
+    bytes = λ z. absurd (not-failed r z);
+    stopped = λ w y. looking-refused (view s ks ls cs os) l count room ns left k g more c o w (d ∙ y);
   }
 
   -- all anchors pass
-  pub looked-all : k ≡ 0 → Looked (view s ks ls cs os) ks room l count 0 0 ns
+  pub looked-all : k ≡ 0 → Looked (view s ks ls cs os) ks room l count Passed ns
   looked-all z = record {
     pass = λ y. g .pass (none-left (view s ks ls cs os) left l k z);
     fits = λ y. omega (arith, g .free);
     bytes = λ y. looks-is s ks ls cs os fk fl h l 0 count ns rise (λ j p q. g .counted j (omega arith) q);
-    stopped = λ y. absurd (y refl);
+    stopped = λ r y. absurd (not-failed r (sym y));
   }
 
 -- ---- the bytes
@@ -260,12 +262,12 @@ module _ (ks : List ℕ) (l : List Enqueued) (ns : List ℕ) (count : ℕ) (b₀
 
 -- ---- the whole
 
-module _ (v : Store) (ks b : List ℕ) (l : List Enqueued) (count k r : ℕ) (ns : List ℕ) (h : Looked v ks (length b) l count k r ns) where
-  pub told-refused : (k ≡ 0 → ⊥) → Told v b (chainOf l count) k r b
-  told-refused d = record { handed = λ z. absurd (d z); refused = λ y. (h .stopped d, refl) }
+module _ (v : Store) (ks b : List ℕ) (l : List Enqueued) (count : ℕ) (c : Check) (ns : List ℕ) (h : Looked v ks (length b) l count c ns) where
+  pub told-refused : (r : Refusal) → c ≡ Failed r → Told v b (chainOf l count) (Failed r) b
+  told-refused r d = record { handed = λ z. absurd (not-failed r z); refused = λ w y. (h .stopped w (d ∙ y), refl) }
 
-  pub told-all : k ≡ 0 → (b′ : List ℕ) → b′ ≡ written b 0 (looksIn ks l ns count) → Told v b (chainOf l count) 0 r b′
-  told-all z b′ e = record { handed = λ y. (h .pass z, e ∙ ap (written b 0) (h .bytes z)); refused = λ y. absurd (y refl) }
+  pub told-all : c ≡ Passed → (b′ : List ℕ) → b′ ≡ written b 0 (looksIn ks l ns count) → Told v b (chainOf l count) Passed b′
+  told-all z b′ e = record { handed = λ y. (h .pass z, e ∙ ap (written b 0) (h .bytes z)); refused = λ r y. absurd (not-failed r (sym y)) }
 
 -- as many anchors as entries
 pub chain-length : (l : List Enqueued) (n : ℕ) → length (chainOf l n) ≡ n
@@ -274,11 +276,11 @@ chain-length l zero = refl
 chain-length l (suc n) = ap suc (chain-length l n)
 
 -- what 01's outlook leaves of a store from which the walk took these anchors
-module _ (v : Store) (i : Id) (b : List ℕ) (es : List chain.Enqueued) (w : anchorsOf v i ≡ good es) (k r : ℕ) (b′ : List ℕ) (h : Told v b es k r b′) where
-  pub told-handed : k ≡ 0 → doOutlook v i b ≡ record { answer = handed (length es); store = v; buffer = b′ }
+module _ (v : Store) (i : Id) (b : List ℕ) (es : List chain.Enqueued) (w : anchorsOf v i ≡ good es) (c : Check) (b′ : List ℕ) (h : Told v b es c b′) where
+  pub told-handed : c ≡ Passed → doOutlook v i b ≡ record { answer = handed (length es); store = v; buffer = b′ }
   unfolding doOutlook
   told-handed z = let (p, q) = h .handed z in rw (w, doOutlook, p, q) refl
 
-  pub told-stopped : (k ≡ 0 → ⊥) → doOutlook v i b ≡ record { answer = refused (refusalOf k r) 0; store = v; buffer = b′ }
+  pub told-stopped : (r : Refusal) → c ≡ Failed r → doOutlook v i b ≡ record { answer = refused (refusalOf r) 0; store = v; buffer = b′ }
   unfolding doOutlook
-  told-stopped d = let (p, q) = h .refused d in rw (w, doOutlook, p, q) refl
+  told-stopped r d = let (p, q) = h .refused r d in rw (w, doOutlook, p, q) refl

@@ -5,7 +5,7 @@ use mathlib.Core.List.{List}
 use mathlib.Core.Bool.{true}
 use lib.Dec.{ltb}
 use lib.ListN.{length}
-use borrow.Author.Tests.{eq-eqb, ne-eqb, lt-ltb, le-ltb, ltb-false}
+use borrow.Author.Tests.{lt-ltb, le-ltb, ltb-false}
 use Rattle.spec.specs.Store.{Store}
 use Rattle.spec.specs.Rules.{counts}
 use Rattle.spec.specs.Chain as chain
@@ -13,10 +13,13 @@ use Rattle.spec.specs.Chain.{Out, good, then, refuse}
 use Rattle.spec.specs.History.{history, tested}
 use Rattle.spec.specs.Walk.{Anchored, then-good, refuse-good}
 use Rattle.models.specs.Digest.{Fit}
+use Rattle.models.specs.Refusal.{refusalOf, unlessFailed, failed}
+use Rattle.models.specs.declared.refusal.Refusal.{Refusal}
+use Rattle.models.specs.declared.refusal.Check.{Check}
+use Rattle.models.specs.declared.refusal.Check.the-variants.{Passed, Failed}
 use Rattle.dag_state.specs.declared.state.State.{State}
 use Rattle.dag_test.specs.View.{view}
 use Rattle.back_points.specs.declared.anchor.Tested.{Tested}
-use Rattle.back_points.specs.Fault.{refusalOf, outOf}
 use Rattle.back_points.specs.Anchor.{testedOf}
 use Rattle.back_points.specs.Tested.{tested-count}
 use Rattle.commit_anchor.specs.Says.{held, anchor-used, picked-ready}
@@ -25,20 +28,20 @@ use Rattle.commit_anchor.specs.Says.{held, anchor-used, picked-ready}
 unfoldable pub lookAt : Store → ℕ → ℕ → Out ℕ
 lookAt v left a = then (tested v a) (λ x. refuse (ltb left 41) 21 (good a))
 
--- of the tests' number k and the room, what refuses it
-module _ (v : Store) (left k r a : ℕ) (h : outOf k r a ≡ tested v a) where
-  pub look-tested : (k ≡ 0 → ⊥) → outOf k r a ≡ lookAt v left a
-  unfolding lookAt outOf
-  look-tested d = rw (← h, ne-eqb k 0 d) refl
+-- of its tests and the room, what refuses it
+module _ (v : Store) (left a : ℕ) (c : Check) (h : unlessFailed c (good a) ≡ tested v a) where
+  pub look-tested : (r : Refusal) → c ≡ Failed r → unlessFailed (Failed r) (good a) ≡ lookAt v left a
+  unfolding lookAt unlessFailed
+  look-tested r d = rw (← h, d) refl
 
-  module _ (z : k ≡ 0) where
-    pub look-full : left < 41 → outOf 21 r a ≡ lookAt v left a
-    unfolding lookAt outOf refuse refusalOf
-    look-full l = rw (← h, eq-eqb k 0 z, lt-ltb left 41 l) refl
+  module _ (z : c ≡ Passed) where
+    pub look-full : left < 41 → unlessFailed (failed 21) (good a) ≡ lookAt v left a
+    unfolding lookAt unlessFailed refuse refusalOf
+    look-full l = rw (← h, z, lt-ltb left 41 l) refl
 
-    pub look-pass : 41 ≤ left → outOf 0 r a ≡ lookAt v left a
-    unfolding lookAt outOf refuse
-    look-pass l = rw (← h, eq-eqb k 0 z, le-ltb left 41 l) refl
+    pub look-pass : 41 ≤ left → unlessFailed Passed (good a) ≡ lookAt v left a
+    unfolding lookAt unlessFailed refuse
+    look-pass l = rw (← h, z, le-ltb left 41 l) refl
 
 -- what the tests count are the points of its history
 pub look-points : (s : State) (ks ls cs os : List ℕ) (fk : Fit ks) (fl : Fit ls) (h : counts (view s ks ls cs os) ≡ true) (e : chain.Enqueued) → Anchored (view s ks ls cs os) e → (t : Tested) → t ≡ testedOf s ks ls cs os (e .anchor)
@@ -49,8 +52,8 @@ look-points s ks ls cs os fk fl h e x t is = (
 )
 
 -- an anchor that passes has room for its bytes
-pub look-room : (v : Store) (left k r a : ℕ) → outOf k r a ≡ lookAt v left a → k ≡ 0 → 41 ≤ left
-unfolding lookAt outOf
-look-room v left k r a h z =
-    let (x, p, q) = then-good (tested v a) (λ x. refuse (ltb left 41) 21 (good a)) a (sym h ∙ rw (eq-eqb k 0 z) refl) in
+pub look-room : (v : Store) (left a : ℕ) (c : Check) → unlessFailed c (good a) ≡ lookAt v left a → c ≡ Passed → 41 ≤ left
+unfolding lookAt unlessFailed
+look-room v left a c h z =
+    let (x, p, q) = then-good (tested v a) (λ x. refuse (ltb left 41) 21 (good a)) a (sym h ∙ rw z refl) in
     ltb-false _ _ (refuse-good (ltb left 41) 21 (good a) a q .0)

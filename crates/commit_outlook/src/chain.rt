@@ -14,19 +14,12 @@ use answer_bytes::put_id;
 use answer_bytes::put_number;
 use back_walk::Enqueued;
 use dag_state::state::State;
-use models::parts::Round;
+use models::refusal::Check;
 
-// What stopped the anchors, 0 if nothing did, with the round of a history conflict; the number of points of each, in the list's order.
+// What stopped the anchors, if anything did; the number of points of each, in the list's order.
 pub struct Looks {
-    pub code: u32,
-    pub round: Round,
+    pub check: Check,
     pub counts: [u32; 512],
-}
-
-// What an outlook was refused with, 0 if it wasn't, with the round of a history conflict.
-pub struct End {
-    pub code: u32,
-    pub round: Round,
 }
 
 // The `count` anchors of the list, which has the newest first, with `room` bytes for them; up to the first that is refused.
@@ -43,7 +36,7 @@ pub fn look_all(
     requires { ⌜ counts (view s (now keys) (now links) (now certs) (now order)) ≡ true ⌝ }
     requires { ⌜ Rising (view s (now keys) (now links) (now certs) (now order)) 0 (chainOf list count) ⌝ }
     requires { ⌜ count ≤ 512 ⌝ }
-    ensures { λ r. ⌜ Looked (view s (now (keys .entry)) (now (links .entry)) (now (certs .entry)) (now (order .entry))) (now (keys .entry)) room list count (r .code) (r .round .0) (r .counts) ⌝ }
+    ensures { λ r. ⌜ Looked (view s (now (keys .entry)) (now (links .entry)) (now (certs .entry)) (now (order .entry))) (now (keys .entry)) room list count (r .check) (r .counts) ⌝ }
 {
     let mut counts: [u32; 512] = [0; 512];
     let mut left = room;
@@ -52,11 +45,10 @@ pub fn look_all(
         k -= 1;
         let e = list[k];
         let o = look_one(s, keys, links, certs, order, e, left);
-        let round = o.round;
-        if o.code != 0 {
+        let check = o.check;
+        if let Check::Failed(r) = check {
             return Looks {
-                code: o.code,
-                round,
+                check: Check::Failed(r),
                 counts,
             };
         }
@@ -64,8 +56,7 @@ pub fn look_all(
         left -= 41;
     }
     Looks {
-        code: 0,
-        round: Round(0),
+        check: Check::Passed,
         counts,
     }
 }
@@ -104,21 +95,18 @@ pub fn look_chain(
     b: &mut [u8],
     list: [Enqueued; 512],
     count: usize,
-) -> End
+) -> Check
     requires { ⌜ counts (view s (now keys) (now links) (now certs) (now order)) ≡ true ⌝ }
     requires { ⌜ Rising (view s (now keys) (now links) (now certs) (now order)) 0 (chainOf list count) ⌝ }
     requires { ⌜ count ≤ 512 ⌝ }
-    ensures { λ r. ⌜ Told (view s (now (keys .entry)) (now (links .entry)) (now (certs .entry)) (now (order .entry))) (now (b .entry)) (chainOf list count) (r .code) (r .round .0) (now (b .exit)) ⌝ }
+    ensures { λ r. ⌜ Told (view s (now (keys .entry)) (now (links .entry)) (now (certs .entry)) (now (order .entry))) (now (b .entry)) (chainOf list count) r (now (b .exit)) ⌝ }
 {
     let looks = look_all(s, keys, links, certs, order, list, count, b.len());
-    let round = looks.round;
-    if looks.code != 0 {
-        return End {
-            code: looks.code,
-            round,
-        };
+    let check = looks.check;
+    if let Check::Failed(r) = check {
+        return Check::Failed(r);
     }
     let counts = looks.counts;
     put_looks(keys, b, list, count, counts);
-    End { code: 0, round }
+    Check::Passed
 }

@@ -2,22 +2,24 @@
 ghost use mathlib.Core.Path.{_≡_};
 ghost use mathlib.Core.Bool.{true};
 ghost use lib.ListN.{length};
+ghost use Rattle.spec.specs.Chain.{good};
 ghost use Rattle.spec.specs.Rules.{counts};
 ghost use Rattle.spec.specs.History.{history};
 ghost use Rattle.spec.specs.Walk.{Anchored};
 ghost use Rattle.dag_test.specs.View.{view};
 ghost use Rattle.back_walk.specs.Visit.{enqueuedOf};
-ghost use Rattle.back_points.specs.Fault.{outOf};
+ghost use Rattle.models.specs.Refusal.{unlessFailed};
 ghost use Rattle.commit_outlook.specs.Look.{lookAt};
 use back_points::anchor::test_anchor;
 use back_walk::Enqueued;
 use dag_state::state::State;
-use models::parts::Round;
+use models::refusal::BUFFER_TOO_SMALL;
+use models::refusal::Check;
+use models::refusal::Refusal;
 
-// What one anchor is refused with, 0 if it isn't, and the round of a history conflict; the number of points in its history.
+// The tests of one anchor, and the number of points in its history.
 pub struct Look {
-    pub code: u32,
-    pub round: Round,
+    pub check: Check,
     pub count: u32,
 }
 
@@ -33,29 +35,26 @@ pub fn look_one(
 ) -> Look
     requires { ⌜ counts (view s (now keys) (now links) (now certs) (now order)) ≡ true ⌝ }
     requires { ⌜ Anchored (view s (now keys) (now links) (now certs) (now order)) (enqueuedOf e) ⌝ }
-    ensures outcome { λ r. ⌜ outOf (r .code) (r .round .0) (e .anchor) ≡ lookAt (view s (now (keys .entry)) (now (links .entry)) (now (certs .entry)) (now (order .entry))) left (e .anchor) ⌝ }
+    ensures outcome { λ r. ⌜ unlessFailed (r .check) (good (e .anchor)) ≡ lookAt (view s (now (keys .entry)) (now (links .entry)) (now (certs .entry)) (now (order .entry))) left (e .anchor) ⌝ }
     ensures points { λ r. ⌜ r .count ≡ length (history (view s (now (keys .entry)) (now (links .entry)) (now (certs .entry)) (now (order .entry))) (e .anchor)) ⌝ }
 {
     let t = test_anchor(s, keys, links, certs, order, e.anchor);
-    let round = t.round;
     let count = t.count as u32;
-    if t.code != 0 {
+    let check = t.check;
+    if let Check::Failed(r) = check {
         return Look {
-            code: t.code,
-            round,
+            check: Check::Failed(r),
             count,
         };
     }
     if left < 41 {
         return Look {
-            code: 21,
-            round,
+            check: Check::Failed(Refusal::Number(BUFFER_TOO_SMALL)),
             count,
         };
     }
     Look {
-        code: 0,
-        round,
+        check: Check::Passed,
         count,
     }
 }

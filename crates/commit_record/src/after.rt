@@ -9,6 +9,7 @@ use crate::record::is_first_executable;
 use back_history::is_wanted;
 use dag_state::state::State;
 use models::cert::Cert;
+use models::parts::Round;
 
 // Sets the committed bit of each point of the history.
 pub fn mark_all(marks: &[bool; 4096], order: &[u64], certs: &mut [u64], low: usize, high: usize)
@@ -29,15 +30,15 @@ pub fn mark_all(marks: &[bool; 4096], order: &[u64], certs: &mut [u64], low: usi
 
 // The state after an anchor: it and its proof are the last ones, the proof's round is used by its author, and the first executable
 // anchor after a gap uses the gap flag up.
-pub fn after_anchor(s: State, anchor_round: u32, proof_round: u32, author: u32) -> State
-    requires { ⌜ («anchor_round» ≤ 4000000000) × («proof_round» ≤ 4000000000) × (author < 32) ⌝ }
-    ensures { λ r. ⌜ r ≡ afterState s «anchor_round» «proof_round» author ⌝ }
+pub fn after_anchor(s: State, anchor_round: Round, proof_round: Round, author: u32) -> State
+    requires { ⌜ («anchor_round» .0 ≤ 4000000000) × («proof_round» .0 ≤ 4000000000) × (author < 32) ⌝ }
+    ensures { λ r. ⌜ r ≡ afterState s («anchor_round» .0) («proof_round» .0) author ⌝ }
 {
     let first = is_first_executable(s, anchor_round);
     let mut next = s;
-    next.last_proof = proof_round + 1;
-    next.last_anchor = anchor_round + 1;
-    let i = (proof_round % 512) as usize;
+    next.last_proof = proof_round.0 + 1;
+    next.last_anchor = anchor_round.0 + 1;
+    let i = (proof_round.0 % 512) as usize;
     let mut rec = next.rounds[i];
     rec.used = author + 1;
     next.rounds[i] = rec;

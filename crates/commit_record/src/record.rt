@@ -65,16 +65,16 @@ pub fn put_head(
     anchor: usize,
     proof: usize,
     executable: bool,
-    previous: u32,
+    previous: Round,
     count: usize,
 ) -> usize
     requires { ⌜ (at + 83 ≤ length (now b)) × (anchor * 8 + 8 ≤ length (now keys)) × (proof * 8 + 8 ≤ length (now keys)) ⌝ }
-    ensures { λ r. ⌜ (r ≡ at + 83) × (now (b .exit) ≡ written (now (b .entry)) at (headOf (now (keys .entry)) anchor proof executable previous count)) ⌝ }
+    ensures { λ r. ⌜ (r ≡ at + 83) × (now (b .exit) ≡ written (now (b .entry)) at (headOf (now (keys .entry)) anchor proof executable (previous .0) count)) ⌝ }
 {
     let a1 = put_id(b, at, keys, anchor);
     let a2 = put_id(b, a1, keys, proof);
     let a3 = put_number(b, a2, 1, flag(executable));
-    let a4 = put_number(b, a3, 4, wide(previous));
+    let a4 = put_number(b, a3, 4, wide(previous.0));
     put_number(b, a4, 4, count as u64)
 }
 
@@ -91,28 +91,28 @@ pub fn put_record(
     anchor: usize,
     proof: usize,
     executable: bool,
-    previous: u32,
+    previous: Round,
     count: usize,
 ) -> usize
     requires { ⌜ (low ≤ high) × (high ≤ length (now order)) × (length (now certs) ≤ 4096) × (length (now certs) * 8 ≤ length (now keys)) × Inside (now order) high (length (now certs)) ⌝ }
     requires { ⌜ (anchor < length (now certs)) × (proof < length (now certs)) × (count ≡ length (picked (now order) (wants (now certs) (now marks)) low (high - low))) × (at + 83 + count * 37 ≤ length (now b)) ⌝ }
-    ensures { λ r. ⌜ (r ≡ at + 83 + count * 37) × (now (b .exit) ≡ written (now (b .entry)) at (recordOf (now (keys .entry)) anchor proof executable previous (picked (now (order .entry)) (wants (now (certs .entry)) (now (marks .entry))) low (high - low)))) ⌝ }
+    ensures { λ r. ⌜ (r ≡ at + 83 + count * 37) × (now (b .exit) ≡ written (now (b .entry)) at (recordOf (now (keys .entry)) anchor proof executable (previous .0) (picked (now (order .entry)) (wants (now (certs .entry)) (now (marks .entry))) low (high - low)))) ⌝ }
 {
     let next = put_head(b, at, keys, anchor, proof, executable, previous, count);
     put_points(b, next, keys, marks, order, certs, low, high)
 }
 
 // Whether an anchor of this round is executable.
-pub fn executable(s: State, round: u32) -> bool
-    ensures { λ r. ⌜ r ≡ executes s round ⌝ }
+pub fn executable(s: State, round: Round) -> bool
+    ensures { λ r. ⌜ r ≡ executes s (round .0) ⌝ }
 {
     let first = s.first_executable;
-    first.0 <= round
+    first.0 <= round.0
 }
 
 // Whether it is the first executable one after a gap, once the gap question was put.
-pub fn is_first_executable(s: State, round: u32) -> bool
-    ensures { λ r. ⌜ r ≡ isFirstOf s round ⌝ }
+pub fn is_first_executable(s: State, round: Round) -> bool
+    ensures { λ r. ⌜ r ≡ isFirstOf s (round .0) ⌝ }
 {
     if s.gap <= 1 {
         return false;
@@ -121,17 +121,16 @@ pub fn is_first_executable(s: State, round: u32) -> bool
 }
 
 // The round of the anchor before the one of this round, whose top proof stands in round prev_proof; 0 for none.
-pub fn previous_anchor(s: State, round: u32, prev_proof: u32) -> u32
-    ensures { λ r. ⌜ r ≡ previousOf s round «prev_proof» ⌝ }
+pub fn previous_anchor(s: State, round: Round, prev_proof: Round) -> Round
+    ensures { λ r. ⌜ r .0 ≡ previousOf s (round .0) («prev_proof» .0) ⌝ }
 {
     let genesis = s.genesis;
-    let below = Round(prev_proof).prev();
-    let r = below.0;
-    if r <= genesis.0 {
-        return 0;
+    let below = prev_proof.prev();
+    if below.0 <= genesis.0 {
+        return Round(0);
     }
     if is_first_executable(s, round) {
-        return 0;
+        return Round(0);
     }
-    r
+    below
 }

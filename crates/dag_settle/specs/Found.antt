@@ -105,7 +105,7 @@ module _ (s : State) (ks ls cs os : List ℕ) (fk : Fit ks) (fl : Fit ls) (h : c
             (λ y. absurd (clash (ap matches d ∙ m) (first-miss (λ p. matches (placeAt os p)) n x (omega (arith, l, ltb-false at n y)))))
 
 -- an id's words are its own
-words-id : (i : PointId) → idFor (idWords i) ≡ idOf i
+pub words-id : (i : PointId) → idFor (idWords i) ≡ idOf i
 unfolding idWords words digestAt
 words-id i = refl
 

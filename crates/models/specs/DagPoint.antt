@@ -1,8 +1,10 @@
 -- The five cases of a resolved point and their numbers (01: dag_point.rs).
 use Prim.Native.Nat.{ℕ, zero, suc}
-use mathlib.Core.Path.{_≡_, refl}
+use mathlib.Core.Path.{_≡_, refl, sym, ap, _∙_}
 use mathlib.Core.Bool.{Bool, true, false}
-use lib.Dec.{leb}
+use native.Mathlib.Omega.{arith}
+use lib.Dec.{eqb, leb}
+use borrow.Author.Tests.{eqb-true, ne-eqb}
 use Rattle.models.specs.declared.dag_point.DagPoint.{DagPoint}
 use Rattle.models.specs.declared.dag_point.DagPoint.the-variants.{Valid, TransInvalid, Invalid, IllFormed, NotFound}
 use Rattle.models.specs.declared.dag_point.Resolved.{Resolved}
@@ -53,3 +55,26 @@ info-is TransInvalid = refl
 info-is Invalid = refl
 info-is IllFormed = refl
 info-is NotFound = refl
+
+unfoldable pub isValid : Resolved → Bool
+isValid Nothing = false
+isValid (Case Valid) = true
+isValid (Case TransInvalid) = false
+isValid (Case Invalid) = false
+isValid (Case IllFormed) = false
+isValid (Case NotFound) = false
+
+-- a point is valid exactly if its status is 1
+pub valid-is : (n : ℕ) → isValid (caseOf n) ≡ eqb n 1
+unfolding isValid caseOf
+valid-is zero = refl
+valid-is (suc zero) = refl
+valid-is (suc (suc zero)) = refl
+valid-is (suc (suc (suc zero))) = refl
+valid-is (suc (suc (suc (suc zero)))) = refl
+valid-is (suc (suc (suc (suc (suc zero))))) = refl
+valid-is (suc (suc (suc (suc (suc (suc n)))))) = sym (ne-eqb (suc (suc (suc (suc (suc (suc n)))))) 1 (λ e. omega arith))
+
+pub valid-status : (n : ℕ) → caseOf n ≡ Case Valid → n ≡ 1
+unfolding isValid
+valid-status n e = eqb-true n 1 (sym (valid-is n) ∙ ap isValid e)

@@ -1,9 +1,12 @@
 -- What a call is refused with, as 01's refusal, and a test that may refuse.
 use Prim.Native.Nat.{ℕ, zero, suc}
-use mathlib.Core.Path.{_≡_, refl}
+use mathlib.Core.Path.{_≡_, refl, sym, ap}
+use mathlib.Core.Bool.{Bool, true, false, cond, true≢false}
+use lib.Dec.{ltb}
 use native.Mathlib.Omega.{arith}
 use Rattle.spec.specs.Chain as chain
-use Rattle.spec.specs.Chain.{number, conflict, Out, bad}
+use Rattle.spec.specs.Chain.{number, conflict, Out, bad, good, verdict}
+use Rattle.models.specs.Cert.{heightOf}
 use Rattle.models.specs.declared.refusal.Refusal.{Refusal}
 use Rattle.models.specs.declared.refusal.Refusal.the-variants.{Number, Conflict}
 use Rattle.models.specs.declared.refusal.Check.{Check}
@@ -41,3 +44,57 @@ pub numbered-failed : (n : ℕ) (r : Refusal) → numbered n ≡ Failed r → n 
 unfolding numbered
 numbered-failed zero r e z = let o : _≡_ {A = ℕ} 0 1 = cc in omega arith
 numbered-failed (suc n) r e z = omega arith
+
+-- a history conflict in the round r
+abbrev pub conflicting : ℕ → Check
+conflicting r = Failed (Conflict (record { 0 = r }))
+
+-- a refusal, or what follows
+unfoldable pub orNext : Check → Check → Check
+orNext Passed d = d
+orNext (Failed r) d = Failed r
+
+-- what a point that isn't valid is refused with, by its certificate word and its round
+unfoldable pub notValid : ℕ → ℕ → Check
+notValid c r = cond (ltb 0 (heightOf c)) (conflicting r) (failed 15)
+
+unfoldable pub isFailed : Check → Bool
+isFailed Passed = false
+isFailed (Failed r) = true
+
+-- two tests, then what follows
+pub unless-next : {A : Type 0} (c d : Check) (o : Out A) → unlessFailed (orNext c d) o ≡ unlessFailed c (unlessFailed d o)
+unfolding unlessFailed orNext
+unless-next Passed d o = refl
+unless-next (Failed r) d o = refl
+
+-- 01's verdict on a resolved point that isn't usable
+pub verdict-not : (c r q : ℕ) → verdict true false (ltb 0 (heightOf c)) r q ≡ unlessFailed (notValid c r) (good q)
+unfolding verdict unlessFailed refusalOf notValid
+verdict-not c r q = by (ltb 0 (heightOf c))
+  where
+    by : (g : Bool) → verdict true false g r q ≡ unlessFailed (cond g (conflicting r) (failed 15)) (good q)
+    by true = refl
+    by false = refl
+
+-- by cases on a test, with the equation in hand
+pub byCheck : {A : Type 0} (c : Check) → (c ≡ Passed → A) → ((r : Refusal) → c ≡ Failed r → A) → A
+byCheck Passed f g = f refl
+byCheck (Failed r) f g = g r refl
+
+-- a test that refuses has a refusal
+pub failed-elim : (c : Check) → isFailed c ≡ true → (r : Refusal) × (c ≡ Failed r)
+unfolding isFailed
+failed-elim Passed h = absurd (true≢false (sym h))
+failed-elim (Failed r) h = (r, refl)
+
+-- ---- one law for each way out of the code
+
+module _ (c r : ℕ) (b : Bool) (is : b ≡ ltb 0 (heightOf c)) where
+  pub invalid-certified : b ≡ true → conflicting r ≡ notValid c r
+  unfolding notValid
+  invalid-certified h = rw (← is, h) refl
+
+  pub invalid-flat : b ≡ false → failed 15 ≡ notValid c r
+  unfolding notValid
+  invalid-flat h = rw (← is, h) refl

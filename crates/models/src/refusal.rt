@@ -1,4 +1,7 @@
 // Origin: dag/commit/mod.rs (HistoryConflict). What a call is refused with; the numbers are document 01's.
+ghost use mathlib.Core.Path.{_≡_};
+ghost use Rattle.models.specs.Refusal.{notValid};
+use crate::cert::Cert;
 use crate::parts::Round;
 
 // What a start takes is out of its range.
@@ -77,4 +80,14 @@ pub enum Refusal {
 pub enum Check {
     Passed,
     Failed(Refusal),
+}
+
+// What a point that isn't valid is refused with: a history conflict in its round if it is certified.
+pub fn not_valid(cert: Cert, round: Round) -> Check
+    ensures { λ r. ⌜ r ≡ notValid (cert .0) (round .0) ⌝ }
+{
+    if cert.is_certified() {
+        return Check::Failed(Refusal::Conflict(round));
+    }
+    Check::Failed(Refusal::Number(NOT_USABLE))
 }

@@ -1,41 +1,36 @@
-use mathlib.Core.Path.{ap}
 use Rattle.back_walk.specs.Step.{placed}
 use Rattle.back_chain.specs.Trigger.{from-none, from-walk}
 use Rattle.back_chain.specs.Anchors.{none-few}
-use Rattle.back_chain.specs.declared.Chain.{Chain}
 use borrow.Author.Needs.{needs}
 use Rattle.back_chain.proofs.chain_from.Statement.{statement}
 use Rattle.back_chain.proofs.chain_from.Tie as tie
 
 has-previous-requires : tie.Need-has-previous-requires
-has-previous-requires c κs = let b = c .before .before .before .before in let a = b .args in placed (a .s) (a .keys .now) (a .links .now) (a .certs .now) (a .order .now) _ (b .pre .0) (b .pre .1 .0) (b .pre .1 .1 .0)
+has-previous-requires c κs = let a = c .before .before .before .before .args in placed (a .s) (a .keys .now) (a .links .now) (a .certs .now) (a .order .now) _ (c .before .before .before .before .pre .0) (c .before .before .before .before .pre .1 .0) (c .before .before .before .before .pre .1 .1 .0)
 
 no-anchors-requires : tie.Need-no-anchors-requires
 no-anchors-requires c κs = search needs
 
 returns : tie.Need-returns
-returns c = (from-none _ _ _ _ _ _ _ _ _ (c .before .before .has-previous .ensures) (c .before .if1 .taken) _ (ap (λ (z : Chain). z .code) (c .no-anchors .ensures)), none-few _ _ _ (c .no-anchors .ensures))
+returns c = (from-none _ _ _ _ _ _ _ _ _ (c .before .before .has-previous .ensures) (c .before .if1 .taken) _ (c .no-anchors .ensures), none-few _ _ (c .no-anchors .ensures))
 
-sub-previous : tie.Need-sub-previous
-sub-previous c = search needs
-
-cast-previous : tie.Need-cast-previous
-cast-previous c = search needs
+prev-requires : tie.Need-prev-requires
+prev-requires c κs = search needs
 
 previous-requires : tie.Need-previous-requires
-previous-requires c κs = let b = c .before .before .before .before .before .before in let a = b .args in placed (a .s) (a .keys .now) (a .links .now) (a .certs .now) (a .order .now) _ (b .pre .0) (b .pre .1 .0) (b .pre .1 .1 .0)
+previous-requires c κs = let a = c .before .before .before .before .before .before .before .args in placed (a .s) (a .keys .now) (a .links .now) (a .certs .now) (a .order .now) _ (c .before .before .before .before .before .before .before .pre .0) (c .before .before .before .before .before .before .before .pre .1 .0) (c .before .before .before .before .before .before .before .pre .1 .1 .0)
 
-sub-anchor-chain : tie.Need-sub-anchor-chain
-sub-anchor-chain c = search needs
+sub-span : tie.Need-sub-span
+sub-span c = search needs
 
 anchor-chain-requires : tie.Need-anchor-chain-requires
-anchor-chain-requires c κs = let b = c .before .before .before .before .before .before .before in (b .pre .0, (b .pre .1 .0, (b .pre .1 .1 .1 .1, search needs)))
+anchor-chain-requires c κs = (c .before .before .before .before .before .before .before .before .before .before .pre .0, (c .before .before .before .before .before .before .before .before .before .before .pre .1 .0, (c .before .before .before .before .before .before .before .before .before .before .pre .1 .1 .1 .1, search needs)))
 
 check-oldest-requires : tie.Need-check-oldest-requires
 check-oldest-requires c κs = c .anchor-chain .ensures .1
 
 returns-2 : tie.Need-returns-2
-returns-2 c = (from-walk _ _ _ _ _ _ _ _ _ (c .before .before .before .before .has-previous .ensures) (c .before .before .before .if1 .left) _ (c .before .before .previous .ensures) _ _ (c .before .anchor-chain .ensures .0) (c .check-oldest .ensures .0), c .check-oldest .ensures .1)
+returns-2 c = (from-walk _ _ _ _ _ _ _ _ _ (c .before .before .before .before .before .before .before .has-previous .ensures) (c .before .before .before .before .before .before .if1 .left) _ (c .before .before .before .before .before .prev .ensures) _ (c .before .before .before .before .previous .ensures) _ _ (c .before .anchor-chain .ensures .0) (c .check-oldest .ensures .0), c .check-oldest .ensures .1)
 
 pub chain-from-spec : {M : Type 1} → statement M
 chain-from-spec =
@@ -44,10 +39,9 @@ chain-from-spec =
     has-previous-requires
     no-anchors-requires
     returns
-    sub-previous
-    cast-previous
+    prev-requires
     previous-requires
-    sub-anchor-chain
+    sub-span
     anchor-chain-requires
     check-oldest-requires
     returns-2)

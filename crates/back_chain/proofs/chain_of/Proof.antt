@@ -16,96 +16,92 @@ no-anchors-requires c κs = search needs
 
 returns : tie.Need-returns
 returns c =
-    let b = c .before .before .before .before .before .before .before .before in
-    let a = b .args in
+    let a = c .before .before .before .before .before .before .before .before .args in
     let fk : Fit (a .keys .now) = λ p. c .before .before .before .before .before .before .before .shared-slice-known .given p .fits in
     let fl : Fit (a .links .now) = λ p. c .before .before .before .before .before .before .shared-slice-known2 .given p .fits in
-    (of-below (a .s) (a .keys .now) (a .links .now) (a .certs .now) (a .order .now) fk fl (b .pre) (a .id) (id-fit _ _ (b .good .1 .1 .1 .1 .1 .0)) _ (c .before .before .below-bottom .ensures) (c .before .if1 .taken) _ (c .no-anchors .ensures), none-few _ _ _ (c .no-anchors .ensures))
+    (of-below (a .s) (a .keys .now) (a .links .now) (a .certs .now) (a .order .now) fk fl (c .before .before .before .before .before .before .before .before .pre) (a .id) (id-fit _ _ (c .before .before .before .before .before .before .before .before .good .1 .1 .1 .1 .1 .0)) _ (c .before .before .below-bottom .ensures) (c .before .if1 .taken) _ (c .no-anchors .ensures), none-few _ _ (c .no-anchors .ensures))
 
 point-code-requires : tie.Need-point-code-requires
 point-code-requires c κs =
-    let b = c .before .before .before .before .before .before .before in
-    let a = b .args in
+    let a = c .before .before .before .before .before .before .before .args in
     let fk : Fit (a .keys .now) = λ p. c .before .before .before .before .before .before .shared-slice-known .given p .fits in
     let fl : Fit (a .links .now) = λ p. c .before .before .before .before .before .shared-slice-known2 .given p .fits in
-    ready (a .s) (a .keys .now) (a .links .now) (a .certs .now) (a .order .now) fk fl (b .pre)
+    ready (a .s) (a .keys .now) (a .links .now) (a .certs .now) (a .order .now) fk fl (c .before .before .before .before .before .before .before .pre)
 
 no-anchors-requires-2 : tie.Need-no-anchors-requires-2
 no-anchors-requires-2 c κs = search needs
 
 returns-2 : tie.Need-returns-2
 returns-2 c =
-    let b = c .before .before .before .before .before .before .before .before .before .before in
-    let a = b .args in
+    let a = c .before .before .before .before .before .before .before .before .before .before .args in
     let fk : Fit (a .keys .now) = λ p. c .before .before .before .before .before .before .before .before .before .shared-slice-known .given p .fits in
     let fl : Fit (a .links .now) = λ p. c .before .before .before .before .before .before .before .before .shared-slice-known2 .given p .fits in
-    (of-refused (a .s) (a .keys .now) (a .links .now) (a .certs .now) (a .order .now) fk fl (b .pre) (a .id) (id-fit _ _ (b .good .1 .1 .1 .1 .1 .0)) _ (c .before .before .before .before .below-bottom .ensures) (c .before .before .before .if1 .left) _ (c .before .before .point-code .ensures) (c .before .if2 .taken) _ (c .no-anchors2 .ensures), none-few _ _ _ (c .no-anchors2 .ensures))
+    (of-refused (a .s) (a .keys .now) (a .links .now) (a .certs .now) (a .order .now) fk fl (c .before .before .before .before .before .before .before .before .before .before .pre) (a .id) (id-fit _ _ (c .before .before .before .before .before .before .before .before .before .before .good .1 .1 .1 .1 .1 .0)) _ (c .before .before .before .before .below-bottom .ensures) (c .before .before .before .if1 .left) _ (c .before .before .point-code .ensures) (c .before .if2 .taken) _ (c .no-anchors2 .ensures), none-few _ _ (c .no-anchors2 .ensures))
 
 point-place-requires : tie.Need-point-place-requires
 point-place-requires c κs =
-    let b = c .before .before .before .before .before .before .before .before .before in
-    let a = b .args in
+    let a = c .before .before .before .before .before .before .before .before .before .args in
     let fk : Fit (a .keys .now) = λ p. c .before .before .before .before .before .before .before .before .shared-slice-known .given p .fits in
     let fl : Fit (a .links .now) = λ p. c .before .before .before .before .before .before .before .shared-slice-known2 .given p .fits in
-    (ready (a .s) (a .keys .now) (a .links .now) (a .certs .now) (a .order .now) fk fl (b .pre), sym (c .before .point-code .ensures) ∙ c .if2 .left)
+    (ready (a .s) (a .keys .now) (a .links .now) (a .certs .now) (a .order .now) fk fl (c .before .before .before .before .before .before .before .before .before .pre), sym (c .before .point-code .ensures) ∙ c .if2 .left)
 
 trigger-code-requires : tie.Need-trigger-code-requires
 trigger-code-requires c κs =
-    let b = c .before .before .before .before .before .before .before .before .before .before in
-    let a = b .args in
+    let a = c .before .before .before .before .before .before .before .before .before .before .args in
     let fk : Fit (a .keys .now) = λ p. c .before .before .before .before .before .before .before .before .before .shared-slice-known .given p .fits in
     let fl : Fit (a .links .now) = λ p. c .before .before .before .before .before .before .before .before .shared-slice-known2 .given p .fits in
-    trigger-in (a .s) (a .keys .now) (a .links .now) (a .certs .now) (a .order .now) fk fl (b .pre) (a .id) (id-fit _ _ (b .good .1 .1 .1 .1 .1 .0)) _ _ (c .before .before .point-code .ensures) (c .before .if2 .left) (c .point-place .ensures)
+    trigger-in (a .s) (a .keys .now) (a .links .now) (a .certs .now) (a .order .now) fk fl (c .before .before .before .before .before .before .before .before .before .before .pre) (a .id) (id-fit _ _ (c .before .before .before .before .before .before .before .before .before .before .good .1 .1 .1 .1 .1 .0)) _ _ (c .before .before .point-code .ensures) (c .before .if2 .left) (c .point-place .ensures)
+
+enum-known-check : tie.Need-enum-known-check
+enum-known-check c = search needs
 
 no-anchors-requires-3 : tie.Need-no-anchors-requires-3
 no-anchors-requires-3 c κs = search needs
 
 returns-3 : tie.Need-returns-3
 returns-3 c =
-    let b = c .before .before .before .before .before .before .before .before .before .before .before .before .before in
-    let a = b .args in
-    let fk : Fit (a .keys .now) = λ p. c .before .before .before .before .before .before .before .before .before .before .before .before .shared-slice-known .given p .fits in
-    let fl : Fit (a .links .now) = λ p. c .before .before .before .before .before .before .before .before .before .before .before .shared-slice-known2 .given p .fits in
-    (of-trigger (a .s) (a .keys .now) (a .links .now) (a .certs .now) (a .order .now) fk fl (b .pre) (a .id) (id-fit _ _ (b .good .1 .1 .1 .1 .1 .0)) _ (c .before .before .before .before .before .before .before .below-bottom .ensures) (c .before .before .before .before .before .before .if1 .left) _ (c .before .before .before .before .before .point-code .ensures) (c .before .before .before .before .if2 .left) _ (c .before .before .before .point-place .ensures) _ (c .before .before .trigger-code .ensures) (c .before .if3 .taken) _ (c .no-anchors3 .ensures), none-few _ _ _ (c .no-anchors3 .ensures))
+    let a = c .before .before .before .before .before .before .before .before .before .before .before .before .before .before .before .args in
+    let fk : Fit (a .keys .now) = λ p. c .before .before .before .before .before .before .before .before .before .before .before .before .before .before .shared-slice-known .given p .fits in
+    let fl : Fit (a .links .now) = λ p. c .before .before .before .before .before .before .before .before .before .before .before .before .before .shared-slice-known2 .given p .fits in
+    (of-trigger (a .s) (a .keys .now) (a .links .now) (a .certs .now) (a .order .now) fk fl (c .before .before .before .before .before .before .before .before .before .before .before .before .before .before .before .pre) (a .id) (id-fit _ _ (c .before .before .before .before .before .before .before .before .before .before .before .before .before .before .before .good .1 .1 .1 .1 .1 .0)) _ (c .before .before .before .before .before .before .before .before .before .below-bottom .ensures) (c .before .before .before .before .before .before .before .before .if1 .left) _ (c .before .before .before .before .before .before .before .point-code .ensures) (c .before .before .before .before .before .before .if2 .left) _ (c .before .before .before .before .before .point-place .ensures) _ (c .before .before .before .before .trigger-code .ensures) _ (c .before .before .check .given .1) _ (c .no-anchors3 .ensures), none-few _ _ (c .no-anchors3 .ensures))
+
+enum-told : tie.Need-enum-told
+enum-told c = search needs
 
 lowest-walked-requires : tie.Need-lowest-walked-requires
 lowest-walked-requires c κs = search needs
 
 has-walk-requires : tie.Need-has-walk-requires
 has-walk-requires c κs =
-    let b = c .before .before .before .before .before .before .before .before .before .before .before .before .before in
-    let a = b .args in
-    let fk : Fit (a .keys .now) = λ p. c .before .before .before .before .before .before .before .before .before .before .before .before .shared-slice-known .given p .fits in
-    let fl : Fit (a .links .now) = λ p. c .before .before .before .before .before .before .before .before .before .before .before .shared-slice-known2 .given p .fits in
-    trigger-in (a .s) (a .keys .now) (a .links .now) (a .certs .now) (a .order .now) fk fl (b .pre) (a .id) (id-fit _ _ (b .good .1 .1 .1 .1 .1 .0)) _ _ (c .before .before .before .before .before .point-code .ensures) (c .before .before .before .before .if2 .left) (c .before .before .before .point-place .ensures) .0
+    let a = c .before .before .before .before .before .before .before .before .before .before .before .before .before .before .args in
+    let fk : Fit (a .keys .now) = λ p. c .before .before .before .before .before .before .before .before .before .before .before .before .before .shared-slice-known .given p .fits in
+    let fl : Fit (a .links .now) = λ p. c .before .before .before .before .before .before .before .before .before .before .before .before .shared-slice-known2 .given p .fits in
+    trigger-in (a .s) (a .keys .now) (a .links .now) (a .certs .now) (a .order .now) fk fl (c .before .before .before .before .before .before .before .before .before .before .before .before .before .before .pre) (a .id) (id-fit _ _ (c .before .before .before .before .before .before .before .before .before .before .before .before .before .before .good .1 .1 .1 .1 .1 .0)) _ _ (c .before .before .before .before .before .before .point-code .ensures) (c .before .before .before .before .before .if2 .left) (c .before .before .before .before .point-place .ensures) .0
 
 no-anchors-requires-4 : tie.Need-no-anchors-requires-4
 no-anchors-requires-4 c κs = search needs
 
 returns-4 : tie.Need-returns-4
 returns-4 c =
-    let b = c .before .before .before .before .before .before .before .before .before .before .before .before .before .before .before .before in
-    let a = b .args in
-    let fk : Fit (a .keys .now) = λ p. c .before .before .before .before .before .before .before .before .before .before .before .before .before .before .before .shared-slice-known .given p .fits in
-    let fl : Fit (a .links .now) = λ p. c .before .before .before .before .before .before .before .before .before .before .before .before .before .before .shared-slice-known2 .given p .fits in
-    (of-none (a .s) (a .keys .now) (a .links .now) (a .certs .now) (a .order .now) fk fl (b .pre) (a .id) (id-fit _ _ (b .good .1 .1 .1 .1 .1 .0)) _ (c .before .before .before .before .before .before .before .before .before .before .below-bottom .ensures) (c .before .before .before .before .before .before .before .before .before .if1 .left) _ (c .before .before .before .before .before .before .before .before .point-code .ensures) (c .before .before .before .before .before .before .before .if2 .left) _ (c .before .before .before .before .before .before .point-place .ensures) _ (c .before .before .before .before .before .trigger-code .ensures) (c .before .before .before .before .if3 .left) _ (c .before .before .before .lowest-walked .ensures) _ (c .before .before .has-walk .ensures) (c .before .if4 .taken) _ (c .no-anchors4 .ensures), none-few _ _ _ (c .no-anchors4 .ensures))
+    let a = c .before .before .before .before .before .before .before .before .before .before .before .before .before .before .before .before .before .args in
+    let fk : Fit (a .keys .now) = λ p. c .before .before .before .before .before .before .before .before .before .before .before .before .before .before .before .before .shared-slice-known .given p .fits in
+    let fl : Fit (a .links .now) = λ p. c .before .before .before .before .before .before .before .before .before .before .before .before .before .before .before .shared-slice-known2 .given p .fits in
+    (of-none (a .s) (a .keys .now) (a .links .now) (a .certs .now) (a .order .now) fk fl (c .before .before .before .before .before .before .before .before .before .before .before .before .before .before .before .before .before .pre) (a .id) (id-fit _ _ (c .before .before .before .before .before .before .before .before .before .before .before .before .before .before .before .before .before .good .1 .1 .1 .1 .1 .0)) _ (c .before .before .before .before .before .before .before .before .before .before .before .below-bottom .ensures) (c .before .before .before .before .before .before .before .before .before .before .if1 .left) _ (c .before .before .before .before .before .before .before .before .before .point-code .ensures) (c .before .before .before .before .before .before .before .before .if2 .left) _ (c .before .before .before .before .before .before .before .point-place .ensures) _ (c .before .before .before .before .before .before .trigger-code .ensures) (c .before .before .before .before .enum-told .given .1) _ (c .before .before .before .lowest-walked .ensures) _ (c .before .before .has-walk .ensures) (c .before .if3 .taken) _ (c .no-anchors4 .ensures), none-few _ _ (c .no-anchors4 .ensures))
 
 chain-from-requires : tie.Need-chain-from-requires
 chain-from-requires c κs =
-    let b = c .before .before .before .before .before .before .before .before .before .before .before .before .before .before .before in
-    let a = b .args in
-    let fk : Fit (a .keys .now) = λ p. c .before .before .before .before .before .before .before .before .before .before .before .before .before .before .shared-slice-known .given p .fits in
-    let fl : Fit (a .links .now) = λ p. c .before .before .before .before .before .before .before .before .before .before .before .before .before .shared-slice-known2 .given p .fits in
-    let w = of-ready (a .s) (a .keys .now) (a .links .now) (a .certs .now) (a .order .now) fk fl (b .pre) (a .id) (id-fit _ _ (b .good .1 .1 .1 .1 .1 .0)) _ (c .before .before .before .before .before .before .before .before .before .below-bottom .ensures) (c .before .before .before .before .before .before .before .before .if1 .left) _ (c .before .before .before .before .before .before .before .point-code .ensures) (c .before .before .before .before .before .before .if2 .left) _ (c .before .before .before .before .before .point-place .ensures) _ (c .before .before .before .before .trigger-code .ensures) (c .before .before .before .if3 .left) _ (c .before .before .lowest-walked .ensures) _ (c .before .has-walk .ensures) (c .if4 .left) in
-    (walkable (a .s) (a .keys .now) (a .links .now) (a .certs .now) (a .order .now) fk fl (b .pre), (linked (a .s) (a .keys .now) (a .links .now) (a .certs .now) (a .order .now) fk fl (b .pre), (w .0, w .1)))
+    let a = c .before .before .before .before .before .before .before .before .before .before .before .before .before .before .before .before .args in
+    let fk : Fit (a .keys .now) = λ p. c .before .before .before .before .before .before .before .before .before .before .before .before .before .before .before .shared-slice-known .given p .fits in
+    let fl : Fit (a .links .now) = λ p. c .before .before .before .before .before .before .before .before .before .before .before .before .before .before .shared-slice-known2 .given p .fits in
+    let w = of-ready (a .s) (a .keys .now) (a .links .now) (a .certs .now) (a .order .now) fk fl (c .before .before .before .before .before .before .before .before .before .before .before .before .before .before .before .before .pre) (a .id) (id-fit _ _ (c .before .before .before .before .before .before .before .before .before .before .before .before .before .before .before .before .good .1 .1 .1 .1 .1 .0)) _ (c .before .before .before .before .before .before .before .before .before .before .below-bottom .ensures) (c .before .before .before .before .before .before .before .before .before .if1 .left) _ (c .before .before .before .before .before .before .before .before .point-code .ensures) (c .before .before .before .before .before .before .before .if2 .left) _ (c .before .before .before .before .before .before .point-place .ensures) _ (c .before .before .before .before .before .trigger-code .ensures) (c .before .before .before .enum-told .given .1) _ (c .before .before .lowest-walked .ensures) _ (c .before .has-walk .ensures) (c .if3 .left) in
+    (walkable (a .s) (a .keys .now) (a .links .now) (a .certs .now) (a .order .now) fk fl (c .before .before .before .before .before .before .before .before .before .before .before .before .before .before .before .before .pre), (linked (a .s) (a .keys .now) (a .links .now) (a .certs .now) (a .order .now) fk fl (c .before .before .before .before .before .before .before .before .before .before .before .before .before .before .before .before .pre), (w .0, w .1)))
 
 returns-5 : tie.Need-returns-5
 returns-5 c =
-    let b = c .before .before .before .before .before .before .before .before .before .before .before .before .before .before .before .before in
-    let a = b .args in
-    let fk : Fit (a .keys .now) = λ p. c .before .before .before .before .before .before .before .before .before .before .before .before .before .before .before .shared-slice-known .given p .fits in
-    let fl : Fit (a .links .now) = λ p. c .before .before .before .before .before .before .before .before .before .before .before .before .before .before .shared-slice-known2 .given p .fits in
-    (of-chain (a .s) (a .keys .now) (a .links .now) (a .certs .now) (a .order .now) fk fl (b .pre) (a .id) (id-fit _ _ (b .good .1 .1 .1 .1 .1 .0)) _ (c .before .before .before .before .before .before .before .before .before .before .below-bottom .ensures) (c .before .before .before .before .before .before .before .before .before .if1 .left) _ (c .before .before .before .before .before .before .before .before .point-code .ensures) (c .before .before .before .before .before .before .before .if2 .left) _ (c .before .before .before .before .before .before .point-place .ensures) _ (c .before .before .before .before .before .trigger-code .ensures) (c .before .before .before .before .if3 .left) _ (c .before .before .before .lowest-walked .ensures) _ (c .before .before .has-walk .ensures) (c .before .if4 .left) _ (c .chain-from .ensures .0), c .chain-from .ensures .1)
+    let a = c .before .before .before .before .before .before .before .before .before .before .before .before .before .before .before .before .before .args in
+    let fk : Fit (a .keys .now) = λ p. c .before .before .before .before .before .before .before .before .before .before .before .before .before .before .before .before .shared-slice-known .given p .fits in
+    let fl : Fit (a .links .now) = λ p. c .before .before .before .before .before .before .before .before .before .before .before .before .before .before .before .shared-slice-known2 .given p .fits in
+    (of-chain (a .s) (a .keys .now) (a .links .now) (a .certs .now) (a .order .now) fk fl (c .before .before .before .before .before .before .before .before .before .before .before .before .before .before .before .before .before .pre) (a .id) (id-fit _ _ (c .before .before .before .before .before .before .before .before .before .before .before .before .before .before .before .before .before .good .1 .1 .1 .1 .1 .0)) _ (c .before .before .before .before .before .before .before .before .before .before .before .below-bottom .ensures) (c .before .before .before .before .before .before .before .before .before .before .if1 .left) _ (c .before .before .before .before .before .before .before .before .before .point-code .ensures) (c .before .before .before .before .before .before .before .before .if2 .left) _ (c .before .before .before .before .before .before .before .point-place .ensures) _ (c .before .before .before .before .before .before .trigger-code .ensures) (c .before .before .before .before .enum-told .given .1) _ (c .before .before .before .lowest-walked .ensures) _ (c .before .before .has-walk .ensures) (c .before .if3 .left) _ (c .chain-from .ensures .0), c .chain-from .ensures .1)
 
 pub chain-of-spec : {M : Type 1} → statement M
 chain-of-spec =
@@ -119,8 +115,10 @@ chain-of-spec =
     returns-2
     point-place-requires
     trigger-code-requires
+    enum-known-check
     no-anchors-requires-3
     returns-3
+    enum-told
     lowest-walked-requires
     has-walk-requires
     no-anchors-requires-4

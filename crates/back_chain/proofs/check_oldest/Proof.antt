@@ -5,11 +5,17 @@ use borrow.Author.Needs.{needs}
 use Rattle.back_chain.proofs.check_oldest.Statement.{statement}
 use Rattle.back_chain.proofs.check_oldest.Tie as tie
 
+enum-told : tie.Need-enum-told
+enum-told c = search needs
+
 returns : tie.Need-returns
-returns c = (check-bad _ _ (c .if1 .taken), search needs)
+returns c = (check-bad _ _ _ (c .enum-told .given .1), search needs)
+
+enum-told-2 : tie.Need-enum-told-2
+enum-told-2 c = search needs
 
 returns-2 : tie.Need-returns-2
-returns-2 c = (check-none _ _ (c .before .if1 .left) (c .if2 .taken), search needs)
+returns-2 c = (check-none _ _ (c .before .enum-told2 .given .1) (c .if1 .taken), search needs)
 
 sub-e : tie.Need-sub-e
 sub-e c = search needs
@@ -21,11 +27,21 @@ array-copy-out-e : tie.Need-array-copy-out-e
 array-copy-out-e c = search needs
 
 returns-3 : tie.Need-returns-3
-returns-3 c = (check-apart _ _ (c .before .before .before .before .before .before .if1 .left) (c .before .before .before .before .before .if2 .left) (omega (arith, c .if3 .taken)) _ refl, search needs)
+returns-3 c = (check-apart _ _ (c .before .before .before .before .before .before .before .enum-told2 .given .1) (c .before .before .before .before .before .before .if1 .left) (c .if2 .taken) _ refl, search needs)
 
 returns-4 : tie.Need-returns-4
-returns-4 c = (check-on _ _ (c .before .before .before .before .before .before .if1 .left) (c .before .before .before .before .before .if2 .left) (omega (arith, c .if3 .left)), search needs)
+returns-4 c = (check-on _ _ (c .before .before .before .before .before .before .before .enum-told2 .given .1) (c .before .before .before .before .before .before .if1 .left) (c .if2 .left), search needs)
 
 pub check-oldest-spec : {M : Type 1} → statement M
 check-oldest-spec =
-    tie.close (tie.spec returns returns-2 sub-e mul-e array-copy-out-e returns-3 returns-4)
+    tie.close
+    (tie.spec
+    enum-told
+    returns
+    enum-told-2
+    returns-2
+    sub-e
+    mul-e
+    array-copy-out-e
+    returns-3
+    returns-4)

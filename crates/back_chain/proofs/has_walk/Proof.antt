@@ -3,17 +3,14 @@ use borrow.Author.Needs.{needs}
 use Rattle.back_chain.proofs.has_walk.Statement.{statement}
 use Rattle.back_chain.proofs.has_walk.Tie as tie
 
-mul-status : tie.Need-mul-status
-mul-status c = search needs
+case-at-requires : tie.Need-case-at-requires
+case-at-requires c κs = search needs
 
-add-status : tie.Need-add-status
-add-status c = search needs
+is-valid-requires : tie.Need-is-valid-requires
+is-valid-requires c κs = search needs
 
-mul-status-2 : tie.Need-mul-status-2
-mul-status-2 c = search needs
-
-shared-slice-read-status : tie.Need-shared-slice-read-status
-shared-slice-read-status c = search needs
+returns : tie.Need-returns
+returns c = walks-invalid _ _ _ _ _ _ (c .before .before .case-at .ensures) _ (c .before .is-valid .ensures) (c .if1 .taken)
 
 mul-marks : tie.Need-mul-marks
 mul-marks c = search needs
@@ -27,31 +24,26 @@ mul-marks-2 c = search needs
 shared-slice-read-marks : tie.Need-shared-slice-read-marks
 shared-slice-read-marks c = search needs
 
-returns : tie.Need-returns
-returns c = walks-invalid _ _ _ _ _ (c .if1 .taken)
-
 returns-2 : tie.Need-returns-2
-returns-2 c = walks-unmarked _ _ _ _ _ (c .before .if1 .left) (c .if2 .taken)
+returns-2 c = walks-unmarked _ _ _ _ _ _ (c .before .before .before .before .case-at .ensures) _ (c .before .before .before .is-valid .ensures) (c .before .before .if1 .left) (c .if2 .taken)
 
 returns-3 : tie.Need-returns-3
-returns-3 c = walks-genesis _ _ _ _ _ (c .before .before .before .before .if1 .left) (c .before .before .before .if2 .left) (c .if3 .taken)
+returns-3 c = walks-genesis _ _ _ _ _ _ (c .before .before .before .before .before .before .before .before .case-at .ensures) _ (c .before .before .before .before .before .before .before .is-valid .ensures) (c .before .before .before .before .before .before .if1 .left) (c .before .before .before .before .if2 .left) (c .if3 .taken)
 
 returns-4 : tie.Need-returns-4
-returns-4 c = walks-by _ _ _ _ _ (c .before .before .before .before .if1 .left) (c .before .before .before .if2 .left) (c .if3 .left)
+returns-4 c = walks-by _ _ _ _ _ _ (c .before .before .before .before .before .before .before .before .before .before .case-at .ensures) _ (c .before .before .before .before .before .before .before .before .before .is-valid .ensures) (c .before .before .before .before .before .before .before .before .if1 .left) (c .before .before .before .before .before .before .if2 .left) (c .before .before .if3 .left)
 
 pub has-walk-spec : {M : Type 1} → statement M
 has-walk-spec =
     tie.close
     (tie.spec
-    mul-status
-    add-status
-    mul-status-2
-    shared-slice-read-status
+    case-at-requires
+    is-valid-requires
+    returns
     mul-marks
     add-marks
     mul-marks-2
     shared-slice-read-marks
-    returns
     returns-2
     returns-3
     returns-4)

@@ -1,53 +1,96 @@
-use Rattle.back_walk.specs.Step.{judge-none, judge-valid, judge-certified, judge-flat}
+use mathlib.Core.Path.{refl}
+use Rattle.back_walk.specs.Step.{judgeOf, judge-by, judge-case}
 use borrow.Author.Needs.{needs}
 use Rattle.back_walk.proofs.judge.Statement.{statement}
 use Rattle.back_walk.proofs.judge.Tie as tie
 
-mul-status : tie.Need-mul-status
-mul-status c = search needs
+case-at-requires : tie.Need-case-at-requires
+case-at-requires c κs = search needs
 
-add-status : tie.Need-add-status
-add-status c = search needs
-
-mul-status-2 : tie.Need-mul-status-2
-mul-status-2 c = search needs
-
-shared-slice-read-status : tie.Need-shared-slice-read-status
-shared-slice-read-status c = search needs
-
-returns : tie.Need-returns
-returns c = judge-none _ _ _ (c .if1 .taken)
-
-returns-2 : tie.Need-returns-2
-returns-2 c = judge-valid _ _ _ (c .if2 .taken)
-
-mul-t6 : tie.Need-mul-t6
-mul-t6 c = search needs
+mul-t8 : tie.Need-mul-t8
+mul-t8 c = search needs
 
 shared-slice-read-t10 : tie.Need-shared-slice-read-t10
 shared-slice-read-t10 c = search needs
 
-is-certified-requires : tie.Need-is-certified-requires
-is-certified-requires c κs = search needs
+enum-told : tie.Need-enum-told
+enum-told c = search needs
+
+enum-known-case : tie.Need-enum-known-case
+enum-known-case c = search needs
+
+enum-told-2 : tie.Need-enum-told-2
+enum-told-2 c = search needs
+
+enum-told-3 : tie.Need-enum-told-3
+enum-told-3 c = search needs
+
+not-valid-requires : tie.Need-not-valid-requires
+not-valid-requires c κs = search needs
+
+enum-told-4 : tie.Need-enum-told-4
+enum-told-4 c = search needs
+
+not-valid-requires-2 : tie.Need-not-valid-requires-2
+not-valid-requires-2 c κs = search needs
+
+enum-told-5 : tie.Need-enum-told-5
+enum-told-5 c = search needs
+
+not-valid-requires-3 : tie.Need-not-valid-requires-3
+not-valid-requires-3 c κs = search needs
+
+enum-told-6 : tie.Need-enum-told-6
+enum-told-6 c = search needs
+
+not-valid-requires-4 : tie.Need-not-valid-requires-4
+not-valid-requires-4 c κs = search needs
+
+returns : tie.Need-returns
+unfolding judgeOf
+returns c = judge-by _ _ _ _ _ (c .before .before .before .case-at .ensures) _ (c .enum-told .given .1) _ refl
+
+returns-2 : tie.Need-returns-2
+unfolding judgeOf
+returns-2 c = judge-case _ _ _ _ _ (c .before .before .before .before .before .before .case-at .ensures) _ _ (c .before .before .before .case .given .1) (c .enum-told2 .given .1) _ refl
 
 returns-3 : tie.Need-returns-3
-returns-3 c = judge-certified _ _ _ (c .before .before .before .before .if1 .left) (c .before .before .before .if2 .left) _ (c .before .is-certified .ensures) (c .if3 .taken)
+unfolding judgeOf
+returns-3 c = judge-case _ _ _ _ _ (c .before .before .before .before .before .before .before .case-at .ensures) _ _ (c .before .before .before .before .case .given .1) (c .before .enum-told3 .given .1) _ (c .not-valid .ensures)
 
 returns-4 : tie.Need-returns-4
-returns-4 c = judge-flat _ _ _ (c .before .before .before .before .if1 .left) (c .before .before .before .if2 .left) _ (c .before .is-certified .ensures) (c .if3 .left)
+unfolding judgeOf
+returns-4 c = judge-case _ _ _ _ _ (c .before .before .before .before .before .before .before .case-at .ensures) _ _ (c .before .before .before .before .case .given .1) (c .before .enum-told4 .given .1) _ (c .not-valid2 .ensures)
+
+returns-5 : tie.Need-returns-5
+unfolding judgeOf
+returns-5 c = judge-case _ _ _ _ _ (c .before .before .before .before .before .before .before .case-at .ensures) _ _ (c .before .before .before .before .case .given .1) (c .before .enum-told5 .given .1) _ (c .not-valid3 .ensures)
+
+returns-6 : tie.Need-returns-6
+unfolding judgeOf
+returns-6 c = judge-case _ _ _ _ _ (c .before .before .before .before .before .before .before .case-at .ensures) _ _ (c .before .before .before .before .case .given .1) (c .before .enum-told6 .given .1) _ (c .not-valid4 .ensures)
 
 pub judge-spec : {M : Type 1} → statement M
 judge-spec =
     tie.close
     (tie.spec
-    mul-status
-    add-status
-    mul-status-2
-    shared-slice-read-status
+    case-at-requires
+    mul-t8
+    shared-slice-read-t10
+    enum-told
+    enum-known-case
+    enum-told-2
+    enum-told-3
+    not-valid-requires
+    enum-told-4
+    not-valid-requires-2
+    enum-told-5
+    not-valid-requires-3
+    enum-told-6
+    not-valid-requires-4
     returns
     returns-2
-    mul-t6
-    shared-slice-read-t10
-    is-certified-requires
     returns-3
-    returns-4)
+    returns-4
+    returns-5
+    returns-6)

@@ -1,21 +1,20 @@
-use Rattle.dag_test.specs.Tested.{inside-keys}
-use Rattle.back_walk.specs.Step.{needed-not, needed-by}
+use Rattle.dag_settle.specs.Point.{searchable}
+use Rattle.back_walk.specs.Step.{neededAt, needed-not, needed-by}
 use borrow.Author.Needs.{needs}
 use Rattle.back_walk.proofs.need.Statement.{statement}
 use Rattle.back_walk.proofs.need.Tie as tie
+
+id-words-requires : tie.Need-id-words-requires
+id-words-requires c κs = search needs
 
 slice-aggregate-find-point : tie.Need-slice-aggregate-find-point
 slice-aggregate-find-point c = search needs
 
 find-point-requires : tie.Need-find-point-requires
-find-point-requires c κs =
-    let b = c .before .before .before .before in
-    let a = b .args in
-    let p = b .pre in
-    ((p .0 .2, (search needs, inside-keys (a .keys .now) (a .order .now) (a .s .count) (p .0 .0) (p .0 .3))), p .0 .4)
+find-point-requires c κs = let a = c .before .before .before .before .before .args in searchable (a .s) (a .keys .now) (a .order .now) (a .id) _ (c .before .before .before .before .before .pre .0) (c .before .id-words .ensures)
 
 returns : tie.Need-returns
-returns c = let a = c .before .before .before .before .before .before .args in needed-not (a .s) (a .keys .now) (a .certs .now) (a .order .now) _ _ (c .before .find-point .ensures) (c .if1 .taken)
+returns c = let a = c .before .before .before .before .before .before .before .args in needed-not (a .s) (a .keys .now) (a .certs .now) (a .order .now) (a .id) _ (c .before .before .before .id-words .ensures) _ (c .before .find-point .ensures) (c .if1 .taken)
 
 place-requires : tie.Need-place-requires
 place-requires c κs = search needs
@@ -23,18 +22,31 @@ place-requires c κs = search needs
 judge-requires : tie.Need-judge-requires
 judge-requires c κs = search needs
 
+enum-told : tie.Need-enum-told
+enum-told c = search needs
+
+enum-known-check : tie.Need-enum-known-check
+enum-known-check c = search needs
+
 returns-2 : tie.Need-returns-2
-returns-2 c =
-    let a = c .before .before .before .before .before .before .before .before .args in
-    needed-by (a .s) (a .keys .now) (a .certs .now) (a .order .now) _ _ (c .before .before .before .find-point .ensures) _ _ (c .before .before .if1 .left) (c .before .place .ensures .0) (c .judge .ensures)
+unfolding neededAt
+returns-2 c = let a = c .before .before .before .before .before .before .before .before .before .before .before .before .args in needed-by (a .s) (a .keys .now) (a .certs .now) (a .order .now) (a .id) _ (c .before .before .before .before .before .before .before .before .id-words .ensures) _ (c .before .before .before .before .before .before .find-point .ensures) (c .before .before .before .before .before .if1 .left) _ (c .before .before .before .before .place .ensures .0) _ _ (c .before .before .judge .ensures) (c .enum-told .given .1)
+
+returns-3 : tie.Need-returns-3
+unfolding neededAt
+returns-3 c = let a = c .before .before .before .before .before .before .before .before .before .before .before .before .before .args in needed-by (a .s) (a .keys .now) (a .certs .now) (a .order .now) (a .id) _ (c .before .before .before .before .before .before .before .before .before .id-words .ensures) _ (c .before .before .before .before .before .before .before .find-point .ensures) (c .before .before .before .before .before .before .if1 .left) _ (c .before .before .before .before .before .place .ensures .0) _ _ (c .before .before .before .judge .ensures) (c .before .check .given .1)
 
 pub need-spec : {M : Type 1} → statement M
 need-spec =
     tie.close
     (tie.spec
+    id-words-requires
     slice-aggregate-find-point
     find-point-requires
     returns
     place-requires
     judge-requires
-    returns-2)
+    enum-told
+    enum-known-check
+    returns-2
+    returns-3)

@@ -29,6 +29,9 @@ chain-of-requires c κs =
     let a = c .before .before .before .before .before .before .before .before .before .args in
     walked-counts (view (a .s) (a .keys .now) (a .links .now) (a .certs .now) (a .order .now)) (idOf (a .id)) _ (c .before .before .counts-as-started .ensures) (c .before .if1 .left)
 
+enum-known-check : tie.Need-enum-known-check
+enum-known-check c = search needs
+
 ended-requires : tie.Need-ended-requires
 ended-requires c κs = search needs
 
@@ -39,16 +42,19 @@ returns-2 : tie.Need-returns-2
 returns-2 c =
     let a = c .before .before .before .before .before .before .before .before .before .before .before .before .before .before .args in
     let h = c .before .before .before .before .chain-of in
-    says-refused (a .s) (a .keys .now) (a .links .now) (a .certs .now) (a .order .now) (idOf (a .id)) (a .b .now) _ (walked-bad (view (a .s) (a .keys .now) (a .links .now) (a .certs .now) (a .order .now)) (idOf (a .id)) _ (c .before .before .before .before .before .before .before .counts-as-started .ensures) (c .before .before .before .before .before .before .if1 .left) (h .result) (h .ensures .0) (c .before .if2 .taken)) _ (c .ended .ensures ∙ ended-why _ _ _ _ (c .before .if2 .taken))
+    says-refused (a .s) (a .keys .now) (a .links .now) (a .certs .now) (a .order .now) (idOf (a .id)) (a .b .now) _ (walked-bad (view (a .s) (a .keys .now) (a .links .now) (a .certs .now) (a .order .now)) (idOf (a .id)) _ (c .before .before .before .before .before .before .before .counts-as-started .ensures) (c .before .before .before .before .before .before .if1 .left) (h .result) (h .ensures .0) _ (c .before .before .check .given .1)) _ (c .ended .ensures ∙ ended-why _ _ _)
+
+enum-told : tie.Need-enum-told
+enum-told c = search needs
 
 commit-chain-requires : tie.Need-commit-chain-requires
 commit-chain-requires c κs =
-    let a = c .before .before .before .before .before .before .before .before .before .before .before .before .before .before .before .args in
-    let fk : Fit (a .keys .now) = λ p. c .before .before .before .before .before .before .before .before .before .before .before .before .before .before .shared-slice-known .given p .fits in
-    let fl : Fit (a .links .now) = λ p. c .before .before .before .before .before .before .before .before .before .before .before .before .before .shared-slice-known2 .given p .fits in
-    let h = c .before .before .before .before .before .chain-of in
-    let n = walked-counts (view (a .s) (a .keys .now) (a .links .now) (a .certs .now) (a .order .now)) (idOf (a .id)) _ (c .before .before .before .before .before .before .before .before .counts-as-started .ensures) (c .before .before .before .before .before .before .before .if1 .left) in
-    (n, (chain-rises (a .s) (a .keys .now) (a .links .now) (a .certs .now) (a .order .now) fk fl n (idOf (a .id)) _ (walked-good (view (a .s) (a .keys .now) (a .links .now) (a .certs .now) (a .order .now)) (idOf (a .id)) _ (c .before .before .before .before .before .before .before .before .counts-as-started .ensures) (c .before .before .before .before .before .before .before .if1 .left) (h .result) (h .ensures .0) (c .before .before .if2 .left)), h .ensures .1))
+    let a = c .before .before .before .before .before .before .before .before .before .before .before .before .before .before .args in
+    let fk : Fit (a .keys .now) = λ p. c .before .before .before .before .before .before .before .before .before .before .before .before .before .shared-slice-known .given p .fits in
+    let fl : Fit (a .links .now) = λ p. c .before .before .before .before .before .before .before .before .before .before .before .before .shared-slice-known2 .given p .fits in
+    let h = c .before .before .before .before .chain-of in
+    let n = walked-counts (view (a .s) (a .keys .now) (a .links .now) (a .certs .now) (a .order .now)) (idOf (a .id)) _ (c .before .before .before .before .before .before .before .counts-as-started .ensures) (c .before .before .before .before .before .before .if1 .left) in
+    (n, (chain-rises (a .s) (a .keys .now) (a .links .now) (a .certs .now) (a .order .now) fk fl n (idOf (a .id)) _ (walked-good (view (a .s) (a .keys .now) (a .links .now) (a .certs .now) (a .order .now)) (idOf (a .id)) _ (c .before .before .before .before .before .before .before .counts-as-started .ensures) (c .before .before .before .before .before .before .if1 .left) (h .result) (h .ensures .0) (c .before .before .enum-told .given .1)), h .ensures .1))
 
 same-length-3 : tie.Need-same-length-3
 same-length-3 c = search needs
@@ -58,9 +64,9 @@ same-length-4 c = search needs
 
 returns-3 : tie.Need-returns-3
 returns-3 c =
-    let a = c .before .before .before .before .before .before .before .before .before .before .before .before .before .before .before .before .before .before .before .before .args in
-    let h = c .before .before .before .before .before .before .before .before .before .before .chain-of in
-    says-ended (a .s) (a .keys .now) (a .links .now) (a .certs .now) (a .order .now) (idOf (a .id)) (a .b .now) _ (walked-good (view (a .s) (a .keys .now) (a .links .now) (a .certs .now) (a .order .now)) (idOf (a .id)) _ (c .before .before .before .before .before .before .before .before .before .before .before .before .before .counts-as-started .ensures) (c .before .before .before .before .before .before .before .before .before .before .before .before .if1 .left) (h .result) (h .ensures .0) (c .before .before .before .before .before .before .before .if2 .left)) _ _ _ (c .before .before .before .before .commit-chain .ensures)
+    let a = c .before .before .before .before .before .before .before .before .before .before .before .before .before .before .before .before .before .before .before .args in
+    let h = c .before .before .before .before .before .before .before .before .before .chain-of in
+    says-ended (a .s) (a .keys .now) (a .links .now) (a .certs .now) (a .order .now) (idOf (a .id)) (a .b .now) _ (walked-good (view (a .s) (a .keys .now) (a .links .now) (a .certs .now) (a .order .now)) (idOf (a .id)) _ (c .before .before .before .before .before .before .before .before .before .before .before .before .counts-as-started .ensures) (c .before .before .before .before .before .before .before .before .before .before .before .if1 .left) (h .result) (h .ensures .0) (c .before .before .before .before .before .before .before .enum-told .given .1)) _ _ _ (c .before .before .before .before .commit-chain .ensures)
 
 pub commit-spec : {M : Type 1} → statement M
 commit-spec =
@@ -71,9 +77,11 @@ commit-spec =
     same-length
     returns
     chain-of-requires
+    enum-known-check
     ended-requires
     same-length-2
     returns-2
+    enum-told
     commit-chain-requires
     same-length-3
     same-length-4

@@ -18,9 +18,9 @@ same-length-2 c = search needs
 
 returns : tie.Need-returns
 returns c =
-    let a = c .before .before .before .before .before .before .before .before .before .before .before .before .before .before .before .args in
-    let w = c .before .before .before .before .before .before .commit-all .ensures in
-    ended-by (a .keys .now) (a .links .now) (a .order .now) (a .s) (a .certs .now) (a .b .now) _ _ _ _ _ _ _ (w .0) (w .1) _ (c .ended .ensures)
+    let a = c .before .before .before .before .before .before .before .before .before .before .before .before .before .before .args in
+    let w = c .before .before .before .before .before .commit-all .ensures in
+    ended-by (a .keys .now) (a .links .now) (a .order .now) (a .s) (a .certs .now) (a .b .now) _ _ _ _ _ _ (w .0) (w .1) _ (c .ended .ensures)
 
 pub commit-chain-spec : {M : Type 1} → statement M
 commit-chain-spec =

@@ -1,16 +1,21 @@
-use Rattle.commit_commit.specs.Commit.{ended-handed, ended-refused}
+use Rattle.commit_commit.specs.Commit.{answerFrom, ended-by-check}
 use borrow.Author.Needs.{needs}
 use Rattle.commit_commit.proofs.ended.Statement.{statement}
 use Rattle.commit_commit.proofs.ended.Tie as tie
 
-returns : tie.Need-returns
-returns c = ended-handed _ _ _ _ (c .if1 .taken)
+enum-told : tie.Need-enum-told
+enum-told c = search needs
 
-refusal-of-requires : tie.Need-refusal-of-requires
-refusal-of-requires c κs = search needs
+enum-known-check : tie.Need-enum-known-check
+enum-known-check c = search needs
+
+returns : tie.Need-returns
+unfolding answerFrom
+returns c = ended-by-check _ _ _ _ (c .enum-told .given .1)
 
 returns-2 : tie.Need-returns-2
-returns-2 c = ended-refused _ _ _ _ _ (c .before .if1 .left) (c .refusal-of .ensures)
+unfolding answerFrom
+returns-2 c = ended-by-check _ _ _ _ (c .before .check .given .1)
 
 pub ended-spec : {M : Type 1} → statement M
-ended-spec = tie.close (tie.spec returns refusal-of-requires returns-2)
+ended-spec = tie.close (tie.spec enum-told enum-known-check returns returns-2)

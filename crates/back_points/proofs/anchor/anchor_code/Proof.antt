@@ -11,10 +11,16 @@ returns c =
 history-fault-requires : tie.Need-history-fault-requires
 history-fault-requires c κs = search needs
 
+enum-known-check : tie.Need-enum-known-check
+enum-known-check c = search needs
+
 returns-2 : tie.Need-returns-2
 returns-2 c =
-    let a = c .before .before .before .before .before .before .before .before .before .before .args in
-    code-fault (a .s) (a .keys .now) (a .certs .now) (a .order .now) (a .marks .now) (a .span) (a .round .0) (c .before .before .before .if1 .left) _ (c .before .before .history-fault .ensures) (c .if2 .taken)
+    let a = c .before .before .before .before .before .before .before .before .before .before .before .args in
+    code-fault (a .s) (a .keys .now) (a .certs .now) (a .order .now) (a .marks .now) (a .span) (a .round .0) (c .before .before .before .before .if1 .left) _ (c .before .before .before .history-fault .ensures) _ (c .before .check .given .1)
+
+enum-told : tie.Need-enum-told
+enum-told c = search needs
 
 rounds-missing-requires : tie.Need-rounds-missing-requires
 rounds-missing-requires c κs = search needs
@@ -22,7 +28,7 @@ rounds-missing-requires c κs = search needs
 returns-3 : tie.Need-returns-3
 returns-3 c =
     let a = c .before .before .before .before .before .before .before .before .before .before .before .before .before .before .before .args in
-    code-missing (a .s) (a .keys .now) (a .certs .now) (a .order .now) (a .marks .now) (a .span) (a .round .0) (c .before .before .before .before .before .before .before .before .if1 .left) _ (c .before .before .before .before .before .before .before .history-fault .ensures) (c .before .before .before .before .before .if2 .left) _ (c .before .rounds-missing .ensures) (c .if3 .taken)
+    code-missing (a .s) (a .keys .now) (a .certs .now) (a .order .now) (a .marks .now) (a .span) (a .round .0) (c .before .before .before .before .before .before .before .before .if1 .left) _ (c .before .before .before .before .before .before .before .history-fault .ensures) (c .before .before .before .before .before .enum-told .given .1) _ (c .before .rounds-missing .ensures) (c .if2 .taken)
 
 any-flat-requires : tie.Need-any-flat-requires
 any-flat-requires c κs = search needs
@@ -30,12 +36,12 @@ any-flat-requires c κs = search needs
 returns-4 : tie.Need-returns-4
 returns-4 c =
     let a = c .before .before .before .before .before .before .before .before .before .before .before .before .before .before .before .before .before .args in
-    code-flat (a .s) (a .keys .now) (a .certs .now) (a .order .now) (a .marks .now) (a .span) (a .round .0) (c .before .before .before .before .before .before .before .before .before .before .if1 .left) _ (c .before .before .before .before .before .before .before .before .before .history-fault .ensures) (c .before .before .before .before .before .before .before .if2 .left) _ (c .before .before .before .rounds-missing .ensures) (c .before .before .if3 .left) _ (c .before .any-flat .ensures) (c .if4 .taken)
+    code-flat (a .s) (a .keys .now) (a .certs .now) (a .order .now) (a .marks .now) (a .span) (a .round .0) (c .before .before .before .before .before .before .before .before .before .before .if1 .left) _ (c .before .before .before .before .before .before .before .before .before .history-fault .ensures) (c .before .before .before .before .before .before .before .enum-told .given .1) _ (c .before .before .before .rounds-missing .ensures) (c .before .before .if2 .left) _ (c .before .any-flat .ensures) (c .if3 .taken)
 
 returns-5 : tie.Need-returns-5
 returns-5 c =
     let a = c .before .before .before .before .before .before .before .before .before .before .before .before .before .before .before .before .before .args in
-    code-none (a .s) (a .keys .now) (a .certs .now) (a .order .now) (a .marks .now) (a .span) (a .round .0) (c .before .before .before .before .before .before .before .before .before .before .if1 .left) _ (c .before .before .before .before .before .before .before .before .before .history-fault .ensures) (c .before .before .before .before .before .before .before .if2 .left) _ (c .before .before .before .rounds-missing .ensures) (c .before .before .if3 .left) _ (c .before .any-flat .ensures) (c .if4 .left)
+    code-none (a .s) (a .keys .now) (a .certs .now) (a .order .now) (a .marks .now) (a .span) (a .round .0) (c .before .before .before .before .before .before .before .before .before .before .if1 .left) _ (c .before .before .before .before .before .before .before .before .before .history-fault .ensures) (c .before .before .before .before .before .before .before .enum-told .given .1) _ (c .before .before .before .rounds-missing .ensures) (c .before .before .if2 .left) _ (c .before .any-flat .ensures) (c .if3 .left)
 
 pub anchor-code-spec : {M : Type 1} → statement M
 anchor-code-spec =
@@ -43,7 +49,9 @@ anchor-code-spec =
     (tie.spec
     returns
     history-fault-requires
+    enum-known-check
     returns-2
+    enum-told
     rounds-missing-requires
     returns-3
     any-flat-requires

@@ -4,7 +4,7 @@ use mathlib.Core.Path.{_≡_}
 use native.Mathlib.Omega.{arith}
 use Rattle.back_history.specs.Down.{down-none, down-end}
 use Rattle.back_points.specs.Scan.{scanned, scanned-most, scanned-hit, scanned-miss}
-use Rattle.back_points.specs.Fault.{faultyAt, roundOf, firstFault, faulty-at}
+use Rattle.back_points.specs.Fault.{faultyAt, roundOf, firstFault, faulty-at, round-fits}
 use Rattle.back_points.proofs.fault.first_fault.Statement.{statement}
 use Rattle.back_points.proofs.fault.first_fault.Tie as tie
 
@@ -25,7 +25,9 @@ place-requires : tie.Need-place-requires Inv-loop μ-loop
 place-requires c κs = (search needs, c .before .before .before .before .before .pre .0 .4)
 
 is-faulty-requires : tie.Need-is-faulty-requires Inv-loop μ-loop
-is-faulty-requires c κs = search needs
+is-faulty-requires c κs =
+    let a = c .before .before .before .before .before .before .args in
+    (search needs, search needs, round-fits (a .keys .now) (a .order .now) (a .high) _ _ (c .before .before .before .before .before .before .pre .1 .1) (omega (arith, c .before .before .loop .inv .1, c .before .loop-test .taken)) (c .place .ensures .0), search needs)
 
 sooner-requires : tie.Need-sooner-requires Inv-loop μ-loop
 sooner-requires c κs = (search needs, scanned-most _ _ _ _ _ (c .before .before .before .before .loop .inv .2), search needs, search needs, c .before .before .before .before .before .before .before .before .pre .0 .4)

@@ -1,19 +1,51 @@
+use borrow.Author.Tests.{not-true, not-false}
+use Rattle.models.specs.Refusal.{isFailed}
 use Rattle.back_points.specs.Fault.{faulty-not, faulty-by}
 use borrow.Author.Needs.{needs}
 use Rattle.back_points.proofs.fault.is_faulty.Statement.{statement}
 use Rattle.back_points.proofs.fault.is_faulty.Tie as tie
+use Rattle.back_points.proofs.fault.is_faulty.Reads as reads
+use Rattle.back_points.proofs.fault.is_faulty.Lts as lts
+use Rattle.back_points.proofs.fault.fault_at.Reads as fault-at-reads
 
+-- src/fault.rt:57:9
 element-copy-out-if1 : tie.Need-element-copy-out-if1
 element-copy-out-if1 c = search needs
 
+-- src/fault.rt:58:9
+returns : tie.Need-returns
+returns c = faulty-not _ _ _ _ (not-true _ (c .if1 .taken))
+
+-- src/fault.rt:60:9
 fault-at-requires : tie.Need-fault-at-requires
 fault-at-requires c κs = search needs
 
-returns : tie.Need-returns
-returns c = faulty-by _ _ _ _ _ (c .before .if1 .taken) (c .fault-at .ensures)
+-- src/fault.rt:62:26
+enum-told : tie.Need-enum-told
+enum-told c = search needs
 
+-- src/fault.rt:63:29
+enum-told-2 : tie.Need-enum-told-2
+enum-told-2 c = search needs
+
+-- src/fault.rt:53:1
 returns-2 : tie.Need-returns-2
-returns-2 c = faulty-not _ _ _ _ (c .if1 .left)
+unfolding isFailed
+returns-2 c = faulty-by _ _ _ _ _ _ (not-false _ (c .before .before .before .if1 .left)) (c .before .before .fault-at .ensures) (c .enum-told .given .1)
+
+-- src/fault.rt:53:1
+returns-3 : tie.Need-returns-3
+unfolding isFailed
+returns-3 c = faulty-by _ _ _ _ _ _ (not-false _ (c .before .before .before .if1 .left)) (c .before .before .fault-at .ensures) (c .enum-told2 .given .1)
 
 pub is-faulty-spec : {M : Type 1} → statement M
-is-faulty-spec = tie.close (tie.spec element-copy-out-if1 fault-at-requires returns returns-2)
+is-faulty-spec =
+    tie.close
+    (tie.spec
+    element-copy-out-if1
+    returns
+    fault-at-requires
+    enum-told
+    enum-told-2
+    returns-2
+    returns-3)

@@ -15,9 +15,8 @@ abbrev μ-loop : tie.MeasureT-loop
 
 loop-holds : tie.Need-loop-holds Inv-loop μ-loop
 loop-holds c =
-    let b = c .before .before .before .before .before in
-    let a = b .args in
-    (refl, refl, going-first (a .keys .now) (a .links .now) (a .order .now) (a .s) (a .certs .now) (a .b .now) _ (a .count) (b .pre .0) (b .pre .1 .0))
+    let a = c .before .before .before .before .before .args in
+    (refl, refl, going-first (a .keys .now) (a .links .now) (a .order .now) (a .s) (a .certs .now) (a .b .now) _ (a .count) (c .before .before .before .before .before .pre .0) (c .before .before .before .before .before .pre .1 .0))
 
 sub-k : tie.Need-sub-k Inv-loop μ-loop
 sub-k c = search needs
@@ -35,6 +34,9 @@ commit-one-requires c κs =
     let g = l .inv .2 in
     (g .started, (going-anchored (a .keys .now) (a .links .now) (a .order .now) (a .s) (a .certs .now) (a .b .now) _ (a .count) (l .cur) (l .certs) (l .b) (l .end) (l .finished) (l .k) (l .inv .2) (c .before .before .before .loop-test .taken), g .within))
 
+enum-known-check : tie.Need-enum-known-check Inv-loop μ-loop
+enum-known-check c = search needs
+
 same-length : tie.Need-same-length Inv-loop μ-loop
 same-length c = let l = c .before .before .before .before .before .before .before .before .before .before .before .before .before .loop .inv in omega (arith, l .0, l .1)
 
@@ -46,20 +48,23 @@ returns c =
     let a = c .before .before .before .before .before .before .before .before .before .before .before .before .before .before .before .before .before .before .before .args in
     let l = c .before .before .before .before .before .before .before .before .before .before .before .before .before .loop in
     let o = c .before .before .before .before .before .before .before .before .commit-one in
-    going-refused (a .keys .now) (a .links .now) (a .order .now) (a .s) (a .certs .now) (a .b .now) _ (a .count) (l .cur) (l .certs) (l .b) (l .end) (l .finished) (l .k) (l .inv .2) (c .before .before .before .before .before .before .before .before .before .before .before .before .loop-test .taken) _ (o .ensures .0) (o .ensures .1) (c .if1 .taken)
+    going-refused (a .keys .now) (a .links .now) (a .order .now) (a .s) (a .certs .now) (a .b .now) _ (a .count) (l .cur) (l .certs) (l .b) (l .end) (l .finished) (l .k) (l .inv .2) (c .before .before .before .before .before .before .before .before .before .before .before .before .loop-test .taken) _ (o .ensures .0) (o .ensures .1) _ (c .before .check .given .1)
+
+enum-told : tie.Need-enum-told Inv-loop μ-loop
+enum-told c = search needs
 
 add-finished : tie.Need-add-finished Inv-loop μ-loop
-add-finished c = omega (arith, c .before .before .before .before .before .before .before .before .before .before .before .before .before .loop .inv .2 .number, c .before .before .before .before .before .before .before .before .before .before .before .before .before .before .before .before .before .before .before .pre .1 .1)
+add-finished c = omega (arith, c .before .before .before .before .before .before .before .before .before .before .before .before .loop .inv .2 .number, c .before .before .before .before .before .before .before .before .before .before .before .before .before .before .before .before .before .before .pre .1 .1)
 
 loop-less : tie.Need-loop-less Inv-loop μ-loop
 loop-less c = search needs
 
 loop-again : tie.Need-loop-again Inv-loop μ-loop
 loop-again c =
-    let a = c .before .before .before .before .before .before .before .before .before .before .before .before .before .before .before .before .before .before .before .args in
-    let l = c .before .before .before .before .before .before .before .before .before .before .before .before .before .loop in
-    let o = c .before .before .before .before .before .before .before .before .commit-one in
-    (omega (arith, l .inv .0), omega (arith, l .inv .1), going-taken (a .keys .now) (a .links .now) (a .order .now) (a .s) (a .certs .now) (a .b .now) _ (a .count) (l .cur) (l .certs) (l .b) (l .end) (l .finished) (l .k) (l .inv .2) (c .before .before .before .before .before .before .before .before .before .before .before .before .loop-test .taken) _ (o .ensures .0) (o .ensures .1) (c .if1 .left))
+    let a = c .before .before .before .before .before .before .before .before .before .before .before .before .before .before .before .before .before .before .args in
+    let l = c .before .before .before .before .before .before .before .before .before .before .before .before .loop in
+    let o = c .before .before .before .before .before .before .before .commit-one in
+    (omega (arith, l .inv .0), omega (arith, l .inv .1), going-taken (a .keys .now) (a .links .now) (a .order .now) (a .s) (a .certs .now) (a .b .now) _ (a .count) (l .cur) (l .certs) (l .b) (l .end) (l .finished) (l .k) (l .inv .2) (c .before .before .before .before .before .before .before .before .before .before .before .loop-test .taken) _ (o .ensures .0) (o .ensures .1) (c .enum-told .given .1))
 
 same-length-3 : tie.Need-same-length-3 Inv-loop μ-loop
 same-length-3 c = let l = c .before .loop .inv in omega (arith, l .0, l .1)
@@ -84,9 +89,11 @@ commit-all-spec =
     mul-e
     array-copy-out-e
     commit-one-requires
+    enum-known-check
     same-length
     same-length-2
     returns
+    enum-told
     add-finished
     loop-less
     loop-again

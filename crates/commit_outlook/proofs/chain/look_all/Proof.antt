@@ -35,6 +35,9 @@ look-one-requires c κs =
     let fl : Fit (a .links .now) = λ q. c .before .before .before .before .before .shared-slice-known2 .given q .fits in
     (p .0, looking-anchored (a .s) (a .keys .now) (a .links .now) (a .certs .now) (a .order .now) fk fl (p .0) _ (a .count) (p .1 .0) (a .room) (l .counts) (l .left) (l .k) (l .inv) (c .before .loop-test .taken))
 
+enum-known-check : tie.Need-enum-known-check Inv-loop μ-loop
+enum-known-check c = search needs
+
 returns : tie.Need-returns Inv-loop μ-loop
 returns c =
     let a = c .before .before .before .before .before .before .before .before .before .before .before .args in
@@ -42,22 +45,25 @@ returns c =
     let l = c .before .before .before .before .before .before .loop in
     let fk : Fit (a .keys .now) = λ q. c .before .before .before .before .before .before .before .before .before .before .shared-slice-known .given q .fits in
     let fl : Fit (a .links .now) = λ q. c .before .before .before .before .before .before .before .before .before .shared-slice-known2 .given q .fits in
-    looked-refused (a .s) (a .keys .now) (a .links .now) (a .certs .now) (a .order .now) fk fl (p .0) _ (a .count) (p .1 .0) (a .room) (l .counts) (l .left) (l .k) (l .inv) (c .before .before .before .before .before .loop-test .taken) _ _ (c .before .before .before .look-one .ensures .0) (c .if1 .taken)
+    looked-refused (a .s) (a .keys .now) (a .links .now) (a .certs .now) (a .order .now) fk fl (p .0) _ (a .count) (p .1 .0) (a .room) (l .counts) (l .left) (l .k) (l .inv) (c .before .before .before .before .before .loop-test .taken) _ (c .before .before .before .look-one .ensures .0) _ (c .before .check .given .1)
+
+enum-told : tie.Need-enum-told Inv-loop μ-loop
+enum-told c = search needs
 
 mul-counts : tie.Need-mul-counts Inv-loop μ-loop
 mul-counts c = search needs
 
 array-write-counts : tie.Need-array-write-counts Inv-loop μ-loop
 array-write-counts c =
-    let h = c .before .before .before .before .before .before .loop .inv .most in
-    let m = c .before .before .before .before .before .before .before .before .before .before .before .pre .1 .1 in
+    let h = c .before .before .before .before .before .loop .inv .most in
+    let m = c .before .before .before .before .before .before .before .before .before .before .pre .1 .1 in
     search needs
 
 sub-left : tie.Need-sub-left Inv-loop μ-loop
 sub-left c =
-    let a = c .before .before .before .before .before .before .before .before .before .before .before .args in
-    let l = c .before .before .before .before .before .before .loop in
-    let h = look-room (view (a .s) (a .keys .now) (a .links .now) (a .certs .now) (a .order .now)) (l .left) _ _ _ (c .before .before .before .look-one .ensures .0) (c .if1 .left) in
+    let a = c .before .before .before .before .before .before .before .before .before .before .args in
+    let l = c .before .before .before .before .before .loop in
+    let h = look-room (view (a .s) (a .keys .now) (a .links .now) (a .certs .now) (a .order .now)) (l .left) _ _ (c .before .before .look-one .ensures .0) (c .enum-told .given .1) in
     search needs
 
 loop-less : tie.Need-loop-less Inv-loop μ-loop
@@ -65,10 +71,10 @@ loop-less c = search needs
 
 loop-again : tie.Need-loop-again Inv-loop μ-loop
 loop-again c =
-    let a = c .before .before .before .before .before .before .before .before .before .before .before .args in
-    let p = c .before .before .before .before .before .before .before .before .before .before .before .pre in
-    let l = c .before .before .before .before .before .before .loop in
-    looking-taken (view (a .s) (a .keys .now) (a .links .now) (a .certs .now) (a .order .now)) _ (a .count) (a .room) (l .counts) (l .left) (l .k) (l .inv) (c .before .before .before .before .before .loop-test .taken) _ _ (c .before .before .before .look-one .ensures .0) (c .if1 .left) (p .1 .1) _ (c .before .before .before .look-one .ensures .1)
+    let a = c .before .before .before .before .before .before .before .before .before .before .args in
+    let p = c .before .before .before .before .before .before .before .before .before .before .pre in
+    let l = c .before .before .before .before .before .loop in
+    looking-taken (view (a .s) (a .keys .now) (a .links .now) (a .certs .now) (a .order .now)) _ (a .count) (a .room) (l .counts) (l .left) (l .k) (l .inv) (c .before .before .before .before .loop-test .taken) _ (c .before .before .look-one .ensures .0) (c .enum-told .given .1) (p .1 .1) _ (c .before .before .look-one .ensures .1)
 
 returns-2 : tie.Need-returns-2 Inv-loop μ-loop
 returns-2 c =
@@ -90,7 +96,9 @@ look-all-spec =
     mul-e
     array-copy-out-e
     look-one-requires
+    enum-known-check
     returns
+    enum-told
     mul-counts
     array-write-counts
     sub-left

@@ -34,11 +34,11 @@ element-set-from-rec c = search needs
 
 returns : tie.Need-returns
 unfolding afterState recordOf
-returns c = rw (sym (c .before .before .is-first-executable .ensures) ∙ c .if1 .taken) refl
+returns c = rw (sym (c .before .before .before .before .before .is-first-executable .ensures) ∙ c .if1 .taken) refl
 
 returns-2 : tie.Need-returns-2
 unfolding afterState recordOf
-returns-2 c = rw (sym (c .before .before .is-first-executable .ensures) ∙ c .if1 .left) refl
+returns-2 c = rw (sym (c .before .before .before .before .before .is-first-executable .ensures) ∙ c .if1 .left) refl
 
 pub after-anchor-spec : {M : Type 1} → statement M
 after-anchor-spec =

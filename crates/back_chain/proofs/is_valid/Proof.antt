@@ -1,0 +1,69 @@
+use mathlib.Core.Path.{_∙_, ap, sym}
+use Rattle.models.specs.DagPoint.{isValid}
+use Rattle.models.specs.declared.dag_point.Resolved.the-variants.{Case}
+use borrow.Author.Needs.{needs}
+use Rattle.back_chain.proofs.is_valid.Statement.{statement}
+use Rattle.back_chain.proofs.is_valid.Tie as tie
+
+enum-told : tie.Need-enum-told
+enum-told c = search needs
+
+enum-known-case : tie.Need-enum-known-case
+enum-known-case c = search needs
+
+enum-told-2 : tie.Need-enum-told-2
+enum-told-2 c = search needs
+
+enum-told-3 : tie.Need-enum-told-3
+enum-told-3 c = search needs
+
+enum-told-4 : tie.Need-enum-told-4
+enum-told-4 c = search needs
+
+enum-told-5 : tie.Need-enum-told-5
+enum-told-5 c = search needs
+
+enum-told-6 : tie.Need-enum-told-6
+enum-told-6 c = search needs
+
+returns : tie.Need-returns
+unfolding isValid
+returns c = ap isValid (sym (c .enum-told .given .1))
+
+returns-2 : tie.Need-returns-2
+unfolding isValid
+returns-2 c = ap isValid (sym (c .before .before .before .case .given .1 ∙ ap Case (c .enum-told2 .given .1)))
+
+returns-3 : tie.Need-returns-3
+unfolding isValid
+returns-3 c = ap isValid (sym (c .before .before .before .case .given .1 ∙ ap Case (c .enum-told3 .given .1)))
+
+returns-4 : tie.Need-returns-4
+unfolding isValid
+returns-4 c = ap isValid (sym (c .before .before .before .case .given .1 ∙ ap Case (c .enum-told4 .given .1)))
+
+returns-5 : tie.Need-returns-5
+unfolding isValid
+returns-5 c = ap isValid (sym (c .before .before .before .case .given .1 ∙ ap Case (c .enum-told5 .given .1)))
+
+returns-6 : tie.Need-returns-6
+unfolding isValid
+returns-6 c = ap isValid (sym (c .before .before .before .case .given .1 ∙ ap Case (c .enum-told6 .given .1)))
+
+pub is-valid-spec : {M : Type 1} → statement M
+is-valid-spec =
+    tie.close
+    (tie.spec
+    enum-told
+    enum-known-case
+    enum-told-2
+    enum-told-3
+    enum-told-4
+    enum-told-5
+    enum-told-6
+    returns
+    returns-2
+    returns-3
+    returns-4
+    returns-5
+    returns-6)
