@@ -137,7 +137,7 @@ module _ (s : State) (ks ls cs os : List ℕ) (fk : Fit ks) (fl : Fit ls) (h : c
 
   low-is : lowestWalked v ≡ low
   unfolding view progressOf lowOf
-  low-is = ap (λ (x : ℕ). max x (s .bottom .0)) (zero-less (s .«last_proof»))
+  low-is = ap (λ (x : ℕ). max x (s .bottom .0)) (zero-less (s .«last_proof» .0))
 
   low-room : s .bottom .0 ≤ low
   unfolding lowOf

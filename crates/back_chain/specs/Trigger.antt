@@ -34,7 +34,7 @@ isBelow s i = ltb (i .author) 32 && ltb (i .round .0) (s .bottom .0)
 
 -- the lowest round of a walk
 unfoldable pub lowOf : State → ℕ
-lowOf s = max (s .«last_proof» - 1) (s .bottom .0)
+lowOf s = max (s .«last_proof» .0 - 1) (s .bottom .0)
 
 -- what a trigger is refused with, by its case, its certificate word and its round
 unfoldable pub triggerOf : Resolved → ℕ → ℕ → Check
@@ -70,15 +70,15 @@ module _ (s : State) (i : PointId) where
   below-round l = sym (and-yes (lt-ltb (i .author) 32 l) refl)
 
 module _ (s : State) where
-  pub low-none : s .«last_proof» ≡ 0 → s .bottom .0 ≡ lowOf s
+  pub low-none : s .«last_proof» .0 ≡ 0 → s .bottom .0 ≡ lowOf s
   unfolding lowOf
   low-none e = omega arith
 
-  pub low-last : s .bottom .0 < s .«last_proof» - 1 → s .«last_proof» - 1 ≡ lowOf s
+  pub low-last : s .bottom .0 < s .«last_proof» .0 - 1 → s .«last_proof» .0 - 1 ≡ lowOf s
   unfolding lowOf
   low-last l = omega arith
 
-  pub low-bottom : s .«last_proof» - 1 ≤ s .bottom .0 → s .bottom .0 ≡ lowOf s
+  pub low-bottom : s .«last_proof» .0 - 1 ≤ s .bottom .0 → s .bottom .0 ≡ lowOf s
   unfolding lowOf
   low-bottom l = omega arith
 

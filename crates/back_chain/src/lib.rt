@@ -149,7 +149,8 @@ fn lowest_walked(s: State) -> Round
     ensures { λ r. ⌜ r .0 ≡ lowOf s ⌝ }
 {
     let bottom = s.bottom;
-    let last = s.last_proof;
+    let proof = s.last_proof;
+    let last = proof.0;
     if last == 0 {
         return bottom;
     }

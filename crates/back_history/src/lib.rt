@@ -1,20 +1,13 @@
 // Origin: dag/commit/back.rs (gather_uncommitted). The history of one anchor: the points that it needs, by one sweep over the positions of
 // the order downwards, and those of them that are not committed, by rising position.
 ghost use mathlib.Core.Path.{_≡_};
-ghost use Prim.Native.Nat.{_+_, _*_, _-_, _<_, _≤_, max};
+ghost use Prim.Native.Nat.{_+_, _*_, _-_, _<_, _≤_};
 ghost use lib.ListN.{length};
 ghost use Rattle.laws.specs.Scan.{any, those};
 ghost use Rattle.back_history.specs.Sweep.{limitOf, missing, put, marked, wants, swept, marks, Range};
 ghost use Rattle.back_history.specs.Picked.{wantsAt, flatAt};
 use models::cert::Cert;
 use models::parts::Round;
-
-// The later of two rounds.
-pub fn later(a: Round, b: Round) -> Round
-    ensures { λ r. ⌜ r .0 ≡ max (a .0) (b .0) ⌝ }
-{
-    if a.0 < b.0 { b } else { a }
-}
 
 // The lowest round of the history of an anchor: H rounds below it, above genesis.
 pub fn history_limit(genesis: Round, rounds: u32, anchor: Round) -> Round
@@ -23,7 +16,7 @@ pub fn history_limit(genesis: Round, rounds: u32, anchor: Round) -> Round
 {
     let least = genesis.plus(1);
     let low = anchor.minus(rounds);
-    later(least, low)
+    least.max(low)
 }
 
 // Whether rounds of a history with this limit are missing that should be there.

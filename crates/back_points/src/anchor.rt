@@ -17,7 +17,6 @@ use crate::fault::round_at;
 use back_history::any_flat;
 use back_history::count_points;
 use back_history::history_limit;
-use back_history::later;
 use back_history::needed;
 use back_history::rounds_missing;
 use dag_state::state::State;
@@ -54,7 +53,7 @@ fn span_of(s: State, keys: &[u64], order: &[u64], round: Round) -> Span
     let genesis = s.genesis;
     let bottom = s.bottom;
     let limit = history_limit(genesis, s.history_rounds, round);
-    let lowest = later(limit, bottom);
+    let lowest = limit.max(bottom);
     let n = s.count;
     let low = dag_drain::cut(keys, order, n, lowest);
     let high = dag_drain::cut(keys, order, n, round.plus(1));

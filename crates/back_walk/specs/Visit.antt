@@ -32,7 +32,6 @@ use Rattle.dag_links.specs.Words.{proofRoundAt}
 use Rattle.dag_keys.specs.Key.{key, same-eq}
 use Rattle.dag_keys.specs.Sorted as sorted
 use Rattle.dag_ids.specs.Ids.{idHolds}
-use Rattle.dag_keys.specs.Id.{idFrom, from-fit, from-digest}
 use Rattle.dag_state.specs.View.{optionOf, pointAt, toldAt, givenAt, refsFrom, recordOf, roundOf}
 use Rattle.dag_state.specs.Numbers.{roundsHold}
 use Rattle.dag_state.specs.Reads.{window-in}

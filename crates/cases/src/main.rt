@@ -14,6 +14,7 @@ use dag_state::state::RoundRecord;
 use dag_state::state::State;
 use models::info::PointInfo;
 use models::parts::Digest;
+use models::parts::OptionRound;
 use models::parts::PointId;
 use models::parts::Round;
 use models::refusal::Refusal;
@@ -81,8 +82,8 @@ fn noise() -> State {
         deduplicate_rounds: 9,
         bottom: Round(9),
         top: Round(9),
-        last_proof: 9,
-        last_anchor: 9,
+        last_proof: OptionRound(9),
+        last_anchor: OptionRound(9),
         full_history_bottom: Round(9),
         first_executable: Round(9),
         gap: 9,

@@ -26,8 +26,8 @@ afterState s a p author = record {
   «deduplicate_rounds» = s .«deduplicate_rounds»;
   bottom = s .bottom;
   top = s .top;
-  «last_proof» = p + 1;
-  «last_anchor» = a + 1;
+  «last_proof» = record { 0 = p + 1 };
+  «last_anchor» = record { 0 = a + 1 };
   «full_history_bottom» = s .«full_history_bottom»;
   «first_executable» = s .«first_executable»;
   gap = cond (isFirstOf s a) 0 (s .gap);

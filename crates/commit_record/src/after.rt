@@ -9,6 +9,7 @@ use crate::record::is_first_executable;
 use back_history::is_wanted;
 use dag_state::state::State;
 use models::cert::Cert;
+use models::parts::OptionRound;
 use models::parts::Round;
 
 // Sets the committed bit of each point of the history.
@@ -36,8 +37,10 @@ pub fn after_anchor(s: State, anchor_round: Round, proof_round: Round, author: u
 {
     let first = is_first_executable(s, anchor_round);
     let mut next = s;
-    next.last_proof = proof_round.0 + 1;
-    next.last_anchor = anchor_round.0 + 1;
+    let last_proof = OptionRound(proof_round.0 + 1);
+    let last_anchor = OptionRound(anchor_round.0 + 1);
+    next.last_proof = last_proof;
+    next.last_anchor = last_anchor;
     let i = (proof_round.0 % 512) as usize;
     let mut rec = next.rounds[i];
     rec.used = author + 1;

@@ -1,7 +1,7 @@
 // Origin: dag/commit/mod.rs (is_once_after_gap, extend_from_ahead, drop_upto), dag/commit/back.rs (extend_from_front, drain_upto).
 // The gap question, a round added, rounds dropped.
 ghost use mathlib.Core.Path.{_≡_};
-ghost use Prim.Native.Nat.{_≤_, max, min};
+ghost use Prim.Native.Nat.{_≤_};
 ghost use mathlib.Core.List.{[]};
 ghost use Rattle.spec.specs.Calls as calls;
 ghost use Rattle.commit_answer.specs.Answer.{Did, board, left};
@@ -113,20 +113,6 @@ pub fn extend_from_ahead(
     }
 }
 
-// The lesser of two rounds.
-fn least(a: u32, b: u32) -> u32
-    ensures { λ r. ⌜ r ≡ min a b ⌝ }
-{
-    if a < b { a } else { b }
-}
-
-// The greater of two rounds.
-fn most(a: u32, b: u32) -> u32
-    ensures { λ r. ⌜ r ≡ max a b ⌝ }
-{
-    if a < b { b } else { a }
-}
-
 // Drops the rounds below, but for the top. Yes if all of the range is dropped.
 pub fn drop_upto(
     s: State,
@@ -145,14 +131,13 @@ pub fn drop_upto(
     let bottom = s.bottom;
     let top = s.top;
     let n = s.count;
-    let r = round.0;
-    let actual = least(r, top.0);
-    let lowest = most(bottom.0, actual);
-    let k = cut(keys, order, n, Round(lowest));
+    let actual = round.min(top);
+    let lowest = bottom.max(actual);
+    let k = cut(keys, order, n, lowest);
     drain_upto(keys, links, certs, order, n, k);
     let next = dropped(s, actual, lowest, n - k);
     Outcome {
-        answer: Answer::Said(actual == r),
+        answer: Answer::Said(actual.0 == round.0),
         state: next,
     }
 }

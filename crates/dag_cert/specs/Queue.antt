@@ -11,6 +11,7 @@ use lib.Seq.{getD-set-same, getD-set-other}
 use borrow.Author.Tests.{lt-ltb, le-ltb}
 use Rattle.laws.specs.Test.{byTest, clash, sameOr, leOr}
 use Rattle.laws.specs.Scan.{those, those-yes, those-most}
+use Rattle.models.specs.Cert.{withHeight}
 use Rattle.models.specs.Tables.{placeAt, Used, isUsed, used-is}
 use Rattle.dag_heights.specs.View.{heightAt}
 use Rattle.dag_test.specs.Count.{positions-fewer}
@@ -134,7 +135,7 @@ module _ (w : Work) (t v : ℕ) (room : w .tail < length (w .queue)) (new : Queu
 
   -- its own word
   pub queued-word : t < length (w .certs) → getD (queued w t v .certs) t 0 ≡ getD (w .certs) t 0 / 4096 * 4096 + v
-  unfolding queued
+  unfolding queued withHeight
   queued-word l = getD-set-same (w .certs) t _ 0 l
 
   -- the work goes on, if the height rises

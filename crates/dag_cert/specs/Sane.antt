@@ -8,6 +8,7 @@ use lib.ListN.{getD, length, length-set}
 use Rattle.laws.specs.Test.{sameOr, leOr}
 use Rattle.spec.specs.Paths.{Path, here}
 use Rattle.spec.specs.Graph.{Down, along, path-down, snoc}
+use Rattle.models.specs.Cert.{heightOf}
 use Rattle.models.specs.Tables.{roundAt, placeAt, Inside, Used, targetAt, dist}
 use Rattle.dag_heights.specs.View.{reach, heightAt}
 use Rattle.dag_heights.specs.Exact.{Leads, Falls}
@@ -134,13 +135,14 @@ module _ (b : ℕ) (ks ls cs os : List ℕ) (n q : ℕ) (r : Rooted b ks ls cs o
 
     -- the link is handed on
     deeper-after : After p w (deeper w a h (dist k)) h k
+    unfolding queued heightOf
     deeper-after =
         sameOr a 0
         (λ e. subst (λ v. After p w v h k) (deeper-none w a h (dist k) e) (s, grows-same w, λ t to. absurd (omega arith)))
         (λ e. leOr h (heightAt (w .certs) (a - 1) + dist k)
-        (λ l. subst (λ v. After p w v h k) (deeper-same w a h (dist k) e l)
+        (λ l. subst (λ v. After p w v h k) (deeper-same w a h (dist k) _ refl e l)
         (s, grows-same w, λ t to. let d : a - 1 ≡ t = omega arith in let m : h ≤ heightAt (w .certs) t + dist k = rw d at l in omega arith))
-        (λ l. subst (λ v. After p w v h k) (deeper-up w a h (dist k) e l) (raised e l)))
+        (λ l. subst (λ v. After p w v h k) (deeper-up w a h (dist k) _ _ refl refl e l) (raised e l)))
       where
         raised : (a ≡ 0 → ⊥) → heightAt (w .certs) (a - 1) + dist k < h → After p w (queued w (a - 1) (h - dist k)) h k
         raised e l =

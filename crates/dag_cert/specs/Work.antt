@@ -9,6 +9,7 @@ use lib.Dec.{eqb, ltb}
 use lib.ListN.{getD, set, length, length-set, replicate}
 use borrow.Author.Tests.{eq-eqb, ne-eqb, lt-ltb, le-ltb}
 use Rattle.laws.specs.Test.{byTest, sameOr}
+use Rattle.models.specs.Cert.{heightOf, withHeight}
 use Rattle.models.specs.Tables.{targetAt, dist}
 use Rattle.dag_heights.specs.View.{reach, heightAt}
 
@@ -24,7 +25,7 @@ work cs qs e = record { certs = cs; queue = qs; tail = e }
 
 -- place t has the height v, under the same flags, and is queued
 unfoldable pub queued : Work → ℕ → ℕ → Work
-queued w t v = work (set (w .certs) t (getD (w .certs) t 0 / 4096 * 4096 + v)) (set (w .queue) (w .tail) t) (w .tail + 1)
+queued w t v = work (set (w .certs) t (withHeight (getD (w .certs) t 0) v)) (set (w .queue) (w .tail) t) (w .tail + 1)
 
 -- a link with the target word a, d rounds down from a place of height h
 unfoldable pub deeper : Work → ℕ → ℕ → ℕ → Work
@@ -76,15 +77,16 @@ module _ (w : Work) (a h d : ℕ) where
   unfolding deeper
   deeper-none e = rw (eq-eqb a 0 e) refl
 
-  -- the place is lower
-  pub deeper-up : (a ≡ 0 → ⊥) → heightAt (w .certs) (a - 1) + d < h → queued w (a - 1) (h - d) ≡ deeper w a h d
-  unfolding deeper
-  deeper-up n l = rw (ne-eqb a 0 n, lt-ltb _ h l) refl
+  -- the place is lower: its height is g, its new word x
+  pub deeper-up : (g x : ℕ) → g ≡ heightOf (getD (w .certs) (a - 1) 0) → x ≡ withHeight (getD (w .certs) (a - 1) 0) (h - d) → (a ≡ 0 → ⊥) → g + d < h
+      → work (set (w .certs) (a - 1) x) (set (w .queue) (w .tail) (a - 1)) (w .tail + 1) ≡ deeper w a h d
+  unfolding deeper queued heightOf
+  deeper-up g x e f n l = rw (f, ne-eqb a 0 n, lt-ltb (heightAt (w .certs) (a - 1) + d) h (omega (arith, e))) refl
 
   -- it is not
-  pub deeper-same : (a ≡ 0 → ⊥) → h ≤ heightAt (w .certs) (a - 1) + d → w ≡ deeper w a h d
-  unfolding deeper
-  deeper-same n l = rw (ne-eqb a 0 n, le-ltb _ h l) refl
+  pub deeper-same : (g : ℕ) → g ≡ heightOf (getD (w .certs) (a - 1) 0) → (a ≡ 0 → ⊥) → h ≤ g + d → w ≡ deeper w a h d
+  unfolding deeper heightOf
+  deeper-same g e n l = rw (ne-eqb a 0 n, le-ltb (heightAt (w .certs) (a - 1) + d) h (omega (arith, e))) refl
 
   -- as many words as before
   deeper-length : (length (deeper w a h d .certs) ≡ length (w .certs)) × (length (deeper w a h d .queue) ≡ length (w .queue))
@@ -97,15 +99,17 @@ module _ (w : Work) (a h d : ℕ) where
       (λ t. rw (f, t) (refl, refl)))
 
 -- link k of place p, where all links fit
-pub open-at : (ls : List ℕ) (w u : Work) (p m k : ℕ) → Open ls w p m → u ≡ handed (targetAt ls p) (heightAt (w .certs) p) w k → k < m → Fits u (targetAt ls p k) (heightAt (w .certs) p) (dist k)
-open-at ls w u p m k o e l = subst (λ v. Fits v (targetAt ls p k) (heightAt (w .certs) p) (dist k)) (sym e) (o k l)
+pub open-at : (ls : List ℕ) (w u : Work) (p m k h : ℕ) → Open ls w p m → u ≡ handed (targetAt ls p) (heightAt (w .certs) p) w k → h ≡ heightOf (getD (w .certs) p 0) → k < m
+    → Fits u (targetAt ls p k) h (dist k)
+unfolding heightOf
+open-at ls w u p m k h o e f l = rw f (subst (λ v. Fits v (targetAt ls p k) (heightAt (w .certs) p) (dist k)) (sym e) (o k l))
 
 -- the links of a place
 module _ (a : ℕ → ℕ) (h : ℕ) (w : Work) where
   -- one link more
-  pub handed-more : (u v : Work) (k d : ℕ) → u ≡ handed a h w k → d ≡ dist k → v ≡ deeper u (a k) h d → v ≡ handed a h w (k + 1)
+  pub handed-more : (u v : Work) (k d g : ℕ) → u ≡ handed a h w k → d ≡ dist k → g ≡ h → v ≡ deeper u (a k) g d → v ≡ handed a h w (k + 1)
   unfolding handed
-  handed-more u v k d p e q = rw (add-one k) (q ∙ rw (p, e) refl)
+  handed-more u v k d g p e f q = rw (add-one k) (q ∙ rw (p, e, f) refl)
 
   -- all m links
   pub handed-end : (u : Work) (k m : ℕ) → u ≡ handed a h w k → k ≤ m → m ≤ k → u ≡ handed a h w m

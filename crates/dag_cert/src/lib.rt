@@ -7,6 +7,8 @@ ghost use Rattle.models.specs.Tables.{targetAt};
 ghost use Rattle.dag_heights.specs.View.{heightAt};
 ghost use Rattle.dag_cert.specs.Work.{work, deeper, Fits, handed, Open, Ready, settled, traversed};
 ghost use Rattle.dag_cert.specs.Sane.{Placed};
+use models::cert::Cert;
+use models::parts::Height;
 use models::parts::Round;
 
 // A link with the target word `target`, d rounds down from a place of height h: its target rises to h - d if it is lower, and is
@@ -16,20 +18,22 @@ fn certify_deeper(
     queue: &mut [u16],
     tail: usize,
     target: u64,
-    h: u64,
-    d: u64,
+    h: Height,
+    d: u16,
 ) -> usize
-    requires { ⌜ (length (now queue) ≡ 4096) × (h < 4096) × (d ≤ 2) × (length (now certs) ≤ 4096) ⌝ }
-    requires { ⌜ Fits (work (now certs) (now queue) tail) target h d ⌝ }
-    ensures { λ r. ⌜ work (now (certs .exit)) (now (queue .exit)) r ≡ deeper (work (now (certs .entry)) (now (queue .entry)) tail) target h d ⌝ }
+    requires { ⌜ (length (now queue) ≡ 4096) × (h .0 < 4096) × (d ≤ 2) × (length (now certs) ≤ 4096) ⌝ }
+    requires { ⌜ Fits (work (now certs) (now queue) tail) target (h .0) d ⌝ }
+    ensures { λ r. ⌜ work (now (certs .exit)) (now (queue .exit)) r ≡ deeper (work (now (certs .entry)) (now (queue .entry)) tail) target (h .0) d ⌝ }
 {
     if target == 0 {
         return tail;
     }
     let t = (target - 1) as usize;
-    let c = certs[t];
-    if c % 4096 + d < h {
-        certs[t] = c / 4096 * 4096 + (h - d);
+    let cert = Cert(certs[t]);
+    let height = cert.height();
+    if height.0 + d < h.0 {
+        let higher = cert.with_height(Height(h.0 - d));
+        certs[t] = higher.0;
         queue[tail] = (target - 1) as u16;
         return tail + 1;
     }
@@ -49,12 +53,13 @@ fn certify_deps(
     requires { ⌜ Open (now links) (work (now certs) (now queue) tail) p m ⌝ }
     ensures { λ r. ⌜ work (now (certs .exit)) (now (queue .exit)) r ≡ handed (targetAt (now (links .entry)) p) (heightAt (now (certs .entry)) p) (work (now (certs .entry)) (now (queue .entry)) tail) m ⌝ }
 {
-    let h = certs[p] % 4096;
+    let cert = Cert(certs[p]);
+    let h = cert.height();
     let mut end = tail;
     let mut k: usize = 0;
     while k < m {
         let target = links[p * 328 + 8 + k];
-        let d = (1 + k / 32) as u64;
+        let d = (1 + k / 32) as u16;
         end = certify_deeper(certs, queue, end, target, h, d);
         k += 1;
     }

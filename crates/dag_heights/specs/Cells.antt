@@ -83,9 +83,9 @@ module _ (a : ℕ → ℕ) (h : List ℕ) (p o v m : ℕ) where
       (λ y. inr (inr y))
       (pushed-met a (raised h p o) v m j)
 
-module _ (b H : ℕ) (ks ls cs os h : List ℕ) where
+module _ (b T : ℕ) (ks ls cs os h : List ℕ) where
   abbrev all : ℕ → List ℕ
-  all i = pushedAll b H ks ls cs os h i
+  all i = pushedAll b T ks ls cs os h i
 
   all-keeps : (n i j : ℕ) → i ≤ n → getD (all i) j 0 ≤ getD (all n) j 0
   unfolding pushedAll
@@ -96,10 +96,10 @@ module _ (b H : ℕ) (ks ls cs os h : List ℕ) where
       (λ e. let g : getD (all n) j 0 ≤ getD (all (suc n)) j 0 = one-keeps _ (all n) _ _ _ _ j in omega (arith, all-keeps n i j (omega arith)))
 
   -- a used place's own height is in its cell
-  pub all-own : (n i : ℕ) → i < n → placeAt os i + 1 < length h → ownAt H cs (placeAt os i) ≤ getD (all n) (placeAt os i + 1) 0
+  pub all-own : (n i : ℕ) → i < n → placeAt os i + 1 < length h → ownAt T cs (placeAt os i) ≤ getD (all n) (placeAt os i + 1) 0
   unfolding pushedAll
   all-own n i l s =
-      let g : ownAt H cs (placeAt os i) ≤ getD (all (suc i)) (placeAt os i + 1) 0 = one-own _ (all i) _ _ _ _ (omega (arith, all-length b H ks ls cs os h i)) in
+      let g : ownAt T cs (placeAt os i) ≤ getD (all (suc i)) (placeAt os i + 1) 0 = one-own _ (all i) _ _ _ _ (omega (arith, all-length b T ks ls cs os h i)) in
       omega (arith, all-keeps n (suc i) (placeAt os i + 1) (omega arith))
 
   -- and what its live links hand on is in theirs
@@ -108,13 +108,13 @@ module _ (b H : ℕ) (ks ls cs os h : List ℕ) where
   unfolding pushedAll
   all-gets n i k l m s =
       let j : ℕ = targetAt ls (placeAt os i) k in
-      let g : heightAt cs (placeAt os i) - dist k ≤ getD (all (suc i)) j 0 = one-gets (targetAt ls (placeAt os i)) (all i) _ _ _ _ k m (omega (arith, all-length b H ks ls cs os h i)) in
+      let g : heightAt cs (placeAt os i) - dist k ≤ getD (all (suc i)) j 0 = one-gets (targetAt ls (placeAt os i)) (all i) _ _ _ _ k m (omega (arith, all-length b T ks ls cs os h i)) in
       omega (arith, all-keeps n (suc i) j (omega arith))
 
   -- x is what the cell j held, a place's own height, or what a live link handed on
   abbrev pub Given : ℕ → ℕ → ℕ → Type 0
   Given n j x =
-      (x ≡ getD h j 0) ⊎ ((i : ℕ) × (i < n) × (placeAt os i + 1 ≡ j) × (x ≡ ownAt H cs (placeAt os i)))
+      (x ≡ getD h j 0) ⊎ ((i : ℕ) × (i < n) × (placeAt os i + 1 ≡ j) × (x ≡ ownAt T cs (placeAt os i)))
       ⊎ ((i : ℕ) × (k : ℕ) × (i < n) × (k < reach b ks (placeAt os i)) × (targetAt ls (placeAt os i) k ≡ j) × (x ≡ heightAt cs (placeAt os i) - dist k))
 
   pub all-met : (n j : ℕ) → Given n j (getD (all n) j 0)
@@ -128,7 +128,7 @@ module _ (b H : ℕ) (ks ls cs os h : List ℕ) where
       x : ℕ
       x = getD (all (suc n)) j 0
 
-      go : (x ≡ getD (all n) j 0) ⊎ ((q + 1 ≡ j) × (x ≡ ownAt H cs q)) ⊎ ((k : ℕ) × (k < reach b ks q) × (targetAt ls q k ≡ j) × (x ≡ heightAt cs q - dist k))
+      go : (x ≡ getD (all n) j 0) ⊎ ((q + 1 ≡ j) × (x ≡ ownAt T cs q)) ⊎ ((k : ℕ) × (k < reach b ks q) × (targetAt ls q k ≡ j) × (x ≡ heightAt cs q - dist k))
           → Given n j (getD (all n) j 0) → Given (suc n) j x
       go (inl e) (inl z) = inl (e ∙ z)
       go (inl e) (inr (inl (i, l, t, z))) = inr (inl (i, omega arith, t, e ∙ z))

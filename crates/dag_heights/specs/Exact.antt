@@ -73,7 +73,7 @@ module _ (b H : ℕ) (ks ls cs os : List ℕ) (n : ℕ) (small : length os ≤ 4
   h = stored cs os n
 
   abbrev cell : ℕ → ℕ
-  cell j = getD (pushedAll b H ks ls cs os blank n) j 0
+  cell j = getD (pushedAll b (H + 1) ks ls cs os blank n) j 0
 
   abbrev L : Type 0
   L = Local E (roundAt ks) T H h
@@ -96,9 +96,9 @@ module _ (b H : ℕ) (ks ls cs os : List ℕ) (n : ℕ) (small : length os ≤ 4
   same-drop : (q p : ℕ) → (e : E q p) → roundAt ks q - roundAt ks p ≡ dist (e .which)
   same-drop q p e = omega (arith, lands q p e .1)
 
-  gets-own : (p : ℕ) → Used os n p → ownAt H cs p ≤ cell (p + 1)
+  gets-own : (p : ℕ) → Used os n p → ownAt (H + 1) cs p ≤ cell (p + 1)
   gets-own p (i, l, e) =
-      subst (λ q. ownAt H cs q ≤ cell (q + 1)) e (all-own b H ks ls cs os blank n i l (omega (arith, blank-length, inside i l)))
+      subst (λ q. ownAt (H + 1) cs q ≤ cell (q + 1)) e (all-own b (H + 1) ks ls cs os blank n i l (omega (arith, blank-length, inside i l)))
 
   gets-link : (q p : ℕ) → (e : E q p) → heightAt cs q - dist (e .which) ≤ cell (p + 1)
   gets-link q p e = go (e .from)
@@ -108,14 +108,14 @@ module _ (b H : ℕ) (ks ls cs os : List ℕ) (n : ℕ) (small : length os ≤ 4
           let t : targetAt ls q (e .which) ≡ p + 1 = omega (arith, e .to) in
           subst (λ j. heightAt cs q - dist (e .which) ≤ cell j) t
           (subst (λ x. (e .which < reach b ks x) → targetAt ls x (e .which) < length blank → heightAt cs x - dist (e .which) ≤ cell (targetAt ls x (e .which))) d
-          (all-gets b H ks ls cs os blank n i (e .which) l) (e .live) (omega (arith, blank-length, low p (lands q p e .0))))
+          (all-gets b (H + 1) ks ls cs os blank n i (e .which) l) (e .live) (omega (arith, blank-length, low p (lands q p e .0))))
 
   -- the cells agree with the stored heights
   abbrev Agree : Type 0
   Agree = (p : ℕ) → Used os n p → cell (p + 1) ≡ heightAt cs p
 
   abbrev G : ℕ → Type 0
-  G p = Given b H ks ls cs os blank n (p + 1) (cell (p + 1))
+  G p = Given b (H + 1) ks ls cs os blank n (p + 1) (cell (p + 1))
 
   -- no height is above H + 1: it came from a higher one, and none is above 4095
   capped : ((p : ℕ) → W p) → (k p : ℕ) → 4096 ≤ h p + k → h p ≤ suc H
@@ -130,16 +130,16 @@ module _ (b H : ℕ) (ks ls cs os : List ℕ) (n : ℕ) (small : length os ≤ 4
   agree→local : Agree → L
   agree→local a = record {
     cap = λ p. capped why 4096 p (omega arith);
-    own = λ p (u, t). omega (arith, own-top H (getD cs p 0) (eqb-true _ 1 t), gets-own p u, a p u, is p u);
+    own = λ p (u, t). omega (arith, own-top (H + 1) (getD cs p 0) t, gets-own p u, a p u, is p u);
     from = λ q p e. omega (arith, same-drop q p e, gets-link q p e, a p (lands q p e .0), is q (e .from), is p (lands q p e .0));
     why = why;
   }
     where
-      by-top : (p : ℕ) → Used os n p → cell (p + 1) ≡ ownAt H cs p → W p
+      by-top : (p : ℕ) → Used os n p → cell (p + 1) ≡ ownAt (H + 1) cs p → W p
       by-top p u e =
           byTest (topAt cs p)
-          (λ t. self (u, t) (omega (arith, own-top H (getD cs p 0) (eqb-true _ 1 t), a p u, is p u)))
-          (λ f. none (omega (arith, own-none H (getD cs p 0) (eqb-false _ 1 f), a p u, is p u)))
+          (λ t. self (u, t) (omega (arith, own-top (H + 1) (getD cs p 0) t, a p u, is p u)))
+          (λ f. none (omega (arith, own-none (H + 1) (getD cs p 0) f, a p u, is p u)))
 
       given : (p : ℕ) → Used os n p → G p → W p
       given p u (inl z) = none (omega (arith, a p u, is p u, low p u, blank-at (p + 1) (omega (arith, low p u))))
@@ -150,21 +150,21 @@ module _ (b H : ℕ) (ks ls cs os : List ℕ) (n : ℕ) (small : length os ≤ 4
           link (placeAt os i) e (omega (arith, same-drop (placeAt os i) p e, a p u, is p u, is (placeAt os i) v))
 
       why : (p : ℕ) → W p
-      why p = usedOr cs os n p (λ u. given p u (all-met b H ks ls cs os blank n (p + 1))) (λ u z. none z)
+      why p = usedOr cs os n p (λ u. given p u (all-met b (H + 1) ks ls cs os blank n (p + 1))) (λ u z. none z)
 
   local→agree : L → Agree
-  local→agree w p u = le-antisymm (most (all-met b H ks ls cs os blank n (p + 1))) (least (w .why p))
+  local→agree w p u = le-antisymm (most (all-met b (H + 1) ks ls cs os blank n (p + 1))) (least (w .why p))
     where
-      own-le : ownAt H cs p ≤ heightAt cs p
+      own-le : ownAt (H + 1) cs p ≤ heightAt cs p
       own-le =
           byTest (topAt cs p)
-          (λ t. omega (arith, own-top H (getD cs p 0) (eqb-true _ 1 t), w .own p (u, t), is p u))
-          (λ f. omega (arith, own-none H (getD cs p 0) (eqb-false _ 1 f)))
+          (λ t. omega (arith, own-top (H + 1) (getD cs p 0) t, w .own p (u, t), is p u))
+          (λ f. omega (arith, own-none (H + 1) (getD cs p 0) f))
 
       most : G p → cell (p + 1) ≤ heightAt cs p
       most (inl z) = omega (arith, blank-at (p + 1) (omega (arith, low p u)))
       most (inr (inl (i, l, t, z))) =
-          let e : placeAt os i ≡ p = omega arith in let y : cell (p + 1) ≡ ownAt H cs p = rw e at z in omega (arith, own-le)
+          let e : placeAt os i ≡ p = omega arith in let y : cell (p + 1) ≡ ownAt (H + 1) cs p = rw e at z in omega (arith, own-le)
       most (inr (inr (i, k, l, m, t, z))) =
           let v : Used os n (placeAt os i) = (i, l, refl) in
           let e : E (placeAt os i) p = record { from = v; which = k; live = m; to = omega arith } in
@@ -172,7 +172,7 @@ module _ (b H : ℕ) (ks ls cs os : List ℕ) (n : ℕ) (small : length os ≤ 4
 
       least : W p → heightAt cs p ≤ cell (p + 1)
       least (none z) = omega (arith, is p u)
-      least (self (v, t) z) = omega (arith, own-top H (getD cs p 0) (eqb-true _ 1 t), gets-own p u, is p u)
+      least (self (v, t) z) = omega (arith, own-top (H + 1) (getD cs p 0) t, gets-own p u, is p u)
       least (link q e z) = omega (arith, same-drop q p e, gets-link q p e, is p u, is q (e .from))
 
   -- only used places are reached
@@ -187,7 +187,7 @@ module _ (b H : ℕ) (ks ls cs os : List ℕ) (n : ℕ) (small : length os ≤ 4
       (λ u z. record { bound = λ t to w. absurd (u (reached w (to .0))); met = inl z })
 
   -- sound: where the test holds the heights are those by paths
-  pub heights-sound : heightsHold b H ks ls cs os n ≡ true → Heights b H ks ls cs os n
+  pub heights-sound : heightsHold b (H + 1) ks ls cs os n ≡ true → Heights b H ks ls cs os n
   unfolding heightsHold agrees
   heights-sound t p u =
       rw (is p u) at (local→paths E (roundAt ks) down T H h (agree→local agree) p)
@@ -196,7 +196,7 @@ module _ (b H : ℕ) (ks ls cs os : List ℕ) (n : ℕ) (small : length os ≤ 4
       agree p (i, l, e) = rw e at (eqb-true (cell (placeAt os i + 1)) (heightAt cs (placeAt os i)) (every-elim n _ t i l))
 
   -- and complete: where they are, the test holds
-  pub heights-complete : Heights b H ks ls cs os n → heightsHold b H ks ls cs os n ≡ true
+  pub heights-complete : Heights b H ks ls cs os n → heightsHold b (H + 1) ks ls cs os n ≡ true
   unfolding heightsHold agrees
   heights-complete i =
       let a : Agree = local→agree (paths→local E (roundAt ks) down T H h (heights-all i)) in

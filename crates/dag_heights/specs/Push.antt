@@ -1,7 +1,7 @@
 -- What the code does (models/cert.rs). Cell p + 1 is the place p's; cell 0 takes what no link hands on.
 use Prim.Native.Nat.{ℕ, zero, suc, _+_, _-_, _≤_, _<_, max}
 use mathlib.Core.Path.{_≡_, refl, sym, _∙_}
-use mathlib.Core.Bool.{Bool}
+use mathlib.Core.Bool.{Bool, true, false}
 use mathlib.Core.List.{List}
 use native.Mathlib.Numerals.{add-one}
 use native.Mathlib.Nat.{max-eq-left, max-eq-right, le-of-lt}
@@ -9,8 +9,10 @@ use native.Mathlib.Omega.{arith}
 use lib.Dec.{eqb}
 use lib.ListN.{getD, set, length, length-set, replicate}
 use lib.Seq.{set-getD, set-out}
+use borrow.Author.Tests.{eq-eqb, ne-eqb}
 use Rattle.laws.specs.Scan.{every}
 use Rattle.dag_heights.specs.View.{reach, heightAt, ownAt}
+use Rattle.models.specs.Cert.{heightOf}
 use Rattle.models.specs.Tables.{placeAt, targetAt, dist}
 
 -- cell p is raised to v
@@ -28,9 +30,9 @@ pushedOne a h p o v m = pushed a (raised h p o) v m
 
 -- the first i places of the order
 unfoldable pub pushedAll : ℕ → ℕ → List ℕ → List ℕ → List ℕ → List ℕ → List ℕ → ℕ → List ℕ
-pushedAll b H ks ls cs os h zero = h
-pushedAll b H ks ls cs os h (suc i) =
-    let q = placeAt os i in pushedOne (targetAt ls q) (pushedAll b H ks ls cs os h i) (q + 1) (ownAt H cs q) (heightAt cs q) (reach b ks q)
+pushedAll b T ks ls cs os h zero = h
+pushedAll b T ks ls cs os h (suc i) =
+    let q = placeAt os i in pushedOne (targetAt ls q) (pushedAll b T ks ls cs os h i) (q + 1) (ownAt T cs q) (heightAt cs q) (reach b ks q)
 
 -- the cell of the place q holds its stored height
 abbrev pub agreesAt : List ℕ → List ℕ → ℕ → Bool
@@ -39,13 +41,22 @@ agreesAt l cs q = eqb (getD l (q + 1) 0) (heightAt cs q)
 unfoldable pub agrees : List ℕ → List ℕ → List ℕ → ℕ → Bool
 agrees l cs os n = every n (λ i. agreesAt l cs (placeAt os i))
 
+module _ (l cs : List ℕ) (q h : ℕ) (is : h ≡ heightOf (getD cs q 0)) where
+  pub agrees-yes : getD l (q + 1) 0 ≡ h → agreesAt l cs q ≡ true
+  unfolding heightOf
+  agrees-yes e = eq-eqb _ _ (e ∙ is)
+
+  pub agrees-no : (getD l (q + 1) 0 ≡ h → ⊥) → agreesAt l cs q ≡ false
+  unfolding heightOf
+  agrees-no e = ne-eqb _ _ (λ d. e (d ∙ sym is))
+
 -- the cells at first
 unfoldable pub blank : List ℕ
 blank = replicate 4097 0
 
 -- the test that the code makes
 unfoldable pub heightsHold : ℕ → ℕ → List ℕ → List ℕ → List ℕ → List ℕ → ℕ → Bool
-heightsHold b H ks ls cs os n = agrees (pushedAll b H ks ls cs os blank n) cs os n
+heightsHold b T ks ls cs os n = agrees (pushedAll b T ks ls cs os blank n) cs os n
 
 -- the code's steps
 pub raised-up : (h : List ℕ) (p v : ℕ) → getD h p 0 < v → raised h p v ≡ set h p v
@@ -73,22 +84,22 @@ unfolding pushed
 pushed-low a h v zero l = refl
 pushed-low a h v (suc k) l = pushed-low a h v k l ∙ sym (raised-same (pushed a h v k) (a k) (v - dist k) (let e : v - dist k ≡ 0 = omega arith in rw e (omega arith)))
 
-pub one-more : (a : ℕ → ℕ) (h s r : List ℕ) (p x o v m : ℕ) → s ≡ raised h p x → x ≡ o → r ≡ pushed a s v m → r ≡ pushedOne a h p o v m
+pub one-more : (a : ℕ → ℕ) (h s r : List ℕ) (p x o y v m : ℕ) → s ≡ raised h p x → x ≡ o → r ≡ pushed a s y m → y ≡ v → r ≡ pushedOne a h p o v m
 unfolding pushedOne
-one-more a h s r p x o v m t e u = u ∙ rw (t, e) refl
+one-more a h s r p x o y v m t e u f = u ∙ rw (t, e, f) refl
 
-module _ (b H : ℕ) (ks ls cs os h : List ℕ) where
-  pub all-more : (g r : List ℕ) (i q m : ℕ) → g ≡ pushedAll b H ks ls cs os h i → q ≡ placeAt os i → m ≡ reach b ks q
-      → r ≡ pushedOne (targetAt ls q) g (q + 1) (ownAt H cs q) (heightAt cs q) m → r ≡ pushedAll b H ks ls cs os h (i + 1)
+module _ (b T : ℕ) (ks ls cs os h : List ℕ) where
+  pub all-more : (g r : List ℕ) (i q m : ℕ) → g ≡ pushedAll b T ks ls cs os h i → q ≡ placeAt os i → m ≡ reach b ks q
+      → r ≡ pushedOne (targetAt ls q) g (q + 1) (ownAt T cs q) (heightAt cs q) m → r ≡ pushedAll b T ks ls cs os h (i + 1)
   unfolding pushedAll
   all-more g r i q m p e f u = rw (add-one i) (u ∙ rw (p, f, e) refl)
 
-  pub all-end : (g : List ℕ) (i n : ℕ) → g ≡ pushedAll b H ks ls cs os h i → i ≤ n → n ≤ i → g ≡ pushedAll b H ks ls cs os h n
+  pub all-end : (g : List ℕ) (i n : ℕ) → g ≡ pushedAll b T ks ls cs os h i → i ≤ n → n ≤ i → g ≡ pushedAll b T ks ls cs os h n
   all-end g i n p l m = let e : i ≡ n = omega arith in rw e at p
 
-pub hold-by : (b H : ℕ) (ks ls cs os l : List ℕ) (n : ℕ) (r : Bool) → l ≡ pushedAll b H ks ls cs os blank n → r ≡ agrees l cs os n → r ≡ heightsHold b H ks ls cs os n
+pub hold-by : (b T : ℕ) (ks ls cs os l : List ℕ) (n : ℕ) (r : Bool) → l ≡ pushedAll b T ks ls cs os blank n → r ≡ agrees l cs os n → r ≡ heightsHold b T ks ls cs os n
 unfolding heightsHold
-hold-by b H ks ls cs os l n r e p = p ∙ rw e
+hold-by b T ks ls cs os l n r e p = p ∙ rw e
 
 -- lengths
 pub raised-length : (h : List ℕ) (p v : ℕ) → length (raised h p v) ≡ length h
@@ -104,7 +115,7 @@ pub one-length : (a : ℕ → ℕ) (h : List ℕ) (p o v m : ℕ) → length (pu
 unfolding pushedOne
 one-length a h p o v m = pushed-length a (raised h p o) v m ∙ raised-length h p o
 
-pub all-length : (b H : ℕ) (ks ls cs os h : List ℕ) (i : ℕ) → length (pushedAll b H ks ls cs os h i) ≡ length h
+pub all-length : (b T : ℕ) (ks ls cs os h : List ℕ) (i : ℕ) → length (pushedAll b T ks ls cs os h i) ≡ length h
 unfolding pushedAll
-all-length b H ks ls cs os h zero = refl
-all-length b H ks ls cs os h (suc i) = one-length _ (pushedAll b H ks ls cs os h i) _ _ _ _ ∙ all-length b H ks ls cs os h i
+all-length b T ks ls cs os h zero = refl
+all-length b T ks ls cs os h (suc i) = one-length _ (pushedAll b T ks ls cs os h i) _ _ _ _ ∙ all-length b T ks ls cs os h i

@@ -2,16 +2,17 @@
 -- links, 328 words a place: evidence, round, author and digest (four) of the top proof, one unused, then 64 target words (0 for no link,
 -- else 1 + the place that it leads to), then four words of digest for each link. Link k is under the peer k % 32 and leads 1 + k / 32
 -- rounds down. certs, 1 word a place: top 0x8000, started 0x4000, completed 0x2000, committed 0x1000, height in the low 12 bits.
-use Prim.Native.Nat.{ℕ, _+_, _/_, _%_, _≤_, _<_}
+use Prim.Native.Nat.{ℕ, _+_, _%_, _≤_, _<_}
 use mathlib.Core.Path.{_≡_, refl}
 use mathlib.Core.Logic.{_↔_}
 use mathlib.Core.List.{List}
-use mathlib.Core.Bool.{Bool, cond}
+use mathlib.Core.Bool.{Bool, true, false, cond}
 use lib.ListN.{getD}
 use lib.Dec.{eqb, ltb}
 use native.Mathlib.Omega.{arith}
 use borrow.Author.Tests.{eq-eqb, ne-eqb, lt-ltb, le-ltb}
 use Rattle.laws.specs.Test.{sameOr, leOr}
+use Rattle.models.specs.Cert.{bitOf}
 use Rattle.models.specs.Tables.{roundAt, statusAt, dist}
 
 -- how many links of a point of round r lead into rounds from b up: none, includes only, or all
@@ -27,17 +28,17 @@ heightAt cs q = getD cs q 0 % 4096
 
 -- the top bit
 abbrev pub topOf : ℕ → Bool
-topOf c = eqb (c / 32768 % 2) 1
+topOf c = bitOf 0x8000 c
 
 abbrev pub topAt : List ℕ → ℕ → Bool
 topAt cs q = topOf (getD cs q 0)
 
--- what a place has by its own word
+-- what a place has by its own word, T if it is a top
 unfoldable pub ownOf : ℕ → ℕ → ℕ
-ownOf H c = cond (topOf c) (H + 1) 0
+ownOf T c = cond (topOf c) T 0
 
 abbrev pub ownAt : ℕ → List ℕ → ℕ → ℕ
-ownAt H cs q = ownOf H (getD cs q 0)
+ownAt T cs q = ownOf T (getD cs q 0)
 
 -- the cases of reach
 module _ (b : ℕ) (ks : List ℕ) (q : ℕ) where
@@ -71,10 +72,10 @@ module _ (b : ℕ) (ks : List ℕ) (q : ℕ) where
       (λ t. let e : reach b ks q ≡ 32 = reach-includes s r t in ((λ l. (omega arith, omega arith, omega arith)), λ l. omega arith)))
       (λ r. ((λ l. absurd (omega (arith, reach-none s r))), λ l. absurd (omega arith))))
 
-pub own-top : (H c : ℕ) → c / 32768 % 2 ≡ 1 → ownOf H c ≡ H + 1
+pub own-top : (T c : ℕ) → topOf c ≡ true → ownOf T c ≡ T
 unfolding ownOf
-own-top H c e = rw (eq-eqb (c / 32768 % 2) 1 e) refl
+own-top T c e = rw e refl
 
-pub own-none : (H c : ℕ) → (c / 32768 % 2 ≡ 1 → ⊥) → ownOf H c ≡ 0
+pub own-none : (T c : ℕ) → topOf c ≡ false → ownOf T c ≡ 0
 unfolding ownOf
-own-none H c e = rw (ne-eqb (c / 32768 % 2) 1 e) refl
+own-none T c e = rw e refl

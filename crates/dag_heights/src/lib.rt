@@ -4,33 +4,37 @@ ghost use Prim.Native.Nat.{_+_, _*_, _-_, _/_, _%_, _<_, _≤_};
 ghost use lib.ListN.{length};
 ghost use Rattle.dag_heights.specs.View.{reach, ownOf};
 ghost use Rattle.dag_heights.specs.Push.{raised, pushed, pushedOne, pushedAll, agrees, heightsHold};
+ghost use Rattle.models.specs.Cert.{heightOf};
 ghost use Rattle.models.specs.Tables.{Inside, targetAt};
+use models::cert::Cert;
+use models::parts::Height;
 use models::parts::Round;
 
 // Raises cell p to v; a p that is no cell is passed over.
-fn raise(cells: &mut [u16], p: u64, v: u16)
-    ensures { λ _. ⌜ now (cells .exit) ≡ raised (now (cells .entry)) p v ⌝ }
+fn raise(cells: &mut [u16], p: u64, v: Height)
+    ensures { λ _. ⌜ now (cells .exit) ≡ raised (now (cells .entry)) p (v .0) ⌝ }
 {
     let i = p as usize;
     if i < cells.len() {
-        if cells[i] < v {
-            cells[i] = v;
+        if cells[i] < v.0 {
+            cells[i] = v.0;
         }
     }
 }
 
-fn less(v: u16, d: u16) -> u16
-    ensures { λ r. ⌜ r ≡ v - d ⌝ }
+// The height d rounds down.
+fn less(v: Height, d: u16) -> Height
+    ensures { λ r. ⌜ r .0 ≡ v .0 - d ⌝ }
 {
-    if d <= v { v - d } else { 0 }
+    if d <= v.0 { Height(v.0 - d) } else { Height(0) }
 }
 
 // Hands the height v of place q down its first m links; a height below 2 reaches no place, and then no link is read.
-fn push(cells: &mut [u16], links: &[u64], q: usize, v: u16, m: usize)
+fn push(cells: &mut [u16], links: &[u64], q: usize, v: Height, m: usize)
     requires { ⌜ (m ≤ 64) × (q * 328 + 328 ≤ length (now links)) ⌝ }
-    ensures { λ _. ⌜ now (cells .exit) ≡ pushed (targetAt (now (links .entry)) q) (now (cells .entry)) v m ⌝ }
+    ensures { λ _. ⌜ now (cells .exit) ≡ pushed (targetAt (now (links .entry)) q) (now (cells .entry)) (v .0) m ⌝ }
 {
-    if v < 2 {
+    if v.0 < 2 {
         return;
     }
     let mut k: usize = 0;
@@ -61,28 +65,23 @@ pub fn live(keys: &[u64], bottom: Round, q: usize) -> usize
     64
 }
 
-// H + 1 for a top, else 0.
-fn own(cert: u64, h: u64) -> u16
-    requires { ⌜ h ≤ 255 ⌝ }
-    ensures { λ r. ⌜ r ≡ ownOf h cert ⌝ }
+// The height of a top for a top, else 0.
+fn own(cert: Cert, top: Height) -> Height
+    ensures { λ r. ⌜ r .0 ≡ ownOf (top .0) (cert .0) ⌝ }
 {
-    if cert / 32768 % 2 == 1 {
-        (h + 1) as u16
-    } else {
-        0
-    }
+    if cert.is_top() { top } else { Height(0) }
 }
 
-// Place q with the certificate word c: its own height, then its m live links.
-fn push_one(cells: &mut [u16], links: &[u64], q: usize, c: u64, h: u64, m: usize)
-    requires { ⌜ (m ≤ 64) × (q * 328 + 328 ≤ length (now links)) × (h ≤ 255) ⌝ }
-    ensures { λ _. ⌜ now (cells .exit) ≡ pushedOne (targetAt (now (links .entry)) q) (now (cells .entry)) (q + 1) (ownOf h c) (c % 4096) m ⌝ }
+// Place q with its certificate word: its own height, then its m live links.
+fn push_one(cells: &mut [u16], links: &[u64], q: usize, cert: Cert, top: Height, m: usize)
+    requires { ⌜ (m ≤ 64) × (q * 328 + 328 ≤ length (now links)) ⌝ }
+    ensures { λ _. ⌜ now (cells .exit) ≡ pushedOne (targetAt (now (links .entry)) q) (now (cells .entry)) (q + 1) (ownOf (top .0) (cert .0)) (heightOf (cert .0)) m ⌝ }
 {
-    raise(cells, (q + 1) as u64, own(c, h));
-    push(cells, links, q, (c % 4096) as u16, m);
+    raise(cells, (q + 1) as u64, own(cert, top));
+    push(cells, links, q, cert.height(), m);
 }
 
-// The first n places of the order.
+// The first n places of the order; tops have the height `top`.
 fn push_all(
     cells: &mut [u16],
     keys: &[u64],
@@ -91,17 +90,17 @@ fn push_all(
     order: &[u64],
     n: usize,
     bottom: Round,
-    h: u64,
+    top: Height,
 )
-    requires { ⌜ (length (now order) ≤ 4096) × (length (now keys) ≡ length (now order) * 8) × (length (now links) ≡ length (now order) * 328) × (length (now certs) ≡ length (now order)) × (n ≤ length (now order)) × (h ≤ 255) ⌝ }
+    requires { ⌜ (length (now order) ≤ 4096) × (length (now keys) ≡ length (now order) * 8) × (length (now links) ≡ length (now order) * 328) × (length (now certs) ≡ length (now order)) × (n ≤ length (now order)) ⌝ }
     requires { ⌜ Inside (now order) n (length (now order)) ⌝ }
-    ensures { λ _. ⌜ now (cells .exit) ≡ pushedAll (bottom .0) h (now (keys .entry)) (now (links .entry)) (now (certs .entry)) (now (order .entry)) (now (cells .entry)) n ⌝ }
+    ensures { λ _. ⌜ now (cells .exit) ≡ pushedAll (bottom .0) (top .0) (now (keys .entry)) (now (links .entry)) (now (certs .entry)) (now (order .entry)) (now (cells .entry)) n ⌝ }
 {
     let mut i: usize = 0;
     while i < n {
         let q = dag_places::place(order, n, i);
-        let c = certs[q];
-        push_one(cells, links, q, c, h, live(keys, bottom, q));
+        let cert = Cert(certs[q]);
+        push_one(cells, links, q, cert, top, live(keys, bottom, q));
         i += 1;
     }
 }
@@ -115,8 +114,9 @@ fn agree(cells: &[u16], certs: &[u64], order: &[u64], n: usize) -> bool
     let mut i: usize = 0;
     while i < n {
         let q = dag_places::place(order, n, i);
-        let h = (certs[q] % 4096) as u16;
-        if cells[q + 1] != h {
+        let cert = Cert(certs[q]);
+        let height = cert.height();
+        if cells[q + 1] != height.0 {
             return false;
         }
         i += 1;
@@ -124,7 +124,7 @@ fn agree(cells: &[u16], certs: &[u64], order: &[u64], n: usize) -> bool
     true
 }
 
-// Whether every stored height is right.
+// Whether every stored height is right, with the height `top` of tops.
 pub fn heights_hold(
     keys: &[u64],
     links: &[u64],
@@ -132,13 +132,13 @@ pub fn heights_hold(
     order: &[u64],
     n: usize,
     bottom: Round,
-    h: u64,
+    top: Height,
 ) -> bool
-    requires { ⌜ (length (now order) ≤ 4096) × (length (now keys) ≡ length (now order) * 8) × (length (now links) ≡ length (now order) * 328) × (length (now certs) ≡ length (now order)) × (n ≤ length (now order)) × (h ≤ 255) ⌝ }
+    requires { ⌜ (length (now order) ≤ 4096) × (length (now keys) ≡ length (now order) * 8) × (length (now links) ≡ length (now order) * 328) × (length (now certs) ≡ length (now order)) × (n ≤ length (now order)) ⌝ }
     requires { ⌜ Inside (now order) n (length (now order)) ⌝ }
-    ensures { λ r. ⌜ r ≡ heightsHold (bottom .0) h (now (keys .entry)) (now (links .entry)) (now (certs .entry)) (now (order .entry)) n ⌝ }
+    ensures { λ r. ⌜ r ≡ heightsHold (bottom .0) (top .0) (now (keys .entry)) (now (links .entry)) (now (certs .entry)) (now (order .entry)) n ⌝ }
 {
     let mut cells = [0u16; 4097];
-    push_all(&mut cells, keys, links, certs, order, n, bottom, h);
+    push_all(&mut cells, keys, links, certs, order, n, bottom, top);
     agree(&cells, certs, order, n)
 }

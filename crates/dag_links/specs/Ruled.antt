@@ -1,18 +1,19 @@
 -- What the tests of bare points and of words say (dag/dag_round.rs).
 use Prim.Native.Nat.{ℕ, _/_, _%_, _≤_, _<_}
-use mathlib.Core.Path.{_≡_, refl, sym, _∙_, subst}
+use mathlib.Core.Path.{_≡_, refl, sym, _∙_, subst, ap}
 use mathlib.Core.Logic.{_↔_, ⊎-elim}
-use mathlib.Core.Bool.{Bool, true}
+use mathlib.Core.Bool.{Bool, true, not}
 use mathlib.Core.List.{List}
 use native.Mathlib.Omega.{arith}
 use lib.ListN.{getD}
 use lib.Dec.{eqb, ltb}
-use borrow.Author.Tests.{eqb-true, eq-eqb, ltb-true, lt-ltb, leb-true, le-leb}
-use Rattle.laws.specs.Test.{both, and-l, and-r, or-l, or-r, or-cases, sameOr, leOr}
+use borrow.Author.Tests.{eqb-true, eq-eqb, ne-eqb, not-true, ltb-true, lt-ltb, leb-true, le-leb}
+use Rattle.laws.specs.Test.{both, clash, and-l, and-r, or-l, or-r, or-cases, sameOr, leOr}
 use Rattle.laws.specs.Scan.{every, every-elim, every-intro}
 use Rattle.dag_heights.specs.View.{reach, reach-live, Live}
 use Rattle.dag_links.specs.Bare.{emptyFrom, bareAt, empty-below, empty-more, empty-elim, by-none, by-full, by-bare}
 use Rattle.dag_links.specs.Words.{proofRoundAt, proofAuthorAt, namedRight, toldRight, toldFits, wordsAt, told-none, told-some}
+use Rattle.models.specs.Cert.{flagsOf, heightOf}
 use Rattle.models.specs.Tables.{roundAt, authorAt, statusAt, marksAt, placeAt, Used, targetAt, dist, evidenceAt}
 
 -- a test of every position of the order is one of every used place
@@ -74,18 +75,18 @@ pub record Words (ks ls cs : List ℕ) (q : ℕ) : Type 0 where
   pub told : 0 < statusAt ks q → Told (evidenceAt ls q) (proofRoundAt ls q) (proofAuthorAt ls q)
 
 named-exact : (s m a c : ℕ) → (namedRight s m a c ≡ true) ↔ Named s m a c
-unfolding namedRight
+unfolding namedRight heightOf flagsOf
 named-exact s m a c = (
   (λ h. record {
     status = leb-true _ _ (search (and-l, and-r));
     marks = ltb-true _ _ (search (and-l, and-r));
     author = ltb-true _ _ (search (and-l, and-r));
     word = leb-true _ _ (search (and-l, and-r));
-    committed = λ b. ⊎-elim (λ t. ltb-true _ _ t) (λ t. absurd (omega (arith, eqb-true (c / 4096 % 2) 0 t))) (or-cases (ltb 0 (c % 4096)) (eqb (c / 4096 % 2) 0) (search (and-l, and-r)));
+    committed = λ b. ⊎-elim (λ t. ltb-true _ _ t) (λ t. absurd (clash (eq-eqb (c / 4096 % 2) 1 b) (not-true _ t))) (or-cases (ltb 0 (c % 4096)) (not (eqb (c / 4096 % 2) 1)) (search (and-l, and-r)));
   }),
   λ w. both (le-leb _ _ (w .status)) (both (lt-ltb _ _ (w .marks)) (both (lt-ltb _ _ (w .author)) (both (le-leb _ _ (w .word)) (sameOr (c / 4096 % 2) 1
-      (λ b. or-l _ (eqb (c / 4096 % 2) 0) (lt-ltb _ _ (w .committed b)))
-      (λ b. or-r (ltb 0 (c % 4096)) _ (eq-eqb (c / 4096 % 2) 0 (omega arith))))))),
+      (λ b. or-l _ (not (eqb (c / 4096 % 2) 1)) (lt-ltb _ _ (w .committed b)))
+      (λ b. or-r (ltb 0 (c % 4096)) _ (ap not (ne-eqb (c / 4096 % 2) 1 b))))))),
 )
 
 told-exact : (e r a : ℕ) → (toldRight e r a ≡ true) ↔ Told e r a

@@ -1,7 +1,7 @@
 -- The ranges of the words of a used place (dag/dag_round.rs).
 use Prim.Native.Nat.{ℕ, zero, suc, _+_, _*_, _/_, _%_, _≤_, _<_}
 use mathlib.Core.Path.{_≡_, refl, sym, _∙_, ap, ap₂}
-use mathlib.Core.Bool.{Bool, true, _&&_, _||_}
+use mathlib.Core.Bool.{Bool, true, not, _&&_, _||_}
 use mathlib.Core.List.{List}
 use native.Mathlib.Omega.{arith}
 use lib.ListN.{getD}
@@ -11,6 +11,7 @@ use Rattle.models.specs.declared.dag_point.DagPoint.{DagPoint}
 use Rattle.models.specs.declared.dag_point.Resolved.{Resolved}
 use Rattle.models.specs.declared.dag_point.Resolved.the-variants.{Case, Nothing}
 use Rattle.models.specs.Tables.{authorAt, statusAt, marksAt, evidenceAt}
+use Rattle.models.specs.Cert.{flagsOf, heightOf}
 
 -- the round and the author of the top proof
 abbrev pub proofRoundAt : List ℕ → ℕ → ℕ
@@ -21,7 +22,7 @@ proofAuthorAt ls q = getD ls (q * 328 + 2) 0
 
 -- status, marks, author, certificate word
 unfoldable pub namedRight : ℕ → ℕ → ℕ → ℕ → Bool
-namedRight s m a c = leb s 5 && (ltb m 8 && (ltb a 32 && (leb c 65535 && (ltb 0 (c % 4096) || eqb (c / 4096 % 2) 0))))
+namedRight s m a c = leb s 5 && (ltb m 8 && (ltb a 32 && (leb c 65535 && (ltb 0 (heightOf c) || not (flagsOf c .committed)))))
 
 -- evidence, round and author of the top proof
 unfoldable pub toldRight : ℕ → ℕ → ℕ → Bool

@@ -11,6 +11,7 @@ use dag_keys::author;
 use dag_keys::round_word;
 use laws::and;
 use laws::or;
+use models::cert::Cert;
 use models::dag_point::Resolved;
 use models::parts::Round;
 
@@ -118,7 +119,7 @@ pub fn live_right(
     q: usize,
     bottom: Round,
 ) -> bool
-    requires { ⌜ (places ≤ length (now marks)) × (length (now keys) ≡ places * 8) × (length (now links) ≡ places * 328) × (q < places) × (bottom .0 ≤ 4000000000) ⌝ }
+    requires { ⌜ (places ≤ length (now marks)) × (length (now keys) ≡ places * 8) × (length (now links) ≡ places * 328) × (q < places) ⌝ }
     ensures { λ r. ⌜ r ≡ linksRight (now (keys .entry)) (now (links .entry)) (now (marks .entry)) places q (reach (bottom .0) (now (keys .entry)) q) ⌝ }
 {
     let m = dag_heights::live(keys, bottom, q);
@@ -158,12 +159,15 @@ pub fn bare_one(keys: &[u64], links: &[u64], q: usize) -> bool
     }
 }
 
-// The status s, the marks m and the author a of a used place, with the certificate word c.
-fn named_right(s: u64, m: u64, a: u64, c: u64) -> bool
-    ensures { λ r. ⌜ r ≡ namedRight s m a c ⌝ }
+// The status s, the marks m and the author a of a used place, with its certificate word.
+fn named_right(s: u64, m: u64, a: u64, cert: Cert) -> bool
+    ensures { λ r. ⌜ r ≡ namedRight s m a (cert .0) ⌝ }
 {
-    let committed = or(0 < c % 4096, c / 4096 % 2 == 0);
-    and(s <= 5, and(m < 8, and(a < 32, and(c <= 65535, committed))))
+    let committed = or(cert.is_certified(), !cert.is_committed());
+    and(
+        s <= 5,
+        and(m < 8, and(a < 32, and(cert.0 <= 65535, committed))),
+    )
 }
 
 // The evidence e of a resolved point, and the round r and the author a of its top proof.
@@ -198,6 +202,6 @@ pub fn words_one(keys: &[u64], links: &[u64], certs: &[u64], q: usize) -> bool
     let s = dag_keys::status(keys, q);
     let m = dag_keys::marks_at(keys, q);
     let a = author(keys, q);
-    let c = certs[q];
-    and(named_right(s, m, a, c), told_fits(keys, links, q))
+    let cert = Cert(certs[q]);
+    and(named_right(s, m, a, cert), told_fits(keys, links, q))
 }

@@ -5,11 +5,11 @@ use mathlib.Core.List.{List}
 use native.Mathlib.Omega.{arith}
 use lib.ListN.{length, getD, set, length-set}
 use Rattle.spec.specs.Store.{word}
-use Rattle.models.specs.Cert.{flagsOf, heightOf, topped}
+use Rattle.models.specs.Cert.{flagsOf, heightOf, withHeight, topped, with-height}
 use Rattle.dag_state.specs.declared.state.State.{State}
 use Rattle.dag_cert.specs.Work.{settled, start, traversed, visited-length}
 use Rattle.dag_cert.specs.Sane.{Placed}
-use Rattle.dag_settle.specs.Word.{topped-word}
+use Rattle.dag_settle.specs.Word.{topped-small, topped-word}
 
 -- place q is a top, and has a top's height
 unfoldable pub toppedCerts : State → List ℕ → ℕ → List ℕ
@@ -33,10 +33,10 @@ certifiable-set s ks ls cs q x ((a, b, l, w, most), (os, n, r)) =
     ((omega (arith, e, a), omega (arith, e, b)), (os, n, record { small = omega (arith, e, r .small); inside = λ i l. omega (arith, e, r .inside i l); falls = r .falls; first = r .first }))
 
 -- the words that the code leaves
-pub certified-by : (s : State) (ks ls cs ds : List ℕ) (q t x : ℕ) → t ≡ word (topped (flagsOf (getD cs q 0))) (heightOf (getD cs q 0)) → x ≡ word (flagsOf t) (s .«history_rounds» + 1)
+pub certified-by : (s : State) (ks ls cs ds : List ℕ) (q t g x : ℕ) → t ≡ word (topped (flagsOf (getD cs q 0))) (heightOf (getD cs q 0)) → g ≡ s .«history_rounds» + 1 → x ≡ withHeight t g
     → ds ≡ traversed (s .bottom .0) ks ls (set cs q x) q → ds ≡ certifiedCerts s ks ls cs q
 unfolding certifiedCerts toppedCerts
-certified-by s ks ls cs ds q t x e d f = f ∙ ap (λ (w : ℕ). traversed (s .bottom .0) ks ls (set cs q w) q) (topped-word (getD cs q 0) t e (s .«history_rounds» + 1) x d)
+certified-by s ks ls cs ds q t g x e h d f = f ∙ ap (λ (w : ℕ). traversed (s .bottom .0) ks ls (set cs q w) q) (topped-word (getD cs q 0) t e (s .«history_rounds» + 1) x (d ∙ (ap (withHeight t) h ∙ with-height t _ (topped-small (getD cs q 0) t e))))
 
 -- they are as many as before
 pub certified-length : (s : State) (ks ls cs ds : List ℕ) (q : ℕ) → ds ≡ certifiedCerts s ks ls cs q → length ds ≡ length cs

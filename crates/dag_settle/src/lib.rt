@@ -6,7 +6,6 @@ ghost use Rattle.dag_settle.specs.Point.{pointCode, placeFor};
 ghost use Rattle.dag_settle.specs.Certs.{certifiedCerts, Certifiable};
 use dag_state::state::State;
 use models::cert::Cert;
-use models::parts::Height;
 use models::parts::PointId;
 use models::refusal::NOT_NAMED;
 
@@ -46,7 +45,7 @@ pub fn certify_at(s: State, keys: &[u64], links: &[u64], certs: &mut [u64], q: u
     ensures { λ _. ⌜ now (certs .exit) ≡ certifiedCerts s (now (keys .entry)) (now (links .entry)) (now (certs .entry)) q ⌝ }
 {
     let bottom = s.bottom;
-    let height = Height(s.history_rounds + 1);
+    let height = s.top_height();
     let cert = Cert(certs[q]);
     let top = cert.set_top();
     let word = top.with_height(height);

@@ -12,6 +12,7 @@ use Rattle.laws.specs.Test.{leOr}
 use Rattle.spec.specs.Rules.{usedOk}
 use Rattle.dag_state.specs.View.{optionOf}
 use Rattle.models.specs.declared.parts.Round.{Round}
+use Rattle.models.specs.declared.parts.OptionRound.{OptionRound}
 use Rattle.dag_state.specs.declared.state.Memory.{Memory}
 use Rattle.dag_state.specs.declared.state.State.{State}
 use Rattle.dag_state.specs.State.{noRecord}
@@ -77,6 +78,9 @@ firstOf gap full d b = cond gap (full + d) b
 unfoldable pub armedOf : Bool → ℕ
 armedOf gap = cond gap 1 0
 
+abbrev noRound : OptionRound
+noRound = record { 0 = 0 }
+
 -- ---- the state after each call
 
 -- what a start that isn't refused is given
@@ -92,8 +96,8 @@ begunState m b = let full = fullBottom (b .genesis .0) (b .«history_rounds») (
   «deduplicate_rounds» = b .«deduplicate_rounds»;
   bottom = b .bottom;
   top = b .bottom;
-  «last_proof» = 0;
-  «last_anchor» = 0;
+  «last_proof» = noRound;
+  «last_anchor» = noRound;
   «full_history_bottom» = record { 0 = full };
   «first_executable» = record { 0 = firstOf (b .«after_gap») full (b .«deduplicate_rounds») (b .bottom .0) };
   gap = armedOf (b .«after_gap»);
@@ -111,8 +115,8 @@ pub begun-is : (m : Memory) (b : Beginning) (full first gap word : ℕ) → word
       «deduplicate_rounds» = b .«deduplicate_rounds»;
       bottom = b .bottom;
       top = b .bottom;
-      «last_proof» = 0;
-      «last_anchor» = 0;
+      «last_proof» = noRound;
+      «last_anchor» = noRound;
       «full_history_bottom» = record { 0 = full };
       «first_executable» = record { 0 = first };
       gap = gap;
@@ -134,8 +138,8 @@ clearedState s = record {
   «deduplicate_rounds» = 0;
   bottom = zeroRound;
   top = zeroRound;
-  «last_proof» = 0;
-  «last_anchor» = 0;
+  «last_proof» = noRound;
+  «last_anchor» = noRound;
   «full_history_bottom» = zeroRound;
   «first_executable» = zeroRound;
   gap = 0;

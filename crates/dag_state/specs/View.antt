@@ -93,8 +93,8 @@ confOf s = record { genesis = s .genesis .0; historyRounds = s .«history_rounds
 
 unfoldable pub progressOf : State → store.Progress
 progressOf s = record {
-  lastProof = optionOf (s .«last_proof»);
-  lastAnchor = optionOf (s .«last_anchor»);
+  lastProof = optionOf (s .«last_proof» .0);
+  lastAnchor = optionOf (s .«last_anchor» .0);
   fullBottom = s .«full_history_bottom» .0;
   firstExecutable = s .«first_executable» .0;
   gap = gapOf (s .gap);

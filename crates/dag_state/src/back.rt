@@ -8,6 +8,7 @@ ghost use mathlib.Core.Bool.{true};
 use crate::state::Memory;
 use crate::state::RoundRecord;
 use crate::state::State;
+use models::parts::OptionRound;
 use models::parts::Round;
 
 // The author of a used mark.
@@ -48,23 +49,23 @@ fn used_word(used: UsedAuthor) -> u32
 }
 
 // The full-history bottom of a start.
-fn full_bottom(genesis: u32, history: u32, bottom: u32) -> u32
-    requires { ⌜ (genesis ≤ 4000000000) × (history ≤ 255) × (bottom ≤ 4000000000) ⌝ }
-    ensures { λ r. ⌜ r ≡ fullBottom genesis history bottom ⌝ }
+fn full_bottom(genesis: Round, history: u32, bottom: Round) -> Round
+    requires { ⌜ (genesis .0 ≤ 4000000000) × (history ≤ 255) × (bottom .0 ≤ 4000000000) ⌝ }
+    ensures { λ r. ⌜ r .0 ≡ fullBottom (genesis .0) history (bottom .0) ⌝ }
 {
-    if bottom <= genesis + history {
+    if bottom.0 <= genesis.0 + history {
         return bottom;
     }
-    bottom + history
+    bottom.plus(history)
 }
 
 // The first executable round of a start.
-fn first_executable(after_gap: bool, full: u32, deduplicate: u32, bottom: u32) -> u32
-    requires { ⌜ full + deduplicate < 4294967296 ⌝ }
-    ensures { λ r. ⌜ r ≡ firstOf «after_gap» full deduplicate bottom ⌝ }
+fn first_executable(after_gap: bool, full: Round, deduplicate: u32, bottom: Round) -> Round
+    requires { ⌜ full .0 + deduplicate < 4294967296 ⌝ }
+    ensures { λ r. ⌜ r .0 ≡ firstOf «after_gap» (full .0) deduplicate (bottom .0) ⌝ }
 {
     if after_gap {
-        full + deduplicate
+        full.plus(deduplicate)
     } else {
         bottom
     }
@@ -87,8 +88,8 @@ pub fn begun(memory: Memory, with: Beginning) -> State
     let used = with.used;
     let b = bottom.0;
     let word = used_word(used);
-    let full = full_bottom(genesis.0, with.history_rounds, b);
-    let first = first_executable(with.after_gap, full, with.deduplicate_rounds, b);
+    let full = full_bottom(genesis, with.history_rounds, bottom);
+    let first = first_executable(with.after_gap, full, with.deduplicate_rounds, bottom);
     let gap = armed(with.after_gap);
     let empty = RoundRecord { peers: 0, used: 0 };
     let mut rounds = [empty; 512];
@@ -104,10 +105,10 @@ pub fn begun(memory: Memory, with: Beginning) -> State
         deduplicate_rounds: with.deduplicate_rounds,
         bottom,
         top: bottom,
-        last_proof: 0,
-        last_anchor: 0,
-        full_history_bottom: Round(full),
-        first_executable: Round(first),
+        last_proof: OptionRound::NONE,
+        last_anchor: OptionRound::NONE,
+        full_history_bottom: full,
+        first_executable: first,
         gap,
         rounds,
         memory,
@@ -128,8 +129,8 @@ pub fn cleared(s: State) -> State
         deduplicate_rounds: 0,
         bottom: Round(0),
         top: Round(0),
-        last_proof: 0,
-        last_anchor: 0,
+        last_proof: OptionRound::NONE,
+        last_anchor: OptionRound::NONE,
         full_history_bottom: Round(0),
         first_executable: Round(0),
         gap: 0,
@@ -162,16 +163,15 @@ pub fn asked(s: State) -> State
 }
 
 // The rounds below bottom are gone, and count places are used; a history is full from H rounds above `actual` on.
-pub fn dropped(s: State, actual: u32, bottom: u32, count: usize) -> State
-    requires { ⌜ (actual ≤ 4000000000) × (s .«history_rounds» ≤ 255) × (s .«deduplicate_rounds» ≤ 65535) ⌝ }
-    ensures { λ r. ⌜ r ≡ droppedState s actual bottom count ⌝ }
+pub fn dropped(s: State, actual: Round, bottom: Round, count: usize) -> State
+    requires { ⌜ (actual .0 ≤ 4000000000) × (s .«history_rounds» ≤ 255) × (s .«deduplicate_rounds» ≤ 65535) ⌝ }
+    ensures { λ r. ⌜ r ≡ droppedState s (actual .0) (bottom .0) count ⌝ }
 {
-    let full = actual + s.history_rounds;
-    let lowest = Round(bottom);
+    let full = actual.0 + s.history_rounds;
     let complete = Round(full);
     let first = Round(full + s.deduplicate_rounds);
     let mut next = s;
-    next.bottom = lowest;
+    next.bottom = bottom;
     next.count = count;
     next.full_history_bottom = complete;
     next.first_executable = first;

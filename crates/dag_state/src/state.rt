@@ -1,10 +1,12 @@
 // Origin: dag/dag_round.rs (a round's record), dag/commit/back.rs (DagBack), dag/commit/mod.rs (Committer), dag/commit/inspector.rs
 // (its memory of the last round).
 ghost use mathlib.Core.Path.{_≡_};
-ghost use Prim.Native.Nat.{_+_, _<_};
+ghost use Prim.Native.Nat.{_+_, _<_, _≤_};
 ghost use Rattle.dag_state.specs.State.{noMemory};
 ghost use Rattle.dag_state.specs.Numbers.{confHolds, rangeHolds, usedHold};
 use models::parts::Digest;
+use models::parts::Height;
+use models::parts::OptionRound;
 use models::parts::Round;
 
 // A retained round: its peers, and the author of its used mark plus 1, or 0 for none.
@@ -33,7 +35,7 @@ pub struct Memory {
 }
 
 // phase: 1 started, 2 reset, other numbers neither. count: the number of used places. Rounds from bottom to top are retained, round r in
-// record r modulo 512. last_proof, last_anchor: the round plus 1, or 0 for none. gap: 0 disarmed, 1 before the gap question, else after it.
+// record r modulo 512. gap: 0 disarmed, 1 before the gap question, else after it.
 #[repr(C)]
 pub struct State {
     pub phase: u32,
@@ -43,13 +45,23 @@ pub struct State {
     pub deduplicate_rounds: u32,
     pub bottom: Round,
     pub top: Round,
-    pub last_proof: u32,
-    pub last_anchor: u32,
+    pub last_proof: OptionRound,
+    pub last_anchor: OptionRound,
     pub full_history_bottom: Round,
     pub first_executable: Round,
     pub gap: u32,
     pub rounds: [RoundRecord; 512],
     pub memory: Memory,
+}
+
+impl State {
+    // The height of a point certified directly.
+    pub fn top_height(self) -> Height
+        requires { ⌜ self .«history_rounds» ≤ 255 ⌝ }
+        ensures { λ r. ⌜ r .0 ≡ self .«history_rounds» + 1 ⌝ }
+    {
+        Height((self.history_rounds + 1) as u16)
+    }
 }
 
 pub fn empty_memory() -> Memory

@@ -55,7 +55,7 @@ usedOk s ks ls cs os = eachOk s ks ls cs (marked blank os (s .count)) os
 
 -- what the used places hold
 unfoldable pub pointsHold : State → List ℕ → List ℕ → List ℕ → List ℕ → Bool
-pointsHold s ks ls cs os = usedOk s ks ls cs os && heightsHold (s .bottom .0) (s .«history_rounds») ks ls cs os (s .count)
+pointsHold s ks ls cs os = usedOk s ks ls cs os && heightsHold (s .bottom .0) (s .«history_rounds» + 1) ks ls cs os (s .count)
 
 unfoldable pub tested : State → List ℕ → List ℕ → List ℕ → List ℕ → Bool
 tested s ks ls cs os = shape ks ls cs os && (stateHolds s (length os) && (orderHolds s ks os && pointsHold s ks ls cs os))

@@ -124,7 +124,7 @@ fn place_ok(
     top: Round,
     peers: u32,
 ) -> bool
-    requires { ⌜ (places ≤ length (now marks)) × (length (now keys) ≡ places * 8) × (length (now links) ≡ places * 328) × (length (now certs) ≡ places) × (q < places) × (bottom .0 ≤ 4000000000) ⌝ }
+    requires { ⌜ (places ≤ length (now marks)) × (length (now keys) ≡ places * 8) × (length (now links) ≡ places * 328) × (length (now certs) ≡ places) × (q < places) ⌝ }
     ensures { λ r. ⌜ r ≡ placeOk (bottom .0) (top .0) peers (now (keys .entry)) (now (links .entry)) (now (certs .entry)) (now (marks .entry)) places q ⌝ }
 {
     let round = dag_keys::round_word(keys, q);
@@ -150,7 +150,7 @@ fn each_ok(
     marks: &[bool],
     order: &[u64],
 ) -> bool
-    requires { ⌜ (length (now order) ≤ length (now marks)) × (length (now keys) ≡ length (now order) * 8) × (length (now links) ≡ length (now order) * 328) × (length (now certs) ≡ length (now order)) × (s .count ≤ length (now order)) × (s .bottom .0 ≤ 4000000000) ⌝ }
+    requires { ⌜ (length (now order) ≤ length (now marks)) × (length (now keys) ≡ length (now order) * 8) × (length (now links) ≡ length (now order) * 328) × (length (now certs) ≡ length (now order)) × (s .count ≤ length (now order)) ⌝ }
     requires { ⌜ Inside (now order) (s .count) (length (now order)) ⌝ }
     ensures { λ r. ⌜ r ≡ eachOk s (now (keys .entry)) (now (links .entry)) (now (certs .entry)) (now (marks .entry)) (now (order .entry)) ⌝ }
 {
@@ -173,7 +173,7 @@ fn each_ok(
 
 // The same, with the used places marked here.
 fn used_ok(s: State, keys: &[u64], links: &[u64], certs: &[u64], order: &[u64]) -> bool
-    requires { ⌜ (length (now order) ≤ 4096) × (length (now keys) ≡ length (now order) * 8) × (length (now links) ≡ length (now order) * 328) × (length (now certs) ≡ length (now order)) × (s .count ≤ length (now order)) × (s .bottom .0 ≤ 4000000000) ⌝ }
+    requires { ⌜ (length (now order) ≤ 4096) × (length (now keys) ≡ length (now order) * 8) × (length (now links) ≡ length (now order) * 328) × (length (now certs) ≡ length (now order)) × (s .count ≤ length (now order)) ⌝ }
     requires { ⌜ Inside (now order) (s .count) (length (now order)) ⌝ }
     ensures { λ r. ⌜ r ≡ usedOk s (now (keys .entry)) (now (links .entry)) (now (certs .entry)) (now (order .entry)) ⌝ }
 {
@@ -184,7 +184,7 @@ fn used_ok(s: State, keys: &[u64], links: &[u64], certs: &[u64], order: &[u64]) 
 
 // Whether the used places hold what they may hold, and their heights are right.
 fn points_hold(s: State, keys: &[u64], links: &[u64], certs: &[u64], order: &[u64]) -> bool
-    requires { ⌜ (length (now order) ≤ 4096) × (length (now keys) ≡ length (now order) * 8) × (length (now links) ≡ length (now order) * 328) × (length (now certs) ≡ length (now order)) × (s .count ≤ length (now order)) × (s .bottom .0 ≤ 4000000000) × (s .«history_rounds» ≤ 255) ⌝ }
+    requires { ⌜ (length (now order) ≤ 4096) × (length (now keys) ≡ length (now order) * 8) × (length (now links) ≡ length (now order) * 328) × (length (now certs) ≡ length (now order)) × (s .count ≤ length (now order)) × (s .«history_rounds» ≤ 255) ⌝ }
     requires { ⌜ Inside (now order) (s .count) (length (now order)) ⌝ }
     ensures { λ r. ⌜ r ≡ pointsHold s (now (keys .entry)) (now (links .entry)) (now (certs .entry)) (now (order .entry)) ⌝ }
 {
@@ -192,8 +192,8 @@ fn points_hold(s: State, keys: &[u64], links: &[u64], certs: &[u64], order: &[u6
         return false;
     }
     let bottom = s.bottom;
-    let h = s.history_rounds as u64;
-    dag_heights::heights_hold(keys, links, certs, order, s.count, bottom, h)
+    let top = s.top_height();
+    dag_heights::heights_hold(keys, links, certs, order, s.count, bottom, top)
 }
 
 // All tests. Each relies on those before it, so that any state and any tables may be given.

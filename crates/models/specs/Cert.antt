@@ -19,6 +19,10 @@ flagsOf c = record { top = bitOf 0x8000 c; started = bitOf 0x4000 c; completed =
 unfoldable pub heightOf : ℕ → ℕ
 heightOf c = c % 4096
 
+-- another height under the same flags
+unfoldable pub withHeight : ℕ → ℕ → ℕ
+withHeight c h = c / 4096 * 4096 + h
+
 -- 01, cert.rs: "Certified: height above 0. Proved: top bit as well."
 unfoldable pub hasProof : ℕ → Bool
 hasProof c = ltb 0 (heightOf c) && flagsOf c .top
@@ -57,8 +61,9 @@ flags-are c h l =
     rw (bit-is 0x8000 (c / 0x8000 % 2) (omega arith), bit-is 0x4000 (c / 0x4000 % 2) (omega arith), bit-is 0x2000 (c / 0x2000 % 2) (omega arith), bit-is 0x1000 (c / 0x1000 % 2) (omega arith))
     (ap (λ (x : ℕ). x + h) (upper c (c / 0x1000) (c / 0x2000) (c / 0x4000) (c / 0x8000) (omega arith) (halve 0x1000 c (omega arith)) (halve 0x2000 c (omega arith)) (halve 0x4000 c (omega arith))))
 
--- another height under the same flags
-pub with-height : (c h : ℕ) → c < 65536 → c / 4096 * 4096 + h ≡ word (flagsOf c) h
+-- another height leaves the flags of a word of 16 bits
+pub with-height : (c h : ℕ) → c < 65536 → withHeight c h ≡ word (flagsOf c) h
+unfolding withHeight
 with-height c h l = sym (flags-are c h l)
 
 -- the word says no more than its flags and its height

@@ -3,7 +3,7 @@ ghost use Prim.Native.Nat.{_<_};
 ghost use mathlib.Core.Path.{_≡_};
 ghost use lib.Dec.{ltb};
 ghost use Rattle.spec.specs.Store.{word};
-ghost use Rattle.models.specs.Cert.{flagsOf, heightOf, hasProof, topped, linked, marked};
+ghost use Rattle.models.specs.Cert.{flagsOf, heightOf, withHeight, hasProof, topped, linked, marked};
 use crate::parts::Height;
 
 const TOP: u64 = 0x8000;
@@ -18,7 +18,14 @@ impl Cert {
     pub fn height(self) -> Height
         ensures { λ r. ⌜ r .0 ≡ heightOf (self .0) ⌝ }
     {
-        Height((self.0 % 4096) as u32)
+        Height((self.0 % 4096) as u16)
+    }
+
+    // Certified directly.
+    pub fn is_top(self) -> bool
+        ensures { λ r. ⌜ r ≡ flagsOf (self .0) .top ⌝ }
+    {
+        self.0 / TOP % 2 == 1
     }
 
     pub fn is_committed(self) -> bool
@@ -42,8 +49,8 @@ impl Cert {
 
     // The word with another height.
     pub fn with_height(self, height: Height) -> Cert
-        requires { ⌜ (self .0 < 65536) × (height .0 < 4096) ⌝ }
-        ensures { λ r. ⌜ r .0 ≡ word (flagsOf (self .0)) (height .0) ⌝ }
+        requires { ⌜ height .0 < 4096 ⌝ }
+        ensures { λ r. ⌜ r .0 ≡ withHeight (self .0) (height .0) ⌝ }
     {
         Cert(self.0 / 4096 * 4096 + height.0 as u64)
     }

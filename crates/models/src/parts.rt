@@ -1,18 +1,20 @@
 // Origin: consensus/src/models/point/parts.rs (Round, Digest), point/info.rs (PointId). Peers are numbers 0 to 31, sets of them 32 bits.
-ghost use Prim.Native.Nat.{_+_, _-_, _<_, _≤_};
+ghost use Prim.Native.Nat.{_+_, _-_, _<_, max, min};
 ghost use Rattle.laws.specs.Peers.{member, withPeer};
 ghost use lib.Count.{ones};
-ghost use lib.Dec.{eqb, leb, ltb};
-ghost use mathlib.Core.Bool.{_&&_};
+ghost use lib.Dec.{eqb};
 ghost use mathlib.Core.Path.{_≡_};
-ghost use Rattle.models.specs.Parts.{idOf};
 
 // A round's number.
 #[repr(C)]
 pub struct Round(pub u32);
 
+// A round or none (Option<Round>): the round plus 1, or 0. No enum, since the state crosses to C by value.
+#[repr(C)]
+pub struct OptionRound(pub u32);
+
 // A certificate's height, so that it never passes for a round.
-pub struct Height(pub u32);
+pub struct Height(pub u16);
 
 // Four words, the most significant first.
 #[repr(C)]
@@ -48,6 +50,37 @@ impl Round {
         ensures { λ r. ⌜ r .0 ≡ self .0 + n ⌝ }
     {
         Round(self.0 + n)
+    }
+
+    // The earlier of two rounds.
+    pub fn min(self, other: Round) -> Round
+        ensures { λ r. ⌜ r .0 ≡ min (self .0) (other .0) ⌝ }
+    {
+        if self.0 < other.0 { self } else { other }
+    }
+
+    // The later of two rounds.
+    pub fn max(self, other: Round) -> Round
+        ensures { λ r. ⌜ r .0 ≡ max (self .0) (other .0) ⌝ }
+    {
+        if self.0 < other.0 { other } else { self }
+    }
+}
+
+impl OptionRound {
+    pub const NONE: OptionRound = OptionRound(0);
+
+    pub fn some(round: Round) -> OptionRound
+        requires { ⌜ round .0 < 4294967295 ⌝ }
+        ensures { λ r. ⌜ r .0 ≡ round .0 + 1 ⌝ }
+    {
+        OptionRound(round.0 + 1)
+    }
+
+    pub fn is_none(self) -> bool
+        ensures { λ r. ⌜ r ≡ eqb (self .0) 0 ⌝ }
+    {
+        self.0 == 0
     }
 }
 

@@ -9,6 +9,7 @@ use dag_state::state::RoundRecord;
 use dag_state::state::State;
 use dag_state::state::empty_memory;
 use dag_test::counts_as_started;
+use models::parts::OptionRound;
 use models::parts::Round;
 
 // A state of zeros, which isn't started.
@@ -23,8 +24,8 @@ pub fn unstarted() -> State {
         deduplicate_rounds: 0,
         bottom: Round(0),
         top: Round(0),
-        last_proof: 0,
-        last_anchor: 0,
+        last_proof: OptionRound::NONE,
+        last_anchor: OptionRound::NONE,
         full_history_bottom: Round(0),
         first_executable: Round(0),
         gap: 0,
@@ -33,12 +34,12 @@ pub fn unstarted() -> State {
     }
 }
 
-// The last proof's round: 0 is none, else the round plus 1.
-fn write_last_proof(last_proof: u32) {
-    if last_proof == 0 {
+// The last proof's round.
+fn write_last_proof(last_proof: OptionRound) {
+    if last_proof.0 == 0 {
         write(b" lastproof none");
     } else {
-        write_number(b" lastproof ", (last_proof - 1) as u64);
+        write_number(b" lastproof ", (last_proof.0 - 1) as u64);
     }
 }
 
@@ -61,7 +62,8 @@ fn write_rounds(s: State) {
     let first = s.first_executable;
     write_number(b"state bottom ", bottom.0 as u64);
     write_number(b" top ", top.0 as u64);
-    write_last_proof(s.last_proof);
+    let last_proof = s.last_proof;
+    write_last_proof(last_proof);
     write_number(b" fullbottom ", full.0 as u64);
     write_number(b" first ", first.0 as u64);
     write_emit(s.gap);

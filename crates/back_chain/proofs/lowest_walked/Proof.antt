@@ -9,9 +9,6 @@ returns c = search low-none
 sub-if2 : tie.Need-sub-if2
 sub-if2 c = search needs
 
-sub-t6 : tie.Need-sub-t6
-sub-t6 c = search needs
-
 returns-2 : tie.Need-returns-2
 returns-2 c = search low-last
 
@@ -19,4 +16,4 @@ returns-3 : tie.Need-returns-3
 returns-3 c = search low-bottom
 
 pub lowest-walked-spec : {M : Type 1} → statement M
-lowest-walked-spec = tie.close (tie.spec returns sub-if2 sub-t6 returns-2 returns-3)
+lowest-walked-spec = tie.close (tie.spec returns sub-if2 (λ c. search needs) returns-2 returns-3)

@@ -9,12 +9,12 @@ plus-requires c κs = search needs
 minus-requires : tie.Need-minus-requires
 minus-requires c κs = search needs
 
-later-requires : tie.Need-later-requires
-later-requires c κs = search needs
+max-requires : tie.Need-max-requires
+max-requires c κs = search needs
 
 returns : tie.Need-returns
 unfolding limitOf
 returns c = search needs
 
 pub history-limit-spec : {M : Type 1} → statement M
-history-limit-spec = tie.close (tie.spec plus-requires minus-requires later-requires returns)
+history-limit-spec = tie.close (tie.spec plus-requires minus-requires max-requires returns)

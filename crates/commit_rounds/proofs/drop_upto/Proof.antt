@@ -29,11 +29,11 @@ same-length-4 c = search needs
 returns : tie.Need-returns
 returns c = drop-did _ _ (λ p. c .before .before .before .before .before .before .before .before .before .before .slice-known .given p .fits) (λ p. c .before .before .before .before .before .before .before .before .before .slice-known2 .given p .fits) _ (left-refused _ _ _ _ (tested-no _ _ _ (c .before .before .counts-as-started .ensures) (c .before .if1 .taken)) _ (c .refused .ensures))
 
-least-requires : tie.Need-least-requires
-least-requires c κs = search needs
+min-requires : tie.Need-min-requires
+min-requires c κs = search needs
 
-most-requires : tie.Need-most-requires
-most-requires c κs = search needs
+max-requires : tie.Need-max-requires
+max-requires c κs = search needs
 
 cut-requires : tie.Need-cut-requires
 cut-requires c κs =
@@ -49,13 +49,13 @@ drain-upto-requires c κs =
     let fk : Fit (a .keys .now) = λ p. c .before .before .before .before .before .before .before .before .before .before .before .before .before .before .before .before .before .before .before .before .slice-known .given p .fits in
     let fl : Fit (a .links .now) = λ p. c .before .before .before .before .before .before .before .before .before .before .before .before .before .before .before .before .before .before .before .slice-known2 .given p .fits in
     let g = given (a .s) (a .keys .now) (a .links .now) (a .certs .now) (a .order .now) fk fl _ (c .before .before .before .before .before .before .before .before .before .before .before .before .counts-as-started .ensures) (c .before .before .before .before .before .before .before .before .before .before .before .if1 .left) in
-    let l = below-le (a .keys .now) (a .order .now) (a .s .count) (c .before .before .before .before .before .before .before .most .result) in
+    let l = below-le (a .keys .now) (a .order .now) (a .s .count) (c .before .before .before .before .before .before .before .max .result .0) in
     ((omega (arith, l, c .before .before .before .before .cut .ensures), g .room, g .keys, g .links, g .certs), g .inside)
 
 sub-dropped : tie.Need-sub-dropped
 sub-dropped c =
     let a = c .before .before .before .before .before .before .before .before .before .before .before .before .before .before .before .before .before .before .before .before .before .before .before .before .before .before .before .before .before .before .args in
-    let l = below-le (a .keys .now) (a .order .now) (a .s .count) (c .before .before .before .before .before .before .before .before .before .before .before .before .before .before .before .before .most .result) in
+    let l = below-le (a .keys .now) (a .order .now) (a .s .count) (c .before .before .before .before .before .before .before .before .before .before .before .before .before .before .before .before .max .result .0) in
     omega (arith, l, c .before .before .before .before .before .before .before .before .before .before .before .before .before .cut .ensures)
 
 dropped-requires : tie.Need-dropped-requires
@@ -64,7 +64,7 @@ dropped-requires c κs =
     let fk : Fit (a .keys .now) = λ p. c .before .before .before .before .before .before .before .before .before .before .before .before .before .before .before .before .before .before .before .before .before .before .before .before .before .before .before .before .before .slice-known .given p .fits in
     let fl : Fit (a .links .now) = λ p. c .before .before .before .before .before .before .before .before .before .before .before .before .before .before .before .before .before .before .before .before .before .before .before .before .before .before .before .before .slice-known2 .given p .fits in
     let g = given (a .s) (a .keys .now) (a .links .now) (a .certs .now) (a .order .now) fk fl _ (c .before .before .before .before .before .before .before .before .before .before .before .before .before .before .before .before .before .before .before .before .before .counts-as-started .ensures) (c .before .before .before .before .before .before .before .before .before .before .before .before .before .before .before .before .before .before .before .before .if1 .left) in
-    (omega (arith, g .top, c .before .before .before .before .before .before .before .before .before .before .before .before .before .before .before .before .before .least .ensures), g .history, g .deduplicate)
+    (omega (arith, g .top, c .before .before .before .before .before .before .before .before .before .before .before .before .before .before .before .before .before .min .ensures), g .history, g .deduplicate)
 
 same-length-5 : tie.Need-same-length-5
 same-length-5 c = search needs
@@ -80,8 +80,8 @@ same-length-8 c = search needs
 
 returns-2 : tie.Need-returns-2
 returns-2 c =
-    let k = c .before .before .before .before .before .before .before .before .before .drain-upto .ensures in
-    drop-did _ _ (λ p. c .before .before .before .before .before .before .before .before .before .before .before .before .before .before .before .before .before .before .before .before .before .before .before .before .before .before .before .before .before .before .slice-known .given p .fits) (λ p. c .before .before .before .before .before .before .before .before .before .before .before .before .before .before .before .before .before .before .before .before .before .before .before .before .before .before .before .before .before .slice-known2 .given p .fits) _ (left-done _ _ _ (tested-by _ _ _ (c .before .before .before .before .before .before .before .before .before .before .before .before .before .before .before .before .before .before .before .before .before .before .counts-as-started .ensures) (c .before .before .before .before .before .before .before .before .before .before .before .before .before .before .before .before .before .before .before .before .before .if1 .left) _ refl) _ (dropped-is _ _ _ _ _ (c .before .before .before .before .before .before .before .before .before .before .before .before .before .before .before .before .before .before .least .ensures) (c .before .before .before .before .before .before .before .before .before .before .before .before .before .before .before .before .before .most .ensures) (c .before .before .before .before .before .before .before .before .before .before .before .before .before .before .cut .ensures) _ (c .dropped .ensures) (k .0) (k .1 .0) (k .1 .1 .0) (k .1 .1 .1)))
+    let k = c .before .before .before .before .before .before .before .before .before .before .before .drain-upto .ensures in
+    drop-did _ _ (λ p. c .before .before .before .before .before .before .before .before .before .before .before .before .before .before .before .before .before .before .before .before .before .before .before .before .before .before .before .before .before .before .before .before .slice-known .given p .fits) (λ p. c .before .before .before .before .before .before .before .before .before .before .before .before .before .before .before .before .before .before .before .before .before .before .before .before .before .before .before .before .before .before .before .slice-known2 .given p .fits) _ (left-done _ _ _ (tested-by _ _ _ (c .before .before .before .before .before .before .before .before .before .before .before .before .before .before .before .before .before .before .before .before .before .before .before .before .counts-as-started .ensures) (c .before .before .before .before .before .before .before .before .before .before .before .before .before .before .before .before .before .before .before .before .before .before .before .if1 .left) _ refl) _ (dropped-is _ _ _ _ _ (c .before .before .before .before .before .before .before .before .before .before .before .before .before .before .before .before .before .before .before .before .min .ensures) (c .before .before .before .before .before .before .before .before .before .before .before .before .before .before .before .before .before .before .before .max .ensures) (c .before .before .before .before .before .before .before .before .before .before .before .before .before .before .before .before .cut .ensures) _ (c .before .before .dropped .ensures) (k .0) (k .1 .0) (k .1 .1 .0) (k .1 .1 .1)))
 
 pub drop-upto-spec : {M : Type 1} → statement M
 drop-upto-spec =
@@ -94,8 +94,8 @@ drop-upto-spec =
     same-length-3
     same-length-4
     returns
-    least-requires
-    most-requires
+    min-requires
+    max-requires
     cut-requires
     drain-upto-requires
     sub-dropped

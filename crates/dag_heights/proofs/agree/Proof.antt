@@ -4,9 +4,8 @@ use mathlib.Core.Path.{_≡_, sym, _∙_, ap}
 use mathlib.Core.Bool.{true}
 use native.Mathlib.Omega.{arith}
 use borrow.Author.Count.{below-none, below-more}
-use borrow.Author.Tests.{eq-eqb, ne-eqb}
 use Rattle.laws.specs.Scan.{every-intro, every-not}
-use Rattle.dag_heights.specs.Push.{agrees, agreesAt}
+use Rattle.dag_heights.specs.Push.{agrees, agreesAt, agrees-yes, agrees-no}
 use borrow.Author.Needs.{needs}
 use Rattle.dag_heights.proofs.agree.Statement.{statement}
 use Rattle.dag_heights.proofs.agree.Tie as tie
@@ -24,14 +23,14 @@ loop-holds c = (search needs, below-none _)
 place-requires : tie.Need-place-requires Inv-loop μ-loop
 place-requires c κs = (search needs, c .before .before .before .before .before .pre .1)
 
-mul-h : tie.Need-mul-h Inv-loop μ-loop
-mul-h c = search needs
+mul-t10 : tie.Need-mul-t10 Inv-loop μ-loop
+mul-t10 c = search needs
 
-shared-slice-read-h : tie.Need-shared-slice-read-h Inv-loop μ-loop
-shared-slice-read-h c = search needs
+shared-slice-read-t12 : tie.Need-shared-slice-read-t12 Inv-loop μ-loop
+shared-slice-read-t12 c = search needs
 
-cast-h : tie.Need-cast-h Inv-loop μ-loop
-cast-h c = search needs
+height-requires : tie.Need-height-requires Inv-loop μ-loop
+height-requires c κs = search needs
 
 add-if1 : tie.Need-add-if1 Inv-loop μ-loop
 add-if1 c = search needs
@@ -45,8 +44,8 @@ shared-slice-read-if1 c = search needs
 returns : tie.Need-returns Inv-loop μ-loop
 unfolding agrees
 returns c =
-    let at-args = c .before .before .before .before .before .before .before .before .before .args in
-    sym (every-not _ _ _ (c .before .before .before .before .loop-test .taken) (sym (ap (agreesAt (at-args .cells .now) (at-args .certs .now)) (c .before .before .before .place .ensures .0)) ∙ ne-eqb _ _ (c .if1 .taken)))
+    let at-args = c .before .before .before .before .before .before .before .before .before .before .before .args in
+    sym (every-not _ _ _ (c .before .before .before .before .before .before .loop-test .taken) (sym (ap (agreesAt (at-args .cells .now) (at-args .certs .now)) (c .before .before .before .before .before .place .ensures .0)) ∙ agrees-no (at-args .cells .now) (at-args .certs .now) (c .before .before .before .before .before .place .result) _ (c .before .before .before .height .ensures) (c .if1 .taken)))
 
 add-i : tie.Need-add-i Inv-loop μ-loop
 add-i c = search needs
@@ -56,8 +55,8 @@ loop-less c = search needs
 
 loop-again : tie.Need-loop-again Inv-loop μ-loop
 loop-again c =
-    let at-args = c .before .before .before .before .before .before .before .before .before .args in
-    (search needs, below-more _ _ (c .before .before .before .before .before .loop .inv .1) (sym (ap (agreesAt (at-args .cells .now) (at-args .certs .now)) (c .before .before .before .place .ensures .0)) ∙ eq-eqb _ _ (c .if1 .left)))
+    let at-args = c .before .before .before .before .before .before .before .before .before .before .before .args in
+    (search needs, below-more _ _ (c .before .before .before .before .before .before .before .loop .inv .1) (sym (ap (agreesAt (at-args .cells .now) (at-args .certs .now)) (c .before .before .before .before .before .place .ensures .0)) ∙ agrees-yes (at-args .cells .now) (at-args .certs .now) (c .before .before .before .before .before .place .result) _ (c .before .before .before .height .ensures) (c .if1 .left)))
 
 returns-2 : tie.Need-returns-2 Inv-loop μ-loop
 unfolding agrees
@@ -71,9 +70,9 @@ agree-spec =
     μ-loop
     loop-holds
     place-requires
-    mul-h
-    shared-slice-read-h
-    cast-h
+    mul-t10
+    shared-slice-read-t12
+    height-requires
     add-if1
     mul-if1
     shared-slice-read-if1

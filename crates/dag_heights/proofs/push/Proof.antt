@@ -10,7 +10,7 @@ use Rattle.dag_heights.proofs.push.Tie as tie
 use Rattle.models.specs.Tables.{targetAt}
 
 abbrev Inv-loop : tie.InvT-loop
-Inv-loop cells₀ links q v m k₀ cells k = (k ≤ m) × (cells ≡ pushed (targetAt links q) cells₀ v k)
+Inv-loop cells₀ links q v m k₀ cells k = (k ≤ m) × (cells ≡ pushed (targetAt links q) cells₀ (v .0) k)
 
 abbrev μ-loop : tie.MeasureT-loop
 μ-loop cells₀ links q v m k₀ cells k = m - k

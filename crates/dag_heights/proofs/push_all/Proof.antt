@@ -3,16 +3,17 @@ use Prim.Native.Nat.{_≤_, _-_}
 use mathlib.Core.Path.{_≡_, refl, _∙_, ap}
 use native.Mathlib.Omega.{arith}
 use lib.ListN.{length}
+use Rattle.models.specs.Cert.{heightOf}
 use Rattle.dag_heights.specs.Push.{pushedAll, all-more, all-end, all-length}
 use borrow.Author.Needs.{needs}
 use Rattle.dag_heights.proofs.push_all.Statement.{statement}
 use Rattle.dag_heights.proofs.push_all.Tie as tie
 
 abbrev Inv-loop : tie.InvT-loop
-Inv-loop cells₀ keys links certs order n bottom h i₀ cells i = (i ≤ n) × (cells ≡ pushedAll (bottom .0) h keys links certs order cells₀ i)
+Inv-loop cells₀ keys links certs order n bottom top i₀ cells i = (i ≤ n) × (cells ≡ pushedAll (bottom .0) (top .0) keys links certs order cells₀ i)
 
 abbrev μ-loop : tie.MeasureT-loop
-μ-loop cells₀ keys links certs order n bottom h i₀ cells i = n - i
+μ-loop cells₀ keys links certs order n bottom top i₀ cells i = n - i
 
 loop-holds : tie.Need-loop-holds Inv-loop μ-loop
 unfolding pushedAll
@@ -21,11 +22,11 @@ loop-holds c = (search needs, refl)
 place-requires : tie.Need-place-requires Inv-loop μ-loop
 place-requires c κs = (search needs, c .before .before .before .before .before .before .before .pre .1)
 
-mul-c : tie.Need-mul-c Inv-loop μ-loop
-mul-c c = search needs
+mul-t13 : tie.Need-mul-t13 Inv-loop μ-loop
+mul-t13 c = search needs
 
-shared-slice-read-c : tie.Need-shared-slice-read-c Inv-loop μ-loop
-shared-slice-read-c c = search needs
+shared-slice-read-t15 : tie.Need-shared-slice-read-t15 Inv-loop μ-loop
+shared-slice-read-t15 c = search needs
 
 live-requires : tie.Need-live-requires Inv-loop μ-loop
 live-requires c κs = search needs
@@ -40,6 +41,7 @@ loop-less : tie.Need-loop-less Inv-loop μ-loop
 loop-less c = search needs
 
 loop-again : tie.Need-loop-again Inv-loop μ-loop
+unfolding heightOf
 loop-again c = (search needs, all-more _ _ _ _ _ _ _ _ _ _ _ _ (c .before .before .before .before .before .before .before .before .loop .inv .1) (c .before .before .before .before .before .before .place .ensures .0) (c .before .before .before .live .ensures .0) (c .before .before .push-one .ensures))
 
 same-length : tie.Need-same-length Inv-loop μ-loop
@@ -56,8 +58,8 @@ push-all-spec =
     μ-loop
     loop-holds
     place-requires
-    mul-c
-    shared-slice-read-c
+    mul-t13
+    shared-slice-read-t15
     live-requires
     push-one-requires
     add-i

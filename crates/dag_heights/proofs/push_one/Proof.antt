@@ -15,18 +15,18 @@ own-requires c κs = search needs
 raise-requires : tie.Need-raise-requires
 raise-requires c κs = search needs
 
-cast-push : tie.Need-cast-push
-cast-push c = search needs
+height-requires : tie.Need-height-requires
+height-requires c κs = search needs
 
 push-requires : tie.Need-push-requires
 push-requires c κs = search needs
 
 same-length : tie.Need-same-length
-same-length c = ap length (c .before .before .push .ensures) ∙ pushed-length _ _ _ _ ∙ ap length (c .before .before .before .before .before .before .raise .ensures) ∙ raised-length _ _ _
+same-length c = ap length (c .before .before .push .ensures) ∙ pushed-length _ _ _ _ ∙ ap length (c .before .before .before .before .before .before .before .raise .ensures) ∙ raised-length _ _ _
 
 returns : tie.Need-returns
-returns c = one-more _ _ _ _ _ _ _ _ _ (c .before .before .before .before .before .before .raise .ensures) (c .before .before .before .before .before .before .before .own .ensures) (c .before .before .push .ensures)
+returns c = one-more _ _ _ _ _ _ _ _ _ _ (c .before .before .before .before .before .before .before .raise .ensures) (c .before .before .before .before .before .before .before .before .own .ensures) (c .before .before .push .ensures) (c .before .before .before .height .ensures)
 
 pub push-one-spec : {M : Type 1} → statement M
 push-one-spec =
-    tie.close (tie.spec add-raise own-requires raise-requires cast-push push-requires same-length returns)
+    tie.close (tie.spec add-raise own-requires raise-requires height-requires push-requires same-length returns)

@@ -4,6 +4,12 @@ use borrow.Author.Needs.{needs}
 use Rattle.dag_links.proofs.named_right.Statement.{statement}
 use Rattle.dag_links.proofs.named_right.Tie as tie
 
+is-certified-requires : tie.Need-is-certified-requires
+is-certified-requires c κs = search needs
+
+is-committed-requires : tie.Need-is-committed-requires
+is-committed-requires c κs = search needs
+
 or-requires : tie.Need-or-requires
 or-requires c κs = search needs
 
@@ -25,5 +31,4 @@ returns c = cc
 
 pub named-right-spec : {M : Type 1} → statement M
 named-right-spec =
-    tie.close
-    (tie.spec or-requires and-requires and-requires-2 and-requires-3 and-requires-4 returns)
+    tie.close (tie.spec is-certified-requires is-committed-requires or-requires and-requires and-requires-2 and-requires-3 and-requires-4 returns)

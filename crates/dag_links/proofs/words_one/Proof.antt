@@ -12,12 +12,6 @@ marks-at-requires c κs = search needs
 author-requires : tie.Need-author-requires
 author-requires c κs = search needs
 
-mul-c : tie.Need-mul-c
-mul-c c = search needs
-
-shared-slice-read-c : tie.Need-shared-slice-read-c
-shared-slice-read-c c = search needs
-
 named-right-requires : tie.Need-named-right-requires
 named-right-requires c κs = search needs
 
@@ -37,8 +31,8 @@ words-one-spec =
     status-requires
     marks-at-requires
     author-requires
-    mul-c
-    shared-slice-read-c
+    (λ c. search needs)
+    (λ c. search needs)
     named-right-requires
     told-fits-requires
     and-requires

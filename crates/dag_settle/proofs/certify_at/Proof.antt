@@ -1,25 +1,23 @@
 use native.Mathlib.Omega.{arith}
-use Rattle.dag_settle.specs.Word.{topped-small}
 use Rattle.dag_settle.specs.Certs.{certifiable-set, certified-length, certified-by}
 use borrow.Author.Needs.{needs}
 use Rattle.dag_settle.proofs.certify_at.Statement.{statement}
 use Rattle.dag_settle.proofs.certify_at.Tie as tie
 
-add-t11 : tie.Need-add-t11
-add-t11 c = search needs
+top-height-requires : tie.Need-top-height-requires
+top-height-requires c κs = search needs
 
-mul-t12 : tie.Need-mul-t12
-mul-t12 c = search needs
+mul-t11 : tie.Need-mul-t11
+mul-t11 c = search needs
 
-slice-read-t14 : tie.Need-slice-read-t14
-slice-read-t14 c = search needs
+slice-read-t13 : tie.Need-slice-read-t13
+slice-read-t13 c = search needs
 
 set-top-requires : tie.Need-set-top-requires
 set-top-requires c κs = search needs
 
 with-height-requires : tie.Need-with-height-requires
-with-height-requires c κs =
-    (topped-small _ _ (c .set-top .ensures), omega (arith, c .before .before .before .before .before .before .before .pre .0 .4))
+with-height-requires c κs = omega (arith, c .before .before .top-height .ensures, c .before .before .before .before .before .before .before .pre .0 .4)
 
 mul-certs : tie.Need-mul-certs
 mul-certs c = search needs
@@ -35,7 +33,7 @@ traverse-certify-requires c κs =
 returns : tie.Need-returns
 returns c =
     let s = c .before .before .before .before .before .before .before .before .before .before .before .before in
-    certified-by (s .args .s) (s .args .keys .now) (s .args .links .now) (s .args .certs .now) _ (s .args .q) _ _ (c .before .before .before .before .before .set-top .ensures) (c .before .before .before .before .with-height .ensures) (c .before .before .traverse-certify .ensures)
+    certified-by (s .args .s) (s .args .keys .now) (s .args .links .now) (s .args .certs .now) _ (s .args .q) _ _ _ (c .before .before .before .before .before .set-top .ensures) (c .before .before .before .before .before .before .before .top-height .ensures) (c .before .before .before .before .with-height .ensures) (c .before .before .traverse-certify .ensures)
 
 same-length : tie.Need-same-length
 same-length c =
@@ -44,15 +42,4 @@ same-length c =
 
 pub certify-at-spec : {M : Type 1} → statement M
 certify-at-spec =
-    tie.close
-    (tie.spec
-    add-t11
-    mul-t12
-    slice-read-t14
-    set-top-requires
-    with-height-requires
-    mul-certs
-    slice-write-certs
-    traverse-certify-requires
-    same-length
-    returns)
+    tie.close (tie.spec top-height-requires mul-t11 slice-read-t13 set-top-requires with-height-requires mul-certs slice-write-certs traverse-certify-requires same-length returns)

@@ -32,7 +32,7 @@ points-hold-requires : tie.Need-points-hold-requires
 points-hold-requires c κs =
     let sh = shape-says _ _ _ _ (passed _ _ (c .before .before .before .before .before .shape-holds .ensures) (c .before .before .before .before .if1 .left)) in
     let st = state-says _ _ (passed _ _ (c .before .before .before .state-holds .ensures) (c .before .before .if2 .left)) in
-    ((st .0, sh .0, sh .1, sh .2, st .1, st .2, st .3), order-says _ _ _ (passed _ _ (c .before .order-holds .ensures) (c .if3 .left)))
+    ((st .0, sh .0, sh .1, sh .2, st .1, st .3), order-says _ _ _ (passed _ _ (c .before .order-holds .ensures) (c .if3 .left)))
 
 returns-4 : tie.Need-returns-4
 unfolding tested

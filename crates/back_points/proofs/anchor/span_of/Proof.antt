@@ -8,8 +8,8 @@ use Rattle.back_points.proofs.anchor.span_of.Tie as tie
 history-limit-requires : tie.Need-history-limit-requires
 history-limit-requires c κs = search needs
 
-later-requires : tie.Need-later-requires
-later-requires c κs = search needs
+max-requires : tie.Need-max-requires
+max-requires c κs = search needs
 
 cut-requires : tie.Need-cut-requires
 cut-requires c κs = search needs
@@ -23,9 +23,9 @@ cut-requires-2 c κs = search needs
 returns : tie.Need-returns
 returns c =
     let a = c .before .before .before .before .before .before .before .before .before .args in
-    span-by (a .s) (a .keys .now) (a .order .now) (a .round .0) _ _ _ _ (c .before .before .before .before .history-limit .ensures) (c .before .before .before .later .ensures) (c .before .before .cut .ensures) (c .cut2 .ensures ∙ ap (below (a .keys .now) (a .order .now) (a .s .count)) (c .before .plus .ensures))
+    span-by (a .s) (a .keys .now) (a .order .now) (a .round .0) _ _ _ _ (c .before .before .before .before .history-limit .ensures) (c .before .before .before .max .ensures) (c .before .before .cut .ensures) (c .cut2 .ensures ∙ ap (below (a .keys .now) (a .order .now) (a .s .count)) (c .before .plus .ensures))
 
 pub span-of-spec : {M : Type 1} → statement M
 span-of-spec =
     tie.close
-    (tie.spec history-limit-requires later-requires cut-requires plus-requires cut-requires-2 returns)
+    (tie.spec history-limit-requires max-requires cut-requires plus-requires cut-requires-2 returns)

@@ -17,10 +17,10 @@ span-of-requires c κs =
 
 needed-requires : tie.Need-needed-requires
 needed-requires c κs =
-    let a = c .before .before .before .before .before .before .before .before .args in
-    let fk : Fit (a .keys .now) = λ p. c .before .before .before .before .before .before .before .shared-slice-known .given p .fits in
-    let fl : Fit (a .links .now) = λ p. c .before .before .before .before .before .before .shared-slice-known2 .given p .fits in
-    span-ready (a .s) (a .keys .now) (a .links .now) (a .certs .now) (a .order .now) (c .before .before .before .before .before .before .before .before .pre .0) (a .anchor) (c .before .before .before .before .before .before .before .before .pre .1) fk fl (c .before .before .before .round-at .result .0) (c .before .before .span-of .result) (c .before .before .before .round-at .ensures) (c .before .before .span-of .ensures)
+    let a = c .before .before .before .before .before .before .before .args in
+    let fk : Fit (a .keys .now) = λ p. c .before .before .before .before .before .before .shared-slice-known .given p .fits in
+    let fl : Fit (a .links .now) = λ p. c .before .before .before .before .before .shared-slice-known2 .given p .fits in
+    span-ready (a .s) (a .keys .now) (a .links .now) (a .certs .now) (a .order .now) (c .before .before .before .before .before .before .before .pre .0) (a .anchor) (c .before .before .before .before .before .before .before .pre .1) fk fl (c .before .before .round-at .result .0) (c .before .span-of .result) (c .before .before .round-at .ensures) (c .before .span-of .ensures)
 
 count-points-requires : tie.Need-count-points-requires
 count-points-requires c κs =

@@ -8,12 +8,6 @@ use Rattle.commit_record.proofs.after.after_anchor.Tie as tie
 is-first-executable-requires : tie.Need-is-first-executable-requires
 is-first-executable-requires c κs = search needs
 
-add-next : tie.Need-add-next
-add-next c = search needs
-
-add-next-2 : tie.Need-add-next-2
-add-next-2 c = search needs
-
 cast-i : tie.Need-cast-i
 cast-i c = search needs
 
@@ -45,8 +39,8 @@ after-anchor-spec =
     tie.close
     (tie.spec
     is-first-executable-requires
-    add-next
-    add-next-2
+    (λ c. search needs)
+    (λ c. search needs)
     cast-i
     mul-rec
     element-copy-out-rec

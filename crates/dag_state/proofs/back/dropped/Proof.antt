@@ -11,8 +11,8 @@ add-full : tie.Need-add-full
 add-full c = search needs
 
 -- src/back.rt:164:23
-add-t10 : tie.Need-add-t10
-add-t10 c = search needs
+add-t9 : tie.Need-add-t9
+add-t9 c = search needs
 
 -- src/back.rt:157:1
 returns : tie.Need-returns
@@ -20,4 +20,4 @@ unfolding droppedState
 returns c = refl
 
 pub dropped-spec : {M : Type 1} → statement M
-dropped-spec = tie.close (tie.spec add-full add-t10 returns)
+dropped-spec = tie.close (tie.spec add-full add-t9 returns)

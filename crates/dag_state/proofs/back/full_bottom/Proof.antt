@@ -1,3 +1,4 @@
+use mathlib.Core.Path.{_∙_}
 use borrow.Author.Needs.{needs}
 use Rattle.dag_state.specs.Back.{full-low, full-high}
 use Rattle.dag_state.proofs.back.full_bottom.Statement.{statement}
@@ -14,12 +15,12 @@ returns : tie.Need-returns
 returns c = search full-low
 
 -- src/back.rt:56:5
-add-result : tie.Need-add-result
-add-result c = search needs
+plus-requires : tie.Need-plus-requires
+plus-requires c κs = search needs
 
 -- src/back.rt:49:1
 returns-2 : tie.Need-returns-2
-returns-2 c = search full-high
+returns-2 c = c .plus .ensures ∙ full-high _ _ _ (c .before .if1 .left)
 
 pub full-bottom-spec : {M : Type 1} → statement M
-full-bottom-spec = tie.close (tie.spec add-if1 returns add-result returns-2)
+full-bottom-spec = tie.close (tie.spec add-if1 returns plus-requires returns-2)

@@ -1,5 +1,6 @@
+use mathlib.Core.Path.{refl}
 use borrow.Author.Needs.{needs}
-use Rattle.models.specs.Cert.{with-height}
+use Rattle.models.specs.Cert.{withHeight}
 use Rattle.models.proofs.cert.Cert.with_height.Statement.{statement}
 use Rattle.models.proofs.cert.Cert.with_height.Tie as tie
 use Rattle.models.proofs.cert.Cert.with_height.Reads as reads
@@ -19,7 +20,8 @@ add-t6 c = search needs
 
 -- src/cert.rt:35:5
 returns : tie.Need-returns
-returns c = with-height (c .before .before .args .self .0) (c .before .before .args .height .0) (c .before .before .pre .0)
+unfolding withHeight
+returns c = refl
 
 pub with-height-spec : {M : Type 1} → statement M
 with-height-spec = tie.close (tie.spec mul-t4 cast-t5 add-t6 returns)
