@@ -14,12 +14,12 @@ use Rattle.models.specs.declared.refusal.Refusal.{Refusal}
 use Rattle.models.specs.declared.refusal.Refusal.the-variants.{Number}
 use Rattle.models.specs.declared.refusal.Check.{Check}
 use Rattle.models.specs.declared.refusal.Check.the-variants.{Passed, Failed}
-use Rattle.back_walk.specs.declared.Enqueued.{Enqueued}
-use Rattle.back_walk.specs.Visit.{enqueuedOf}
+use Rattle.back_walk.specs.declared.EnqueuedAnchor.{EnqueuedAnchor}
+use Rattle.back_walk.specs.Refines.{enqueuedOf}
 use Rattle.back_chain.specs.declared.Chain.{Chain}
 
 -- an entry that no anchor has
-abbrev pub noEnqueued : Enqueued
+abbrev pub noEnqueued : EnqueuedAnchor
 noEnqueued = record { anchor = 0; proof = 0; «prev_proof_round» = record { 0 = 0 } }
 
 -- no anchors
@@ -27,12 +27,12 @@ abbrev pub noAnchors : Check → Chain
 noAnchors c = record { check = c; count = 0; list = replicate 512 noEnqueued }
 
 -- the first n entries, oldest first
-unfoldable pub chainOf : List Enqueued → ℕ → List chain.Enqueued
+unfoldable pub chainOf : List EnqueuedAnchor → ℕ → List chain.EnqueuedAnchor
 chainOf l zero = []
 chainOf l (suc n) = enqueuedOf (getD l n noEnqueued) ∷ chainOf l n
 
 -- the chain as the definitions': its anchors, or the refusal
-unfoldable pub chainOut : Chain → Out (List chain.Enqueued)
+unfoldable pub chainOut : Chain → Out (List chain.EnqueuedAnchor)
 chainOut c = unlessFailed (c .check) (good (chainOf (c .list) (c .count)))
 
 pub out-good : (c : Chain) → c .check ≡ Passed → chainOut c ≡ good (chainOf (c .list) (c .count))
@@ -46,16 +46,16 @@ out-bad c r e = rw e refl
 -- ---- the list
 
 -- entries from n on don't show
-chain-off : (l : List Enqueued) (e : Enqueued) (m n : ℕ) → n ≤ m → chainOf (set l m e) n ≡ chainOf l n
+chain-off : (l : List EnqueuedAnchor) (e : EnqueuedAnchor) (m n : ℕ) → n ≤ m → chainOf (set l m e) n ≡ chainOf l n
 unfolding chainOf
 chain-off l e m zero h = refl
 chain-off l e m (suc n) h = rw (getD-set-other l m n e noEnqueued (λ d. omega arith), chain-off l e m n (omega arith)) refl
 
-pub chain-more : (l : List Enqueued) (e : Enqueued) (n : ℕ) → n < length l → chainOf (set l n e) (n + 1) ≡ enqueuedOf e ∷ chainOf l n
+pub chain-more : (l : List EnqueuedAnchor) (e : EnqueuedAnchor) (n : ℕ) → n < length l → chainOf (set l n e) (n + 1) ≡ enqueuedOf e ∷ chainOf l n
 unfolding chainOf
 chain-more l e n h = rw (add-one n, chainOf, getD-set-same l n e noEnqueued h, chain-off l e n n (omega arith)) refl
 
-pub chain-none : (l : List Enqueued) → chainOf l 0 ≡ []
+pub chain-none : (l : List EnqueuedAnchor) → chainOf l 0 ≡ []
 unfolding chainOf
 chain-none l = refl
 
@@ -63,7 +63,7 @@ sub-one : (n : ℕ) → suc n - 1 ≡ n
 sub-one n = omega arith
 
 -- the oldest one first
-pub chain-head : (l : List Enqueued) (n : ℕ) → 0 < n → chainOf l n ≡ enqueuedOf (getD l (n - 1) noEnqueued) ∷ chainOf l (n - 1)
+pub chain-head : (l : List EnqueuedAnchor) (n : ℕ) → 0 < n → chainOf l n ≡ enqueuedOf (getD l (n - 1) noEnqueued) ∷ chainOf l (n - 1)
 unfolding chainOf
 chain-head l zero h = absurd (omega arith)
 chain-head l (suc n) h = rw (sub-one n) refl
@@ -82,7 +82,7 @@ module _ (low : ℕ) (c : Chain) where
 
     module _ (some : (c .count ≡ 0 → ⊥)) where
       -- the oldest entry
-      abbrev last : Enqueued
+      abbrev last : EnqueuedAnchor
       last = getD (c .list) (c .count - 1) noEnqueued
 
       pub check-apart : low < last .«prev_proof_round» .0 → (r : Chain) → r .check ≡ failed 19 → chainOut r ≡ then (chainOut c) (checkOldest low)

@@ -1,4 +1,4 @@
 pub mod Chain
-pub mod Walked
-pub mod Trigger
-pub mod Anchors
+pub mod RefinesWalk
+pub mod Model
+pub mod Refines

@@ -5,50 +5,50 @@ ghost use Prim.Native.Nat.{_+_, _*_, _-_, _<_, _≤_};
 ghost use mathlib.Core.List.{[]};
 ghost use mathlib.Core.Bool.{true};
 ghost use lib.ListN.{length};
-ghost use Rattle.spec.specs.Rules.{counts};
+ghost use Rattle.spec.specs.Rules.{countsAsStarted};
 ghost use Rattle.spec.specs.Chain.{then, checkOldest, anchorsOf};
 ghost use Rattle.models.specs.DagPoint.{isValid};
 ghost use Rattle.models.specs.Parts.{idOf};
 ghost use Rattle.models.specs.Tables.{Used};
-ghost use Rattle.dag_test.specs.View.{view};
-ghost use Rattle.back_walk.specs.Step.{Walkable, Linked};
+ghost use Rattle.tables_test.specs.View.{view};
+ghost use Rattle.back_walk.specs.Model.{Walkable, Linked};
 ghost use Rattle.back_chain.specs.Chain.{noAnchors, chainOut};
-ghost use Rattle.back_chain.specs.Walked.{walked};
-ghost use Rattle.back_chain.specs.Trigger.{lowOf, triggerCode, walks, chainedFrom, isBelow};
-use back_walk::Enqueued;
+ghost use Rattle.back_chain.specs.RefinesWalk.{walked};
+ghost use Rattle.back_chain.specs.Model.{lowOf, triggerCode, walks, chainedFrom, isBelow};
+use back_walk::EnqueuedAnchor;
 use back_walk::Step;
 use back_walk::has_previous;
 use back_walk::previous;
 use back_walk::top_proof;
 use back_walk::visit;
-use dag_settle::point_code;
-use dag_settle::point_place;
-use dag_state::state::State;
+use commit_state::state::State;
+use dag_round_points::point_code;
+use dag_round_points::point_place;
 use models::cert::Cert;
 use models::dag_point::DagPoint;
 use models::dag_point::Resolved;
 use models::parts::PointId;
 use models::parts::Round;
-use models::refusal::CHAIN_NOT_LINKED;
+use models::refusal::BROKEN_CHAIN;
+use models::refusal::CHAIN_ENDS_EARLY;
 use models::refusal::Check;
-use models::refusal::NO_PROOF;
 use models::refusal::NOT_NAMED;
-use models::refusal::NOT_USABLE;
 use models::refusal::Refusal;
+use models::refusal::UNUSABLE;
 use models::refusal::not_valid;
 
 // The anchors, newest first, unless the trigger or its walk is refused.
 pub struct Chain {
     pub check: Check,
     pub count: usize,
-    pub list: [Enqueued; 512],
+    pub list: [EnqueuedAnchor; 512],
 }
 
 // No anchors.
 fn no_anchors(check: Check) -> Chain
     ensures { λ r. ⌜ r ≡ noAnchors check ⌝ }
 {
-    let empty = Enqueued {
+    let empty = EnqueuedAnchor {
         anchor: 0,
         proof: 0,
         prev_proof_round: Round(0),
@@ -136,7 +136,7 @@ fn check_oldest(c: Chain, low: Round) -> Chain
     let oldest = e.prev_proof_round;
     if low.0 < oldest.0 {
         return Chain {
-            check: Check::Failed(Refusal::Number(CHAIN_NOT_LINKED)),
+            check: Check::Failed(Refusal::Number(CHAIN_ENDS_EARLY)),
             count,
             list,
         };
@@ -149,7 +149,7 @@ fn lowest_walked(s: State) -> Round
     ensures { λ r. ⌜ r .0 ≡ lowOf s ⌝ }
 {
     let bottom = s.bottom;
-    let proof = s.last_proof;
+    let proof = s.last_committed_proof;
     let last = proof.0;
     if last == 0 {
         return bottom;
@@ -161,11 +161,11 @@ fn lowest_walked(s: State) -> Round
 }
 
 // What the trigger at place q, of this round, is refused with: 9, 13 or 15 (`filter`).
-fn trigger_code(keys: &[u64], certs: &[u64], q: usize, round: Round) -> Check
+fn filter(keys: &[u64], certs: &[u64], q: usize, round: Round) -> Check
     requires { ⌜ (q * 8 + 8 ≤ length (now keys)) × (q < length (now certs)) ⌝ }
     ensures { λ r. ⌜ r ≡ triggerCode (now (keys .entry)) (now (certs .entry)) q (round .0) ⌝ }
 {
-    let case = dag_keys::case_at(keys, q);
+    let case = dag_round_keys::case_at(keys, q);
     let cert = Cert(certs[q]);
     match case {
         Resolved::Nothing => Check::Failed(Refusal::Number(NOT_NAMED)),
@@ -176,7 +176,7 @@ fn trigger_code(keys: &[u64], certs: &[u64], q: usize, round: Round) -> Check
                     return Check::Failed(Refusal::Conflict(round));
                 }
                 if !cert.is_certified() {
-                    return Check::Failed(Refusal::Number(NOT_USABLE));
+                    return Check::Failed(Refusal::Number(UNUSABLE));
                 }
                 Check::Passed
             }
@@ -208,7 +208,7 @@ fn has_walk(s: State, keys: &[u64], q: usize, round: Round, low: Round) -> bool
     requires { ⌜ q * 8 + 8 ≤ length (now keys) ⌝ }
     ensures { λ r. ⌜ r ≡ walks s (now (keys .entry)) q (round .0) (low .0) ⌝ }
 {
-    let case = dag_keys::case_at(keys, q);
+    let case = dag_round_keys::case_at(keys, q);
     if !is_valid(case) {
         return false;
     }
@@ -242,7 +242,7 @@ fn chain_from(
     ensures { λ r. ⌜ r .count ≤ 511 ⌝ }
 {
     if !has_previous(keys, links, q) {
-        return no_anchors(Check::Failed(Refusal::Number(NO_PROOF)));
+        return no_anchors(Check::Failed(Refusal::Number(BROKEN_CHAIN)));
     }
     let first = previous(keys, links, q, round.prev());
     let span = round.0 - low.0;
@@ -271,7 +271,7 @@ pub fn chain_of(
     order: &[u64],
     id: PointId,
 ) -> Chain
-    requires { ⌜ counts (view s (now keys) (now links) (now certs) (now order)) ≡ true ⌝ }
+    requires { ⌜ countsAsStarted (view s (now keys) (now links) (now certs) (now order)) ≡ true ⌝ }
     ensures { λ r. ⌜ chainOut r ≡ anchorsOf (view s (now (keys .entry)) (now (links .entry)) (now (certs .entry)) (now (order .entry))) (idOf id) ⌝ }
     ensures { λ r. ⌜ r .count ≤ 511 ⌝ }
 {
@@ -284,7 +284,7 @@ pub fn chain_of(
         return no_anchors(Check::Failed(Refusal::Number(code)));
     }
     let q = point_place(s, keys, order, id);
-    let check = trigger_code(keys, certs, q, round);
+    let check = filter(keys, certs, q, round);
     if let Check::Failed(r) = check {
         return no_anchors(Check::Failed(r));
     }

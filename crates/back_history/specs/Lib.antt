@@ -1,6 +1,6 @@
 pub mod Down
-pub mod Sweep
+pub mod Model
 pub mod Marks
-pub mod Need
+pub mod RefinesNeeded
 pub mod Picked
-pub mod History
+pub mod Refines

@@ -9,9 +9,9 @@ use lib.ListN.{length, getD, set, replicate, length-set, length-replicate, getD-
 use lib.Seq.{getD-set-same, getD-set-other}
 use Rattle.laws.specs.Test.{byTest, clash, sameOr, leOr}
 use Rattle.models.specs.Tables.{placeAt, targetAt}
-use Rattle.dag_heights.specs.View.{reach}
+use Rattle.tables_heights.specs.View.{reach}
 use Rattle.back_history.specs.Down.{downFrom}
-use Rattle.back_history.specs.Sweep.{put, put-none, put-place, put-out, marked, marked-length, wants, handOn, swept, alone}
+use Rattle.back_history.specs.Model.{put, put-none, put-place, put-out, marked, marked-length, isUncommitted, handOn, swept, alone}
 
 -- place q is marked
 abbrev pub On : List Bool → ℕ → Type 0
@@ -87,7 +87,7 @@ marked-only ls m p (suc k) q h =
 -- so does a place
 hand-keeps : (b : ℕ) (ks ls cs : List ℕ) (m : List Bool) (p q : ℕ) → On m q → On (handOn b ks ls cs m p) q
 unfolding handOn
-hand-keeps b ks ls cs m p q h = byTest (wants cs m p) (λ y. rw y (marked-keeps ls m p (reach b ks p) q h)) (λ n. rw n h)
+hand-keeps b ks ls cs m p q h = byTest (isUncommitted cs m p) (λ y. rw y (marked-keeps ls m p (reach b ks p) q h)) (λ n. rw n h)
 
 -- so do positions
 pub swept-keeps : (b : ℕ) (ks ls cs os : List ℕ) (m : List Bool) (high k q : ℕ) → On m q → On (swept b ks ls cs os m high k) q

@@ -4,8 +4,8 @@ ghost use mathlib.Core.Path.{_≡_};
 ghost use Prim.Native.Nat.{_+_, _*_, _-_, _<_, _≤_};
 ghost use lib.ListN.{length};
 ghost use Rattle.laws.specs.Scan.{any, those};
-ghost use Rattle.back_history.specs.Sweep.{limitOf, missing, put, marked, wants, swept, marks, Range};
-ghost use Rattle.back_history.specs.Picked.{wantsAt, flatAt};
+ghost use Rattle.back_history.specs.Model.{limitOf, missing, put, marked, isUncommitted, swept, marks, Range};
+ghost use Rattle.back_history.specs.Picked.{uncommittedAt, uncertifiedAt};
 use models::cert::Cert;
 use models::parts::Round;
 
@@ -54,9 +54,9 @@ fn mark_links(marks: &mut [bool; 4096], links: &[u64], q: usize, m: usize)
 }
 
 // Whether place q is marked and not committed.
-pub fn is_wanted(marks: &[bool; 4096], certs: &[u64], q: usize) -> bool
+pub fn is_uncommitted(marks: &[bool; 4096], certs: &[u64], q: usize) -> bool
     requires { ⌜ (q < 4096) × (q < length (now certs)) ⌝ }
-    ensures { λ r. ⌜ r ≡ wants (now (certs .entry)) (now (marks .entry)) q ⌝ }
+    ensures { λ r. ⌜ r ≡ isUncommitted (now (certs .entry)) (now (marks .entry)) q ⌝ }
 {
     if marks[q] {
         let cert = Cert(certs[q]);
@@ -83,15 +83,15 @@ fn sweep(
     let mut p = high;
     while low < p {
         p -= 1;
-        let q = dag_places::place(order, high, p);
-        if is_wanted(marks, certs, q) {
-            mark_links(marks, links, q, dag_heights::live(keys, bottom, q));
+        let q = dag_round_keys::place(order, high, p);
+        if is_uncommitted(marks, certs, q) {
+            mark_links(marks, links, q, tables_heights::live_links(keys, bottom, q));
         }
     }
 }
 
 // The places that the anchor needs, of the positions from `low` to `high`; committed ones hand on no links.
-pub fn needed(
+pub fn gather_uncommitted(
     keys: &[u64],
     links: &[u64],
     certs: &[u64],
@@ -112,14 +112,20 @@ pub fn needed(
 }
 
 // Whether a point of the history has the height 0.
-pub fn any_flat(marks: &[bool; 4096], certs: &[u64], order: &[u64], low: usize, high: usize) -> bool
+pub fn any_uncertified(
+    marks: &[bool; 4096],
+    certs: &[u64],
+    order: &[u64],
+    low: usize,
+    high: usize,
+) -> bool
     requires { ⌜ Range (now certs) (now order) low high ⌝ }
-    ensures { λ r. ⌜ r ≡ any (high - low) (flatAt (now (certs .entry)) (now (order .entry)) (now (marks .entry)) low) ⌝ }
+    ensures { λ r. ⌜ r ≡ any (high - low) (uncertifiedAt (now (certs .entry)) (now (order .entry)) (now (marks .entry)) low) ⌝ }
 {
     let mut k: usize = 0;
     while k < high - low {
-        let q = dag_places::place(order, high, low + k);
-        if is_wanted(marks, certs, q) {
+        let q = dag_round_keys::place(order, high, low + k);
+        if is_uncommitted(marks, certs, q) {
             let cert = Cert(certs[q]);
             if !cert.is_certified() {
                 return true;
@@ -139,13 +145,13 @@ pub fn count_points(
     high: usize,
 ) -> usize
     requires { ⌜ Range (now certs) (now order) low high ⌝ }
-    ensures { λ r. ⌜ r ≡ length (those (high - low) (wantsAt (now (certs .entry)) (now (order .entry)) (now (marks .entry)) low)) ⌝ }
+    ensures { λ r. ⌜ r ≡ length (those (high - low) (uncommittedAt (now (certs .entry)) (now (order .entry)) (now (marks .entry)) low)) ⌝ }
 {
     let mut n: usize = 0;
     let mut k: usize = 0;
     while k < high - low {
-        let q = dag_places::place(order, high, low + k);
-        if is_wanted(marks, certs, q) {
+        let q = dag_round_keys::place(order, high, low + k);
+        if is_uncommitted(marks, certs, q) {
             n += 1;
         }
         k += 1;

@@ -1,3 +1,3 @@
 pub mod Words
-pub mod Step
-pub mod Visit
+pub mod Model
+pub mod Refines

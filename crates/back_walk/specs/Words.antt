@@ -7,7 +7,7 @@ use lib.Dec.{ltb}
 use lib.ListN.{length, getD}
 use Rattle.models.specs.Tables.{authorAt, targetAt}
 use Rattle.models.specs.declared.parts.PointId.{PointId}
-use Rattle.dag_links.specs.Words.{proofRoundAt, proofAuthorAt}
+use Rattle.tables_links.specs.Words.{proofRoundAt, proofAuthorAt}
 
 -- the id with the round r and the author a, and the digest in the four words of t from p on
 unfoldable pub idFrom : List ℕ → ℕ → ℕ → ℕ → PointId

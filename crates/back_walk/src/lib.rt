@@ -5,22 +5,22 @@ ghost use Prim.Native.Nat.{_+_, _*_, _<_, _≤_};
 ghost use lib.ListN.{length};
 ghost use Rattle.models.specs.Tables.{Used};
 ghost use Rattle.back_walk.specs.Words.{idFrom, hasPrevious, previousId, topId, Placed, Topped};
-ghost use Rattle.back_walk.specs.Step.{judgeAt, needed, proofAt, anchorAt, usedAt, stepAt, Walkable, Linked};
-use dag_state::state::State;
+ghost use Rattle.back_walk.specs.Model.{judgeAt, gather_uncommitted, proofAt, anchorAt, usedAt, stepAt, Walkable, Linked};
+use commit_state::state::State;
 use models::cert::Cert;
 use models::dag_point::DagPoint;
 use models::dag_point::Resolved;
 use models::parts::Digest;
 use models::parts::PointId;
 use models::parts::Round;
+use models::refusal::BROKEN_CHAIN;
 use models::refusal::Check;
-use models::refusal::NO_PROOF;
-use models::refusal::NOT_RESOLVED;
+use models::refusal::POINT_MISSING;
 use models::refusal::Refusal;
 use models::refusal::not_valid;
 
 // An anchor of the chain: its place, its proof's, and the round of the anchor's top proof (`EnqueuedAnchor`).
-pub struct Enqueued {
+pub struct EnqueuedAnchor {
     pub anchor: usize,
     pub proof: usize,
     pub prev_proof_round: Round,
@@ -37,7 +37,7 @@ pub enum Step {
     Pass,
     End,
     Bad(Refusal),
-    Found(Enqueued),
+    Found(EnqueuedAnchor),
 }
 
 // The id with this round and author and the digest in the four words from `at` on.
@@ -61,8 +61,8 @@ pub fn has_previous(keys: &[u64], links: &[u64], q: usize) -> bool
     requires { ⌜ Placed (now keys) (now links) q ⌝ }
     ensures { λ r. ⌜ r ≡ hasPrevious (now (keys .entry)) (now (links .entry)) q ⌝ }
 {
-    let k = laws::slot(dag_keys::author(keys, q));
-    0 < dag_links::target(links, q, k)
+    let k = laws::slot(dag_round_keys::author(keys, q));
+    0 < tables_links::target(links, q, k)
 }
 
 // The id of that point, which is of this round.
@@ -70,7 +70,7 @@ pub fn previous(keys: &[u64], links: &[u64], q: usize, round: Round) -> PointId
     requires { ⌜ Placed (now keys) (now links) q ⌝ }
     ensures { λ r. ⌜ r ≡ previousId (now (keys .entry)) (now (links .entry)) q (round .0) ⌝ }
 {
-    let author = dag_keys::author(keys, q);
+    let author = dag_round_keys::author(keys, q);
     let k = laws::slot(author);
     id_from(links, q * 328 + 72 + k * 4, round, author as u32)
 }
@@ -90,10 +90,10 @@ fn judge(keys: &[u64], certs: &[u64], q: usize, round: Round) -> Check
     requires { ⌜ (q * 8 + 8 ≤ length (now keys)) × (q < length (now certs)) ⌝ }
     ensures { λ r. ⌜ r ≡ judgeAt (now (keys .entry)) (now (certs .entry)) q (round .0) ⌝ }
 {
-    let case = dag_keys::case_at(keys, q);
+    let case = dag_round_keys::case_at(keys, q);
     let cert = Cert(certs[q]);
     match case {
-        Resolved::Nothing => Check::Failed(Refusal::Number(NOT_RESOLVED)),
+        Resolved::Nothing => Check::Failed(Refusal::Number(POINT_MISSING)),
         Resolved::Case(p) => match p {
             DagPoint::Valid => Check::Passed,
             DagPoint::TransInvalid => not_valid(cert, round),
@@ -105,17 +105,17 @@ fn judge(keys: &[u64], certs: &[u64], q: usize, round: Round) -> Check
 }
 
 // The point with this id, as the walk needs it (`ready_valid_point`).
-fn need(s: State, keys: &[u64], certs: &[u64], order: &[u64], id: PointId) -> Needed
+fn ready_valid_point(s: State, keys: &[u64], certs: &[u64], order: &[u64], id: PointId) -> Needed
     requires { ⌜ Walkable s (now keys) (now certs) (now order) ⌝ }
-    ensures { λ r. ⌜ r ≡ needed s (now (keys .entry)) (now (certs .entry)) (now (order .entry)) id ⌝ }
+    ensures { λ r. ⌜ r ≡ gather_uncommitted s (now (keys .entry)) (now (certs .entry)) (now (order .entry)) id ⌝ }
 {
     let n = s.count;
-    let words = dag_name::id_words(id);
-    let at = dag_keys::find_point(keys, order, n, &words);
+    let words = dag_round_points::id_words(id);
+    let at = dag_round_keys::find_point(keys, order, n, &words);
     if n <= at {
-        return Needed::Refused(Refusal::Number(NOT_RESOLVED));
+        return Needed::Refused(Refusal::Number(POINT_MISSING));
     }
-    let q = dag_places::place(order, n, at);
+    let q = dag_round_keys::place(order, n, at);
     let round = id.round;
     let check = judge(keys, certs, q, round);
     match check {
@@ -125,7 +125,7 @@ fn need(s: State, keys: &[u64], certs: &[u64], order: &[u64], id: PointId) -> Ne
 }
 
 // The proof with this id: a point that the walk needs, marked as proof, with a previous point (`chained_proof`).
-fn proof_at(
+fn chained_proof(
     s: State,
     keys: &[u64],
     links: &[u64],
@@ -137,15 +137,15 @@ fn proof_at(
     requires { ⌜ Linked s (now keys) (now links) (now order) ⌝ }
     ensures { λ r. ⌜ r ≡ proofAt s (now (keys .entry)) (now (links .entry)) (now (certs .entry)) (now (order .entry)) id ⌝ }
 {
-    let found = need(s, keys, certs, order, id);
+    let found = ready_valid_point(s, keys, certs, order, id);
     match found {
         Needed::Refused(r) => Needed::Refused(r),
         Needed::At(p) => {
             if keys[p * 8 + 7] % 2 == 0 {
-                return Needed::Refused(Refusal::Number(NO_PROOF));
+                return Needed::Refused(Refusal::Number(BROKEN_CHAIN));
             }
             if !has_previous(keys, links, p) {
-                return Needed::Refused(Refusal::Number(NO_PROOF));
+                return Needed::Refused(Refusal::Number(BROKEN_CHAIN));
             }
             Needed::At(p)
         }
@@ -168,13 +168,13 @@ fn anchor_at(
     ensures { λ r. ⌜ r ≡ anchorAt s (now (keys .entry)) (now (links .entry)) (now (certs .entry)) (now (order .entry)) p (round .0) ⌝ }
 {
     let id = previous(keys, links, p, round);
-    let found = need(s, keys, certs, order, id);
+    let found = ready_valid_point(s, keys, certs, order, id);
     match found {
         Needed::Refused(r) => Step::Bad(r),
         Needed::At(q) => {
             let top = top_proof(links, q);
             let prev_proof_round = top.round;
-            Step::Found(Enqueued {
+            Step::Found(EnqueuedAnchor {
                 anchor: q,
                 proof: p,
                 prev_proof_round,
@@ -190,7 +190,7 @@ fn at_used(used: u32, author: u32) -> Step
     if used == author {
         return Step::End;
     }
-    Step::Bad(Refusal::Number(NO_PROOF))
+    Step::Bad(Refusal::Number(BROKEN_CHAIN))
 }
 
 // The round x of the walk, which ends at the round low; id is the sought proof's.
@@ -213,14 +213,14 @@ pub fn visit(
         return Step::Pass;
     }
     if x.0 < round.0 {
-        return Step::Bad(Refusal::Number(NO_PROOF));
+        return Step::Bad(Refusal::Number(BROKEN_CHAIN));
     }
     let record = s.rounds[(x.0 % 512) as usize];
-    let used = record.used;
+    let used = record.used_anchor_proof;
     if used != 0 {
         return at_used(used - 1, id.author);
     }
-    let found = proof_at(s, keys, links, certs, order, id);
+    let found = chained_proof(s, keys, links, certs, order, id);
     match found {
         Needed::Refused(r) => Step::Bad(r),
         Needed::At(p) => {

@@ -6,12 +6,12 @@ use commit_points::resolve::resolve;
 use commit_rounds::drop_upto;
 use commit_rounds::extend_from_ahead;
 use commit_start::init;
-use dag_state::back::Beginning;
-use dag_state::back::UsedAuthor;
-use dag_state::state::Entry;
-use dag_state::state::Memory;
-use dag_state::state::RoundRecord;
-use dag_state::state::State;
+use commit_state::back::StartArgs;
+use commit_state::back::UsedAuthor;
+use commit_state::state::Entry;
+use commit_state::state::Memory;
+use commit_state::state::RoundRecord;
+use commit_state::state::State;
 use models::info::PointInfo;
 use models::parts::Digest;
 use models::parts::OptionRound;
@@ -47,14 +47,14 @@ fn write_answer(answer: Answer) {
         Answer::Done => {
             write(b"done\n");
         }
-        Answer::Said(yes) => {
+        Answer::Flag(yes) => {
             if yes {
                 write(b"yes\n");
             } else {
                 write(b"no\n");
             }
         }
-        Answer::Handed(n) => {
+        Answer::Anchors(n) => {
             write(b"anchors ");
             write_number(n as u64);
         }
@@ -66,27 +66,30 @@ fn write_answer(answer: Answer) {
 
 // A state that no call left.
 fn noise() -> State {
-    let empty = RoundRecord { peers: 9, used: 9 };
+    let empty = RoundRecord {
+        peers: 9,
+        used_anchor_proof: 9,
+    };
     let entry = Entry {
         author: 9,
         digest: Digest([9; 4]),
         has_previous: 1,
         previous: Digest([9; 4]),
-        owing: 9,
+        unreferenced_by: 9,
     };
     State {
         phase: 9,
         count: 9,
         genesis: Round(9),
-        history_rounds: 9,
+        commit_history_rounds: 9,
         deduplicate_rounds: 9,
         bottom: Round(9),
         top: Round(9),
-        last_proof: OptionRound(9),
+        last_committed_proof: OptionRound(9),
         last_anchor: OptionRound(9),
         full_history_bottom: Round(9),
         first_executable: Round(9),
-        gap: 9,
+        emit_first_after_gap: 9,
         rounds: [empty; 512],
         memory: Memory {
             last: Round(9),
@@ -121,9 +124,9 @@ fn k9() {
     let mut links = [9u64; 1312];
     let mut certs = [9u64; 4];
     let mut order = [9u64; 4];
-    let with = Beginning {
+    let with = StartArgs {
         genesis: Round(10),
-        history_rounds: 2,
+        commit_history_rounds: 2,
         deduplicate_rounds: 0,
         bottom: Round(20),
         peers: 1,
@@ -134,10 +137,10 @@ fn k9() {
     let first = started.answer;
     write_answer(first);
     let s = with_rounds(started.state, &keys, &links, &certs, &order, 21, 31);
-    let dropped = drop_upto(s, &mut keys, &mut links, &mut certs, &mut order, Round(40));
-    let second = dropped.answer;
+    let drop_state = drop_upto(s, &mut keys, &mut links, &mut certs, &mut order, Round(40));
+    let second = drop_state.answer;
     write_answer(second);
-    let left = dropped.state;
+    let left = drop_state.state;
     let bottom = left.bottom;
     write_number(bottom.0 as u64);
 }
@@ -174,7 +177,7 @@ fn with_point(
         includes: refs.len() / 5,
         witness: 0,
     };
-    let told = resolve(
+    let resolution = resolve(
         named.state,
         keys,
         links,
@@ -184,9 +187,9 @@ fn with_point(
         info,
         refs,
     );
-    let second = told.answer;
+    let second = resolution.answer;
     write_answer(second);
-    told.state
+    resolution.state
 }
 
 // The points of the rounds after `from`, below `to`, each including the one before it.
@@ -224,9 +227,9 @@ fn k4_and_k5() {
     let mut links = [9u64; 1640];
     let mut certs = [9u64; 5];
     let mut order = [9u64; 5];
-    let with = Beginning {
+    let with = StartArgs {
         genesis: Round(10),
-        history_rounds: 3,
+        commit_history_rounds: 3,
         deduplicate_rounds: 0,
         bottom: Round(16),
         peers: 1,

@@ -1,14 +1,14 @@
 // Origin: dag/commit/mod.rs (the results of the calls). What a call answers.
 ghost use mathlib.Core.Path.{_≡_};
 ghost use Rattle.commit_answer.specs.Answer.{refusal};
-use dag_state::state::State;
+use commit_state::state::State;
 use models::refusal::Refusal;
 
 // Refused holds the number of finished anchors.
 pub enum Answer {
     Done,
-    Said(bool),
-    Handed(u32),
+    Flag(bool),
+    Anchors(u32),
     Refused(Refusal, u32),
 }
 

@@ -13,39 +13,39 @@ use Rattle.laws.specs.Lists.{joined}
 use Rattle.laws.specs.Bytes.{be, be-length, written, written-length, written-append, andThen}
 use Rattle.spec.specs.Ids.{Id, idBytes}
 use Rattle.spec.specs.Store.{Store, idAt}
-use Rattle.spec.specs.Rules.{counts}
+use Rattle.spec.specs.Rules.{countsAsStarted}
 use Rattle.spec.specs.Records.{id-length}
 use Rattle.spec.specs.Chain as chain
 use Rattle.spec.specs.Chain.{Out, bad, good, then, refuse, anchorsOf}
 use Rattle.spec.specs.Outlook.{outlook-length}
 use Rattle.spec.specs.History.{history, tested, outlookBytes, outlookAll}
-use Rattle.spec.specs.Calls.{handed, refused, doOutlook}
+use Rattle.spec.specs.Calls.{anchors, refused, doOutlook}
 use Rattle.spec.specs.Walk.{Anchored, Rising}
 use Rattle.models.specs.Digest.{Fit}
 use Rattle.models.specs.Refusal.{refusalOf, unlessFailed, not-failed}
 use Rattle.models.specs.declared.refusal.Refusal.{Refusal}
 use Rattle.models.specs.declared.refusal.Check.{Check}
 use Rattle.models.specs.declared.refusal.Check.the-variants.{Passed, Failed}
-use Rattle.dag_state.specs.declared.state.State.{State}
-use Rattle.dag_test.specs.View.{view}
-use Rattle.dag_test.specs.Tested.{shape-says}
-use Rattle.back_history.specs.History.{well}
-use Rattle.back_walk.specs.declared.Enqueued.{Enqueued}
-use Rattle.back_walk.specs.Visit.{enqueuedOf}
+use Rattle.commit_state.specs.declared.state.State.{State}
+use Rattle.tables_test.specs.View.{view}
+use Rattle.tables_test.specs.Model.{shape-says}
+use Rattle.back_history.specs.Refines.{well}
+use Rattle.back_walk.specs.declared.EnqueuedAnchor.{EnqueuedAnchor}
+use Rattle.back_walk.specs.Refines.{enqueuedOf}
 use Rattle.back_chain.specs.Chain.{noEnqueued, chainOf, chain-head, chain-none}
 use Rattle.answer_bytes.specs.Bytes.{placeId}
-use Rattle.commit_record.specs.History.{id-seen}
-use Rattle.commit_anchor.specs.Says.{held, anchor-used, placed}
+use Rattle.output_record.specs.History.{id-seen}
+use Rattle.commit_dequeue.specs.Refines.{held, anchor-used, placed}
 use Rattle.commit_outlook.specs.Look.{lookAt, look-room}
 
 -- ---- definitions
 
 -- the bytes of a chain's anchors that all pass
-unfoldable pub chainBytes : Store → List chain.Enqueued → List ℕ
+unfoldable pub chainBytes : Store → List chain.EnqueuedAnchor → List ℕ
 chainBytes v = joined (λ e. outlookBytes v (e .anchor))
 
 -- the anchor of the list's entry at j
-abbrev entry : List Enqueued → ℕ → ℕ
+abbrev entry : List EnqueuedAnchor → ℕ → ℕ
 entry l j = getD l j noEnqueued .anchor
 
 -- the id and the number of one anchor
@@ -53,24 +53,24 @@ unfoldable pub lookIn : List ℕ → ℕ → ℕ → List ℕ
 lookIn ks a n = idBytes (placeId ks a) ++ be 4 n
 
 -- those of the first n entries, oldest first
-unfoldable pub looksIn : List ℕ → List Enqueued → List ℕ → ℕ → List ℕ
+unfoldable pub looksIn : List ℕ → List EnqueuedAnchor → List ℕ → ℕ → List ℕ
 looksIn ks l ns zero = []
 looksIn ks l ns (suc n) = lookIn ks (entry l n) (getD ns n 0) ++ looksIn ks l ns n
 
 -- the first n entries stand at places
-abbrev pub Placed : List ℕ → List Enqueued → ℕ → Type 0
+abbrev pub Placed : List ℕ → List EnqueuedAnchor → ℕ → Type 0
 Placed ks l n = (j : ℕ) → j < n → entry l j * 8 + 8 ≤ length ks
 
 -- what the anchors' tests leave: the numbers ns if none is refused
-pub record Looked (v : Store) (ks : List ℕ) (room : ℕ) (l : List Enqueued) (count : ℕ) (c : Check) (ns : List ℕ) : Type 0 where
+pub record Looked (v : Store) (ks : List ℕ) (room : ℕ) (l : List EnqueuedAnchor) (count : ℕ) (c : Check) (ns : List ℕ) : Type 0 where
   pub pass : c ≡ Passed → outlookAll v room (chainOf l count) ≡ good (chainBytes v (chainOf l count))
   pub fits : c ≡ Passed → count * 41 ≤ room
   pub bytes : c ≡ Passed → looksIn ks l ns count ≡ chainBytes v (chainOf l count)
   pub stopped : (r : Refusal) → c ≡ Failed r → outlookAll v room (chainOf l count) ≡ bad (refusalOf r)
 
 -- what the outlook of the chain es leaves of the buffer b: "with nothing written" if it is refused
-pub record Told (v : Store) (b : List ℕ) (es : List chain.Enqueued) (c : Check) (b′ : List ℕ) : Type 0 where
-  pub handed : c ≡ Passed → (outlookAll v (length b) es ≡ good (chainBytes v es)) × (b′ ≡ written b 0 (chainBytes v es))
+pub record Resolution (v : Store) (b : List ℕ) (es : List chain.EnqueuedAnchor) (c : Check) (b′ : List ℕ) : Type 0 where
+  pub anchors : c ≡ Passed → (outlookAll v (length b) es ≡ good (chainBytes v es)) × (b′ ≡ written b 0 (chainBytes v es))
   pub refused : (r : Refusal) → c ≡ Failed r → (outlookAll v (length b) es ≡ bad (refusalOf r)) × (b′ ≡ b)
 
 -- ---- one anchor more
@@ -81,7 +81,7 @@ unfolding lookIn
 look-length ks a n = length-append (idBytes (placeId ks a)) (be 4 n) ∙ ap₂ _+_ (id-length (placeId ks a)) (be-length 4 n)
 
 -- the outlook of a chain is that of its oldest anchor, then of the others
-all-step : (v : Store) (left : ℕ) (e : chain.Enqueued) (es : List chain.Enqueued)
+all-step : (v : Store) (left : ℕ) (e : chain.EnqueuedAnchor) (es : List chain.EnqueuedAnchor)
     → outlookAll v left (e ∷ es) ≡ then (lookAt v left (e .anchor)) (λ x. then (outlookAll v (left - 41) es) (λ rest. good (outlookBytes v (e .anchor) ++ rest)))
 unfolding outlookAll lookAt refuse
 all-step v left e es = rw (outlookAll, outlook-length v (e .anchor)) (by (tested v (e .anchor)) refl)
@@ -93,7 +93,7 @@ all-step v left e es = rw (outlookAll, outlook-length v (e .anchor)) (by (tested
     by (good a) d = rw d (byTest (ltb left 41) (λ t. rw t refl) (λ f. rw f refl))
 
 -- it is refused, or the others follow
-module _ (v : Store) (left : ℕ) (e : chain.Enqueued) (es : List chain.Enqueued) (c : Check) (o : unlessFailed c (good (e .anchor)) ≡ lookAt v left (e .anchor)) where
+module _ (v : Store) (left : ℕ) (e : chain.EnqueuedAnchor) (es : List chain.EnqueuedAnchor) (c : Check) (o : unlessFailed c (good (e .anchor)) ≡ lookAt v left (e .anchor)) where
   all-refused : (r : Refusal) → c ≡ Failed r → outlookAll v left (e ∷ es) ≡ bad (refusalOf r)
   unfolding unlessFailed
   all-refused r d = all-step v left e es ∙ rw (← o, d) refl
@@ -112,16 +112,16 @@ module _ (v : Store) (left : ℕ) (e : chain.Enqueued) (es : List chain.Enqueued
 -- ---- the anchors of a chain
 
 -- each entry of a chain that rises is an anchor
-rising-at : (v : Store) (b : ℕ) (l : List Enqueued) (n j : ℕ) → Rising v b (chainOf l n) → j < n → Anchored v (enqueuedOf (getD l j noEnqueued))
+rising-at : (v : Store) (b : ℕ) (l : List EnqueuedAnchor) (n j : ℕ) → Rising v b (chainOf l n) → j < n → Anchored v (enqueuedOf (getD l j noEnqueued))
 unfolding chainOf
 rising-at v b l zero j h m = absurd (omega arith)
 rising-at v b l (suc n) j (x, a, h) m = sameOr j n (λ e. subst (λ (i : ℕ). Anchored v (enqueuedOf (getD l i noEnqueued))) (sym e) a) (λ d. rising-at v _ l n j h (omega arith))
 
 -- the numbers from k on are those of the histories
-abbrev Counted : Store → List Enqueued → ℕ → ℕ → List ℕ → Type 0
+abbrev Counted : Store → List EnqueuedAnchor → ℕ → ℕ → List ℕ → Type 0
 Counted v l k n ns = (j : ℕ) → k ≤ j → j < n → getD ns j 0 ≡ length (history v (entry l j))
 
-module _ (s : State) (ks ls cs os : List ℕ) (fk : Fit ks) (fl : Fit ls) (h : counts (view s ks ls cs os) ≡ true) (l : List Enqueued) where
+module _ (s : State) (ks ls cs os : List ℕ) (fk : Fit ks) (fl : Fit ls) (h : countsAsStarted (view s ks ls cs os) ≡ true) (l : List EnqueuedAnchor) where
   abbrev v : Store
   v = view s ks ls cs os
 
@@ -152,7 +152,7 @@ module _ (s : State) (ks ls cs os : List ℕ) (fk : Fit ks) (fl : Fit ls) (h : c
 -- ---- the loop over the anchors
 
 -- with k anchors still to come: how the rest goes on to what the whole chain gives
-pub record Looking (v : Store) (l : List Enqueued) (count room : ℕ) (ns : List ℕ) (left k : ℕ) : Type 0 where
+pub record Looking (v : Store) (l : List EnqueuedAnchor) (count room : ℕ) (ns : List ℕ) (left k : ℕ) : Type 0 where
   pub most : k ≤ count
   pub free : left + count * 41 ≡ room + k * 41
   pub long : length ns ≡ 512
@@ -160,7 +160,7 @@ pub record Looking (v : Store) (l : List Enqueued) (count room : ℕ) (ns : List
   pub pass : outlookAll v left (chainOf l k) ≡ good (chainBytes v (chainOf l k)) → outlookAll v room (chainOf l count) ≡ good (chainBytes v (chainOf l count))
   pub stop : (r : chain.Refusal) → outlookAll v left (chainOf l k) ≡ bad r → outlookAll v room (chainOf l count) ≡ bad r
 
-module _ (v : Store) (l : List Enqueued) (count room : ℕ) where
+module _ (v : Store) (l : List EnqueuedAnchor) (count room : ℕ) where
   -- at first
   pub looking-first : (ns : List ℕ) → length ns ≡ 512 → Looking v l count room ns room count
   looking-first ns e = record { most = omega arith; free = refl; long = e; counted = λ j p q. absurd (omega arith); pass = λ p. p; stop = λ r p. p }
@@ -185,16 +185,16 @@ module _ (v : Store) (l : List Enqueued) (count room : ℕ) where
             counted = λ j p q. sameOr j (k - 1)
                 (λ e. ap (λ (i : ℕ). getD (set ns (k - 1) n) i 0) e ∙ (getD-set-same ns (k - 1) n 0 (omega (arith, g .long, g .most)) ∙ (is ∙ ap (λ (i : ℕ). length (history v (entry l i))) (sym e))))
                 (λ d. getD-set-other ns (k - 1) j n 0 d ∙ g .counted j (omega arith) q);
-            pass = λ p. g .pass (ap (outlookAll v left) head ∙ (taken-pass v left _ (chainOf l (k - 1)) c o z p ∙ ap (λ (es : List chain.Enqueued). good (chainBytes v es)) (sym head)));
+            pass = λ p. g .pass (ap (outlookAll v left) head ∙ (taken-pass v left _ (chainOf l (k - 1)) c o z p ∙ ap (λ (es : List chain.EnqueuedAnchor). good (chainBytes v es)) (sym head)));
             stop = λ y p. g .stop y (ap (outlookAll v left) head ∙ taken-stop v left _ (chainOf l (k - 1)) c o z y p);
           }
 
 -- no anchor is left
-none-left : (v : Store) (left : ℕ) (l : List Enqueued) (k : ℕ) → k ≡ 0 → outlookAll v left (chainOf l k) ≡ good (chainBytes v (chainOf l k))
+none-left : (v : Store) (left : ℕ) (l : List EnqueuedAnchor) (k : ℕ) → k ≡ 0 → outlookAll v left (chainOf l k) ≡ good (chainBytes v (chainOf l k))
 unfolding outlookAll chainBytes joined
 none-left v left l k z = rw (z, chain-none l) refl
 
-module _ (s : State) (ks ls cs os : List ℕ) (fk : Fit ks) (fl : Fit ls) (h : counts (view s ks ls cs os) ≡ true) (l : List Enqueued) (count : ℕ) (rise : Rising (view s ks ls cs os) 0 (chainOf l count)) (room : ℕ) (ns : List ℕ) (left k : ℕ)
+module _ (s : State) (ks ls cs os : List ℕ) (fk : Fit ks) (fl : Fit ls) (h : countsAsStarted (view s ks ls cs os) ≡ true) (l : List EnqueuedAnchor) (count : ℕ) (rise : Rising (view s ks ls cs os) 0 (chainOf l count)) (room : ℕ) (ns : List ℕ) (left k : ℕ)
     (g : Looking (view s ks ls cs os) l count room ns left k) where
   -- the next one is an anchor
   pub looking-anchored : 0 < k → Anchored (view s ks ls cs os) (enqueuedOf (getD l (k - 1) noEnqueued))
@@ -222,7 +222,7 @@ module _ (s : State) (ks ls cs os : List ℕ) (fk : Fit ks) (fl : Fit ls) (h : c
 -- ---- the bytes
 
 -- the oldest anchor's come first
-looks-head : (ks : List ℕ) (l : List Enqueued) (ns : List ℕ) (k : ℕ) → 0 < k → looksIn ks l ns k ≡ lookIn ks (entry l (k - 1)) (getD ns (k - 1) 0) ++ looksIn ks l ns (k - 1)
+looks-head : (ks : List ℕ) (l : List EnqueuedAnchor) (ns : List ℕ) (k : ℕ) → 0 < k → looksIn ks l ns k ≡ lookIn ks (entry l (k - 1)) (getD ns (k - 1) 0) ++ looksIn ks l ns (k - 1)
 unfolding looksIn
 looks-head ks l ns zero h = absurd (omega arith)
 looks-head ks l ns (suc n) h = rw (last n) refl
@@ -231,13 +231,13 @@ looks-head ks l ns (suc n) h = rw (last n) refl
     last n = omega arith
 
 -- what stands before the k anchors still to come
-pub record Putting (ks : List ℕ) (l : List Enqueued) (ns : List ℕ) (count : ℕ) (b₀ b : List ℕ) (at k : ℕ) : Type 0 where
+pub record Putting (ks : List ℕ) (l : List EnqueuedAnchor) (ns : List ℕ) (count : ℕ) (b₀ b : List ℕ) (at k : ℕ) : Type 0 where
   pub most : k ≤ count
   pub place : at + k * 41 ≡ count * 41
   pub long : length b ≡ length b₀
   pub rest : written b at (looksIn ks l ns k) ≡ written b₀ 0 (looksIn ks l ns count)
 
-module _ (ks : List ℕ) (l : List Enqueued) (ns : List ℕ) (count : ℕ) (b₀ : List ℕ) where
+module _ (ks : List ℕ) (l : List EnqueuedAnchor) (ns : List ℕ) (count : ℕ) (b₀ : List ℕ) where
   pub putting-first : Putting ks l ns count b₀ b₀ 0 count
   putting-first = record { most = omega arith; place = omega arith; long = refl; rest = refl }
 
@@ -262,25 +262,25 @@ module _ (ks : List ℕ) (l : List Enqueued) (ns : List ℕ) (count : ℕ) (b₀
 
 -- ---- the whole
 
-module _ (v : Store) (ks b : List ℕ) (l : List Enqueued) (count : ℕ) (c : Check) (ns : List ℕ) (h : Looked v ks (length b) l count c ns) where
-  pub told-refused : (r : Refusal) → c ≡ Failed r → Told v b (chainOf l count) (Failed r) b
-  told-refused r d = record { handed = λ z. absurd (not-failed r z); refused = λ w y. (h .stopped w (d ∙ y), refl) }
+module _ (v : Store) (ks b : List ℕ) (l : List EnqueuedAnchor) (count : ℕ) (c : Check) (ns : List ℕ) (h : Looked v ks (length b) l count c ns) where
+  pub resolution-refused : (r : Refusal) → c ≡ Failed r → Resolution v b (chainOf l count) (Failed r) b
+  resolution-refused r d = record { anchors = λ z. absurd (not-failed r z); refused = λ w y. (h .stopped w (d ∙ y), refl) }
 
-  pub told-all : c ≡ Passed → (b′ : List ℕ) → b′ ≡ written b 0 (looksIn ks l ns count) → Told v b (chainOf l count) Passed b′
-  told-all z b′ e = record { handed = λ y. (h .pass z, e ∙ ap (written b 0) (h .bytes z)); refused = λ r y. absurd (not-failed r (sym y)) }
+  pub resolution-all : c ≡ Passed → (b′ : List ℕ) → b′ ≡ written b 0 (looksIn ks l ns count) → Resolution v b (chainOf l count) Passed b′
+  resolution-all z b′ e = record { anchors = λ y. (h .pass z, e ∙ ap (written b 0) (h .bytes z)); refused = λ r y. absurd (not-failed r (sym y)) }
 
 -- as many anchors as entries
-pub chain-length : (l : List Enqueued) (n : ℕ) → length (chainOf l n) ≡ n
+pub chain-length : (l : List EnqueuedAnchor) (n : ℕ) → length (chainOf l n) ≡ n
 unfolding chainOf
 chain-length l zero = refl
 chain-length l (suc n) = ap suc (chain-length l n)
 
 -- what 01's outlook leaves of a store from which the walk took these anchors
-module _ (v : Store) (i : Id) (b : List ℕ) (es : List chain.Enqueued) (w : anchorsOf v i ≡ good es) (c : Check) (b′ : List ℕ) (h : Told v b es c b′) where
-  pub told-handed : c ≡ Passed → doOutlook v i b ≡ record { answer = handed (length es); store = v; buffer = b′ }
+module _ (v : Store) (i : Id) (b : List ℕ) (es : List chain.EnqueuedAnchor) (w : anchorsOf v i ≡ good es) (c : Check) (b′ : List ℕ) (h : Resolution v b es c b′) where
+  pub resolution-handed : c ≡ Passed → doOutlook v i b ≡ record { answer = anchors (length es); store = v; buffer = b′ }
   unfolding doOutlook
-  told-handed z = let (p, q) = h .handed z in rw (w, doOutlook, p, q) refl
+  resolution-handed z = let (p, q) = h .anchors z in rw (w, doOutlook, p, q) refl
 
-  pub told-stopped : (r : Refusal) → c ≡ Failed r → doOutlook v i b ≡ record { answer = refused (refusalOf r) 0; store = v; buffer = b′ }
+  pub resolution-stopped : (r : Refusal) → c ≡ Failed r → doOutlook v i b ≡ record { answer = refused (refusalOf r) 0; store = v; buffer = b′ }
   unfolding doOutlook
-  told-stopped r d = let (p, q) = h .refused r d in rw (w, doOutlook, p, q) refl
+  resolution-stopped r d = let (p, q) = h .refused r d in rw (w, doOutlook, p, q) refl

@@ -7,7 +7,7 @@ use lib.Dec.{ltb}
 use lib.ListN.{length}
 use borrow.Author.Tests.{lt-ltb, le-ltb, ltb-false}
 use Rattle.spec.specs.Store.{Store}
-use Rattle.spec.specs.Rules.{counts}
+use Rattle.spec.specs.Rules.{countsAsStarted}
 use Rattle.spec.specs.Chain as chain
 use Rattle.spec.specs.Chain.{Out, good, then, refuse}
 use Rattle.spec.specs.History.{history, tested}
@@ -17,12 +17,12 @@ use Rattle.models.specs.Refusal.{refusalOf, unlessFailed, failed}
 use Rattle.models.specs.declared.refusal.Refusal.{Refusal}
 use Rattle.models.specs.declared.refusal.Check.{Check}
 use Rattle.models.specs.declared.refusal.Check.the-variants.{Passed, Failed}
-use Rattle.dag_state.specs.declared.state.State.{State}
-use Rattle.dag_test.specs.View.{view}
-use Rattle.back_points.specs.declared.anchor.Tested.{Tested}
-use Rattle.back_points.specs.Anchor.{testedOf}
-use Rattle.back_points.specs.Tested.{tested-count}
-use Rattle.commit_anchor.specs.Says.{held, anchor-used, picked-ready}
+use Rattle.commit_state.specs.declared.state.State.{State}
+use Rattle.tables_test.specs.View.{view}
+use Rattle.back_committable.specs.declared.anchor.Tested.{Tested}
+use Rattle.back_committable.specs.Model.{testedOf}
+use Rattle.back_committable.specs.Refines.{tested-count}
+use Rattle.commit_dequeue.specs.Refines.{held, anchor-used, picked-ready}
 
 -- "It is refused as the commit would be, by 20 never, by 21 for its own buffer": the anchor at a, left the bytes that are left
 unfoldable pub lookAt : Store → ℕ → ℕ → Out ℕ
@@ -44,7 +44,7 @@ module _ (v : Store) (left a : ℕ) (c : Check) (h : unlessFailed c (good a) ≡
     look-pass l = rw (← h, z, le-ltb left 41 l) refl
 
 -- what the tests count are the points of its history
-pub look-points : (s : State) (ks ls cs os : List ℕ) (fk : Fit ks) (fl : Fit ls) (h : counts (view s ks ls cs os) ≡ true) (e : chain.Enqueued) → Anchored (view s ks ls cs os) e → (t : Tested) → t ≡ testedOf s ks ls cs os (e .anchor)
+pub look-points : (s : State) (ks ls cs os : List ℕ) (fk : Fit ks) (fl : Fit ls) (h : countsAsStarted (view s ks ls cs os) ≡ true) (e : chain.EnqueuedAnchor) → Anchored (view s ks ls cs os) e → (t : Tested) → t ≡ testedOf s ks ls cs os (e .anchor)
     → (t .count ≡ length (history (view s ks ls cs os) (e .anchor))) × (t .count ≤ 4096)
 look-points s ks ls cs os fk fl h e x t is = (
   ap (λ (y : Tested). y .count) is ∙ tested-count s ks ls cs os fk fl (held s ks ls cs os fk fl h e x) (e .anchor) (anchor-used s ks ls cs os fk fl h e x),

@@ -4,22 +4,22 @@ ghost use mathlib.Core.Bool.{true};
 ghost use Prim.Native.Nat.{_*_, _≤_};
 ghost use lib.ListN.{length};
 ghost use Rattle.laws.specs.Bytes.{written};
-ghost use Rattle.spec.specs.Rules.{counts};
+ghost use Rattle.spec.specs.Rules.{countsAsStarted};
 ghost use Rattle.spec.specs.Walk.{Rising};
-ghost use Rattle.dag_test.specs.View.{view};
+ghost use Rattle.tables_test.specs.View.{view};
 ghost use Rattle.back_chain.specs.Chain.{chainOf};
-ghost use Rattle.commit_outlook.specs.Chain.{looksIn, Placed, Looked, Told};
+ghost use Rattle.commit_outlook.specs.Chain.{looksIn, Placed, Looked, Resolution};
 use crate::look::look_one;
 use answer_bytes::put_id;
 use answer_bytes::put_number;
-use back_walk::Enqueued;
-use dag_state::state::State;
+use back_walk::EnqueuedAnchor;
+use commit_state::state::State;
 use models::refusal::Check;
 
 // What stopped the anchors, if anything did; the number of points of each, in the list's order.
 pub struct Looks {
     pub check: Check,
-    pub counts: [u32; 512],
+    pub numbers: [u32; 512],
 }
 
 // The `count` anchors of the list, which has the newest first, with `room` bytes for them; up to the first that is refused.
@@ -29,16 +29,16 @@ pub fn look_all(
     links: &[u64],
     certs: &[u64],
     order: &[u64],
-    list: [Enqueued; 512],
+    list: [EnqueuedAnchor; 512],
     count: usize,
     room: usize,
 ) -> Looks
-    requires { ⌜ counts (view s (now keys) (now links) (now certs) (now order)) ≡ true ⌝ }
+    requires { ⌜ countsAsStarted (view s (now keys) (now links) (now certs) (now order)) ≡ true ⌝ }
     requires { ⌜ Rising (view s (now keys) (now links) (now certs) (now order)) 0 (chainOf list count) ⌝ }
     requires { ⌜ count ≤ 512 ⌝ }
-    ensures { λ r. ⌜ Looked (view s (now (keys .entry)) (now (links .entry)) (now (certs .entry)) (now (order .entry))) (now (keys .entry)) room list count (r .check) (r .counts) ⌝ }
+    ensures { λ r. ⌜ Looked (view s (now (keys .entry)) (now (links .entry)) (now (certs .entry)) (now (order .entry))) (now (keys .entry)) room list count (r .check) (r .numbers) ⌝ }
 {
-    let mut counts: [u32; 512] = [0; 512];
+    let mut numbers: [u32; 512] = [0; 512];
     let mut left = room;
     let mut k = count;
     while 0 < k {
@@ -49,15 +49,15 @@ pub fn look_all(
         if let Check::Failed(r) = check {
             return Looks {
                 check: Check::Failed(r),
-                counts,
+                numbers,
             };
         }
-        counts[k] = o.count;
+        numbers[k] = o.count;
         left -= 41;
     }
     Looks {
         check: Check::Passed,
-        counts,
+        numbers,
     }
 }
 
@@ -65,21 +65,21 @@ pub fn look_all(
 pub fn put_looks(
     keys: &[u64],
     b: &mut [u8],
-    list: [Enqueued; 512],
+    list: [EnqueuedAnchor; 512],
     count: usize,
-    counts: [u32; 512],
+    numbers: [u32; 512],
 )
     requires { ⌜ count ≤ 512 ⌝ }
     requires { ⌜ count * 41 ≤ length (now b) ⌝ }
     requires { ⌜ Placed (now keys) list count ⌝ }
-    ensures { λ r. ⌜ now (b .exit) ≡ written (now (b .entry)) 0 (looksIn (now (keys .entry)) list counts count) ⌝ }
+    ensures { λ r. ⌜ now (b .exit) ≡ written (now (b .entry)) 0 (looksIn (now (keys .entry)) list numbers count) ⌝ }
 {
     let mut at: usize = 0;
     let mut k = count;
     while 0 < k {
         k -= 1;
         let e = list[k];
-        let n = counts[k];
+        let n = numbers[k];
         let m = put_id(b, at, keys, e.anchor);
         at = put_number(b, m, 4, n as u64);
     }
@@ -93,20 +93,20 @@ pub fn look_chain(
     certs: &[u64],
     order: &[u64],
     b: &mut [u8],
-    list: [Enqueued; 512],
+    list: [EnqueuedAnchor; 512],
     count: usize,
 ) -> Check
-    requires { ⌜ counts (view s (now keys) (now links) (now certs) (now order)) ≡ true ⌝ }
+    requires { ⌜ countsAsStarted (view s (now keys) (now links) (now certs) (now order)) ≡ true ⌝ }
     requires { ⌜ Rising (view s (now keys) (now links) (now certs) (now order)) 0 (chainOf list count) ⌝ }
     requires { ⌜ count ≤ 512 ⌝ }
-    ensures { λ r. ⌜ Told (view s (now (keys .entry)) (now (links .entry)) (now (certs .entry)) (now (order .entry))) (now (b .entry)) (chainOf list count) r (now (b .exit)) ⌝ }
+    ensures { λ r. ⌜ Resolution (view s (now (keys .entry)) (now (links .entry)) (now (certs .entry)) (now (order .entry))) (now (b .entry)) (chainOf list count) r (now (b .exit)) ⌝ }
 {
     let looks = look_all(s, keys, links, certs, order, list, count, b.len());
     let check = looks.check;
     if let Check::Failed(r) = check {
         return Check::Failed(r);
     }
-    let counts = looks.counts;
-    put_looks(keys, b, list, count, counts);
+    let numbers = looks.numbers;
+    put_looks(keys, b, list, count, numbers);
     Check::Passed
 }

@@ -3,18 +3,18 @@ ghost use mathlib.Core.Path.{_≡_};
 ghost use mathlib.Core.Bool.{true};
 ghost use lib.ListN.{length};
 ghost use Rattle.spec.specs.Chain.{good};
-ghost use Rattle.spec.specs.Rules.{counts};
+ghost use Rattle.spec.specs.Rules.{countsAsStarted};
 ghost use Rattle.spec.specs.History.{history};
 ghost use Rattle.spec.specs.Walk.{Anchored};
-ghost use Rattle.dag_test.specs.View.{view};
-ghost use Rattle.back_walk.specs.Visit.{enqueuedOf};
+ghost use Rattle.tables_test.specs.View.{view};
+ghost use Rattle.back_walk.specs.Refines.{enqueuedOf};
 ghost use Rattle.models.specs.Refusal.{unlessFailed};
 ghost use Rattle.commit_outlook.specs.Look.{lookAt};
-use back_points::anchor::test_anchor;
-use back_walk::Enqueued;
-use dag_state::state::State;
-use models::refusal::BUFFER_TOO_SMALL;
+use back_committable::anchor::test_anchor;
+use back_walk::EnqueuedAnchor;
+use commit_state::state::State;
 use models::refusal::Check;
+use models::refusal::NO_ROOM;
 use models::refusal::Refusal;
 
 // The tests of one anchor, and the number of points in its history.
@@ -30,10 +30,10 @@ pub fn look_one(
     links: &[u64],
     certs: &[u64],
     order: &[u64],
-    e: Enqueued,
+    e: EnqueuedAnchor,
     left: usize,
 ) -> Look
-    requires { ⌜ counts (view s (now keys) (now links) (now certs) (now order)) ≡ true ⌝ }
+    requires { ⌜ countsAsStarted (view s (now keys) (now links) (now certs) (now order)) ≡ true ⌝ }
     requires { ⌜ Anchored (view s (now keys) (now links) (now certs) (now order)) (enqueuedOf e) ⌝ }
     ensures outcome { λ r. ⌜ unlessFailed (r .check) (good (e .anchor)) ≡ lookAt (view s (now (keys .entry)) (now (links .entry)) (now (certs .entry)) (now (order .entry))) left (e .anchor) ⌝ }
     ensures points { λ r. ⌜ r .count ≡ length (history (view s (now (keys .entry)) (now (links .entry)) (now (certs .entry)) (now (order .entry))) (e .anchor)) ⌝ }
@@ -49,7 +49,7 @@ pub fn look_one(
     }
     if left < 41 {
         return Look {
-            check: Check::Failed(Refusal::Number(BUFFER_TOO_SMALL)),
+            check: Check::Failed(Refusal::Number(NO_ROOM)),
             count,
         };
     }

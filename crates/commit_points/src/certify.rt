@@ -2,19 +2,19 @@
 ghost use mathlib.Core.List.{[]};
 ghost use Rattle.spec.specs.Calls as calls;
 ghost use Rattle.models.specs.Parts.{idOf};
-ghost use Rattle.commit_answer.specs.Answer.{Did, board, left};
+ghost use Rattle.commit_answer.specs.Answer.{Did, tables, left};
 ghost use Rattle.commit_points.specs.Certify.{certifyLeft};
+use cert_certify::certify_at;
 use commit_answer::answer::Answer;
 use commit_answer::answer::Outcome;
 use commit_answer::answer::refused;
-use dag_settle::certify_at;
-use dag_settle::point_code;
-use dag_settle::point_place;
-use dag_state::state::State;
-use dag_test::counts_as_started;
+use commit_state::state::State;
+use dag_round_points::point_code;
+use dag_round_points::point_place;
 use models::parts::PointId;
-use models::refusal::NOT_STARTED;
 use models::refusal::Refusal;
+use models::refusal::WRONG_PHASE;
+use tables_test::counts_as_started;
 
 // Certifies a point: it is a top, and its height is handed on along links. An unresolved point hands it on when it is resolved.
 pub fn certify(
@@ -25,11 +25,11 @@ pub fn certify(
     order: &[u64],
     id: PointId,
 ) -> Outcome
-    ensures { λ r. ⌜ Did (calls.certify (idOf id)) (certifyLeft id) (board s (now (keys .entry)) (now (links .entry)) (now (certs .entry)) (now (order .entry)))
+    ensures { λ r. ⌜ Did (calls.certify (idOf id)) (certifyLeft id) (tables s (now (keys .entry)) (now (links .entry)) (now (certs .entry)) (now (order .entry)))
         (left r (now (keys .entry)) (now (links .entry)) (now (certs .exit)) (now (order .entry)) []) ⌝ }
 {
     if !counts_as_started(s, keys, links, certs, order) {
-        return refused(s, Refusal::Number(NOT_STARTED));
+        return refused(s, Refusal::Number(WRONG_PHASE));
     }
     let code = point_code(s, keys, order, id);
     if code != 0 {

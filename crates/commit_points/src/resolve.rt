@@ -3,22 +3,22 @@ ghost use mathlib.Core.List.{[]};
 ghost use Rattle.spec.specs.Calls as calls;
 ghost use Rattle.models.specs.Info.{infoOf};
 ghost use Rattle.models.specs.Parts.{idOf};
-ghost use Rattle.commit_answer.specs.Answer.{Did, board, left};
+ghost use Rattle.commit_answer.specs.Answer.{Did, tables, left};
 ghost use Rattle.commit_points.specs.Resolve.{resolveLeft};
 use commit_answer::answer::Answer;
 use commit_answer::answer::Outcome;
 use commit_answer::answer::refused;
-use dag_resolve::check_resolution;
-use dag_resolve::resolve_at;
-use dag_settle::point_code;
-use dag_settle::point_place;
-use dag_state::state::State;
-use dag_test::counts_as_started;
+use commit_state::state::State;
+use dag_round_points::point_code;
+use dag_round_points::point_place;
+use info_resolve::check_resolution;
+use info_resolve::resolve_at;
 use models::info::PointInfo;
 use models::parts::PointId;
 use models::refusal::Check;
-use models::refusal::NOT_STARTED;
 use models::refusal::Refusal;
+use models::refusal::WRONG_PHASE;
+use tables_test::counts_as_started;
 
 // Resolves a named point. `refs` holds its links, five words each: peer and digest, first the includes, then the witness.
 pub fn resolve(
@@ -32,11 +32,11 @@ pub fn resolve(
     refs: &[u64],
 ) -> Outcome
     ensures { λ r. ⌜ Did (calls.resolve (idOf id) (infoOf info (now (refs .entry)))) (resolveLeft id info (now (refs .entry)))
-        (board s (now (keys .entry)) (now (links .entry)) (now (certs .entry)) (now (order .entry)))
+        (tables s (now (keys .entry)) (now (links .entry)) (now (certs .entry)) (now (order .entry)))
         (left r (now (keys .exit)) (now (links .exit)) (now (certs .exit)) (now (order .entry)) []) ⌝ }
 {
     if !counts_as_started(s, keys, links, certs, order) {
-        return refused(s, Refusal::Number(NOT_STARTED));
+        return refused(s, Refusal::Number(WRONG_PHASE));
     }
     let code = point_code(s, keys, order, id);
     if code != 0 {

@@ -10,21 +10,21 @@ use lib.ListN.{length}
 use borrow.Author.Tests.{le-leb, lt-leb, le-ltb, lt-ltb}
 use Rattle.laws.specs.Test.{leOr, or-l, or-r, and-l}
 use Rattle.spec.specs.Store.{Store}
-use Rattle.spec.specs.Rules.{lastRound, counts}
+use Rattle.spec.specs.Rules.{lastRound, countsAsStarted}
 use Rattle.spec.specs.Chain.{refuse, good}
-use Rattle.spec.specs.Calls.{round, act, isStart, lent, addRound, doRound}
-use Rattle.dag_state.specs.declared.state.State.{State}
-use Rattle.dag_state.specs.View.{progressOf, confOf}
-use Rattle.dag_state.specs.Back.{extendedState}
-use Rattle.dag_state.specs.Numbers.{roundsHold}
-use Rattle.dag_state.specs.Reads.{extended-rounds}
-use Rattle.dag_test.specs.View.{view, regular}
-use Rattle.dag_test.specs.Tested.{range-says, passed}
-use Rattle.dag_test.specs.Counts.{rounds-of}
+use Rattle.spec.specs.Calls.{round, perform, isStart, bufferOf, addRound, doRound}
+use Rattle.commit_state.specs.declared.state.State.{State}
+use Rattle.commit_state.specs.View.{progressOf, confOf}
+use Rattle.commit_state.specs.Back.{extendedState}
+use Rattle.commit_state.specs.Numbers.{roundsHold}
+use Rattle.commit_state.specs.Reads.{extended-rounds}
+use Rattle.tables_test.specs.View.{view, regular}
+use Rattle.tables_test.specs.Model.{range-says, passed}
+use Rattle.tables_test.specs.Refines.{rounds-of}
 use Rattle.models.specs.Refusal.{unlessFailed, refusalOf, failed, not-failed}
 use Rattle.models.specs.declared.refusal.Check.{Check}
 use Rattle.models.specs.declared.refusal.Check.the-variants.{Passed}
-use Rattle.commit_answer.specs.Answer.{Board, board, seen, Left, Did, unlessRefused, doneWith, tested, tested-yes, call-tested, did-done}
+use Rattle.commit_answer.specs.Answer.{Tables, tables, viewOf, Left, Did, unlessRefused, doneWith, tested, tested-yes, call-tested, did-done}
 
 -- 3, 4 or none, with the rounds from b to t retained
 unfoldable pub roundCheck : ℕ → ℕ → ℕ → Check
@@ -69,10 +69,10 @@ unfoldable pub withRound : State → ℕ → ℕ → State
 withRound s r peers = cond (leb r (s .top .0)) s (extendedState s peers)
 
 -- what the call leaves
-abbrev pub roundLeft : ℕ → ℕ → Board → Left
+abbrev pub roundLeft : ℕ → ℕ → Tables → Left
 roundLeft r peers d =
-    unlessRefused (tested (counts (seen d)) (roundCheck (d .state .bottom .0) (d .state .top .0) r)) d
-    (doneWith (board (withRound (d .state) r peers) (d .keys) (d .links) (d .certs) (d .order)))
+    unlessRefused (tested (countsAsStarted (viewOf d)) (roundCheck (d .state .bottom .0) (d .state .top .0) r)) d
+    (doneWith (tables (withRound (d .state) r peers) (d .keys) (d .links) (d .certs) (d .order)))
 
 module _ (s : State) (ks ls cs os : List ℕ) (r peers : ℕ) where
   abbrev v : Store
@@ -109,7 +109,7 @@ module _ (s : State) (ks ls cs os : List ℕ) (r peers : ℕ) where
   }
 
   -- what an accepted call makes
-  makes : length (s .rounds) ≡ 512 → tested (counts v) (roundCheck (s .bottom .0) (s .top .0) r) ≡ Passed → view (withRound s r peers) ks ls cs os ≡ made
+  makes : length (s .rounds) ≡ 512 → tested (countsAsStarted v) (roundCheck (s .bottom .0) (s .top .0) r) ≡ Passed → view (withRound s r peers) ks ls cs os ≡ made
   unfolding withRound made roundsHold
   makes l e =
       let (h, f) = tested-yes _ _ e in
@@ -119,11 +119,11 @@ module _ (s : State) (ks ls cs os : List ℕ) (r peers : ℕ) where
       (λ o. let q = new-fits (s .bottom .0) (s .top .0) r f o in rw (lt-leb r (s .top .0) o) (added l k (omega arith)))
 
 -- it does 01's call
-pub round-did : (r peers : ℕ) (d : Board) → length (d .state .rounds) ≡ 512 → (x : Left) → x ≡ roundLeft r peers d → Did (round r peers) (roundLeft r peers) d x
-unfolding isStart lent act
+pub round-did : (r peers : ℕ) (d : Tables) → length (d .state .rounds) ≡ 512 → (x : Left) → x ≡ roundLeft r peers d → Did (round r peers) (roundLeft r peers) d x
+unfolding isStart bufferOf perform
 round-did r peers d l =
-    did-done (round r peers) (roundLeft r peers) d _ (tested (counts (seen d)) (roundCheck (d .state .bottom .0) (d .state .top .0) r)) refl refl (made (d .state) (d .keys) (d .links) (d .certs) (d .order) r peers)
-    (call-tested (seen d) (round r peers) _ _ (made (d .state) (d .keys) (d .links) (d .certs) (d .order) r peers) refl refl refl (λ h. check-is (d .state) (d .keys) (d .links) (d .certs) (d .order) r peers)) (makes (d .state) (d .keys) (d .links) (d .certs) (d .order) r peers l)
+    did-done (round r peers) (roundLeft r peers) d _ (tested (countsAsStarted (viewOf d)) (roundCheck (d .state .bottom .0) (d .state .top .0) r)) refl refl (made (d .state) (d .keys) (d .links) (d .certs) (d .order) r peers)
+    (call-tested (viewOf d) (round r peers) _ _ (made (d .state) (d .keys) (d .links) (d .certs) (d .order) r peers) refl refl refl (λ h. check-is (d .state) (d .keys) (d .links) (d .certs) (d .order) r peers)) (makes (d .state) (d .keys) (d .links) (d .certs) (d .order) r peers l)
 
 -- one law for each way out of the code
 pub with-old : (s : State) (r peers : ℕ) → r ≤ s .top .0 → s ≡ withRound s r peers
@@ -135,7 +135,7 @@ unfolding withRound
 with-new s r peers t l e = rw (lt-leb r (s .top .0) l) e
 
 -- what a started state says of its rounds
-pub round-ready : (s : State) (ks ls cs os : List ℕ) (c : Bool) → c ≡ counts (view s ks ls cs os) → not c ≡ false → (s .bottom .0 ≤ s .top .0) × (s .top .0 ≤ 4_000_000_000)
+pub round-ready : (s : State) (ks ls cs os : List ℕ) (c : Bool) → c ≡ countsAsStarted (view s ks ls cs os) → not c ≡ false → (s .bottom .0 ≤ s .top .0) × (s .top .0 ≤ 4_000_000_000)
 unfolding roundsHold
 round-ready s ks ls cs os c e h = let (k, m, d) = range-says (s .genesis .0) (s .bottom .0) (s .top .0) (and-l _ _ (rounds-of s ks ls cs os (passed _ _ e h))) in (k, m)
 

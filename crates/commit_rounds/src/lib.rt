@@ -4,26 +4,26 @@ ghost use mathlib.Core.Path.{_≡_};
 ghost use Prim.Native.Nat.{_≤_};
 ghost use mathlib.Core.List.{[]};
 ghost use Rattle.spec.specs.Calls as calls;
-ghost use Rattle.commit_answer.specs.Answer.{Did, board, left};
+ghost use Rattle.commit_answer.specs.Answer.{Did, tables, left};
 ghost use Rattle.commit_rounds.specs.Gap.{gapLeft};
 ghost use Rattle.commit_rounds.specs.Round.{roundCheck, withRound, roundLeft};
 ghost use Rattle.commit_rounds.specs.Drop.{dropLeft};
+use back_drain::cut;
+use back_drain::drain_upto;
 use commit_answer::answer::Answer;
 use commit_answer::answer::Outcome;
 use commit_answer::answer::refused;
-use dag_drain::cut;
-use dag_drain::drain_upto;
-use dag_state::back::asked;
-use dag_state::back::dropped;
-use dag_state::back::extended;
-use dag_state::state::State;
-use dag_test::counts_as_started;
+use commit_state::back::ask_state;
+use commit_state::back::drop_state;
+use commit_state::back::extend_state;
+use commit_state::state::State;
 use models::parts::Round;
 use models::refusal::Check;
 use models::refusal::FULL;
-use models::refusal::NOT_STARTED;
-use models::refusal::ROUND_TOO_HIGH;
+use models::refusal::ROUND_AHEAD;
 use models::refusal::Refusal;
+use models::refusal::WRONG_PHASE;
+use tables_test::counts_as_started;
 
 // The gap question: yes if it is waited for, and then it is put.
 pub fn is_once_after_gap(
@@ -33,21 +33,21 @@ pub fn is_once_after_gap(
     certs: &[u64],
     order: &[u64],
 ) -> Outcome
-    ensures { λ r. ⌜ Did calls.ask gapLeft (board s (now (keys .entry)) (now (links .entry)) (now (certs .entry)) (now (order .entry)))
+    ensures { λ r. ⌜ Did calls.gapQuestion gapLeft (tables s (now (keys .entry)) (now (links .entry)) (now (certs .entry)) (now (order .entry)))
         (left r (now (keys .entry)) (now (links .entry)) (now (certs .entry)) (now (order .entry)) []) ⌝ }
 {
     if !counts_as_started(s, keys, links, certs, order) {
-        return refused(s, Refusal::Number(NOT_STARTED));
+        return refused(s, Refusal::Number(WRONG_PHASE));
     }
-    if s.gap != 1 {
+    if s.emit_first_after_gap != 1 {
         return Outcome {
-            answer: Answer::Said(false),
+            answer: Answer::Flag(false),
             state: s,
         };
     }
-    let put = asked(s);
+    let put = ask_state(s);
     Outcome {
-        answer: Answer::Said(true),
+        answer: Answer::Flag(true),
         state: put,
     }
 }
@@ -58,10 +58,10 @@ fn check_round(bottom: u32, top: u32, round: u32) -> Check
     ensures { λ r. ⌜ r ≡ roundCheck bottom top round ⌝ }
 {
     if top + 1 < round {
-        return Check::Failed(Refusal::Number(ROUND_TOO_HIGH));
+        return Check::Failed(Refusal::Number(ROUND_AHEAD));
     }
     if 4000000000 < round {
-        return Check::Failed(Refusal::Number(ROUND_TOO_HIGH));
+        return Check::Failed(Refusal::Number(ROUND_AHEAD));
     }
     if round <= top {
         return Check::Passed;
@@ -81,7 +81,7 @@ fn with_round(s: State, round: u32, peers: u32) -> State
     if round <= top.0 {
         return s;
     }
-    extended(s, peers)
+    extend_state(s, peers)
 }
 
 // Adds a round. One at or below the top is there already.
@@ -94,11 +94,11 @@ pub fn extend_from_ahead(
     round: Round,
     peers: u32,
 ) -> Outcome
-    ensures { λ r. ⌜ Did (calls.round (round .0) peers) (roundLeft (round .0) peers) (board s (now (keys .entry)) (now (links .entry)) (now (certs .entry)) (now (order .entry)))
+    ensures { λ r. ⌜ Did (calls.round (round .0) peers) (roundLeft (round .0) peers) (tables s (now (keys .entry)) (now (links .entry)) (now (certs .entry)) (now (order .entry)))
         (left r (now (keys .entry)) (now (links .entry)) (now (certs .entry)) (now (order .entry)) []) ⌝ }
 {
     if !counts_as_started(s, keys, links, certs, order) {
-        return refused(s, Refusal::Number(NOT_STARTED));
+        return refused(s, Refusal::Number(WRONG_PHASE));
     }
     let bottom = s.bottom;
     let top = s.top;
@@ -122,11 +122,11 @@ pub fn drop_upto(
     order: &mut [u64],
     round: Round,
 ) -> Outcome
-    ensures { λ r. ⌜ Did (calls.drop (round .0)) (dropLeft (round .0)) (board s (now (keys .entry)) (now (links .entry)) (now (certs .entry)) (now (order .entry)))
+    ensures { λ r. ⌜ Did (calls.drop (round .0)) (dropLeft (round .0)) (tables s (now (keys .entry)) (now (links .entry)) (now (certs .entry)) (now (order .entry)))
         (left r (now (keys .exit)) (now (links .exit)) (now (certs .exit)) (now (order .exit)) []) ⌝ }
 {
     if !counts_as_started(s, keys, links, certs, order) {
-        return refused(s, Refusal::Number(NOT_STARTED));
+        return refused(s, Refusal::Number(WRONG_PHASE));
     }
     let bottom = s.bottom;
     let top = s.top;
@@ -135,9 +135,9 @@ pub fn drop_upto(
     let lowest = bottom.max(actual);
     let k = cut(keys, order, n, lowest);
     drain_upto(keys, links, certs, order, n, k);
-    let next = dropped(s, actual, lowest, n - k);
+    let next = drop_state(s, actual, lowest, n - k);
     Outcome {
-        answer: Answer::Said(actual.0 == round.0),
+        answer: Answer::Flag(actual.0 == round.0),
         state: next,
     }
 }

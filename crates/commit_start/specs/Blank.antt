@@ -10,13 +10,13 @@ use Rattle.laws.specs.Test.{both}
 use Rattle.laws.specs.Scan.{any, every}
 use Rattle.spec.specs.Store.{Store, free}
 use Rattle.models.specs.Tables.{isUsed}
-use Rattle.dag_places.specs.Fill.{zeroed, filled-length}
-use Rattle.dag_keys.specs.Sorted.{isInside, isSorted}
-use Rattle.dag_links.specs.Links.{linksHold}
-use Rattle.dag_state.specs.declared.state.State.{State}
-use Rattle.dag_state.specs.View.{phaseOf}
-use Rattle.dag_test.specs.Tested.{shape}
-use Rattle.dag_test.specs.View.{view, regular, seenAt}
+use Rattle.dag_round_keys.specs.Fill.{zeroed, filled-length}
+use Rattle.dag_round_keys.specs.Sorted.{isInside, isSorted}
+use Rattle.tables_links.specs.Links.{linksHold}
+use Rattle.commit_state.specs.declared.state.State.{State}
+use Rattle.commit_state.specs.View.{phaseOf}
+use Rattle.tables_test.specs.Model.{shape}
+use Rattle.tables_test.specs.View.{view, regular, seenAt}
 
 -- all words 0
 unfoldable pub blank : List ℕ → List ℕ

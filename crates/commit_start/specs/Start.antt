@@ -10,33 +10,33 @@ use borrow.Author.Tests.{eqb-true, eq-eqb, ne-eqb, leb-true, le-leb, lt-leb, ltb
 use Rattle.laws.specs.Test.{byTest, clash, both, and-l, and-r, and-no, and-yes, leOr, same-test}
 use Rattle.laws.specs.Scan.{any, every, every-elim, every-intro}
 use Rattle.spec.specs.Store.{Store}
-use Rattle.spec.specs.Rules.{usedOk, confOk, placesOk, counts, isReset, wasReset}
+use Rattle.spec.specs.Rules.{usedOk, confOk, placesOk, countsAsStarted, isReset, wasReset}
 use Rattle.spec.specs.Chain.{refuse, good}
 use Rattle.spec.specs.Calls as calls
-use Rattle.spec.specs.Calls.{call, start, act, isStart, lent, startOk, memoryKept, doStart, finish}
-use Rattle.spec.specs.Kept.{call-start}
+use Rattle.spec.specs.Calls.{call, start, perform, isStart, bufferOf, startOk, memoryKept, doStart, finish}
+use Rattle.spec.specs.Preservation.{call-start}
 use Rattle.models.specs.Tables.{placeAt, Inside, isUsed, used-is}
-use Rattle.dag_keys.specs.Sorted.{isInside, inside-is}
-use Rattle.dag_state.specs.declared.state.State.{State}
-use Rattle.dag_state.specs.declared.state.Memory.{Memory}
-use Rattle.dag_state.specs.declared.back.Beginning.{Beginning}
-use Rattle.dag_state.specs.State.{noMemory}
-use Rattle.dag_state.specs.View.{phaseOf, optionOf, gapOf, pointAt, confOf, progressOf, memoryOf}
-use Rattle.dag_state.specs.Back.{usedOf, Starts, begunState, clearedState}
-use Rattle.dag_state.specs.Numbers.{confHolds}
-use Rattle.dag_state.specs.Reads.{beginningOf, begun-rounds, begun-progress, cleared-rounds}
-use Rattle.dag_test.specs.Tested.{shape, chain-no, chain-yes, test-yes}
-use Rattle.dag_test.specs.View.{view, regular, seenAt}
-use Rattle.dag_test.specs.Counts.{shape-of}
+use Rattle.dag_round_keys.specs.Sorted.{isInside, inside-is}
+use Rattle.commit_state.specs.declared.state.State.{State}
+use Rattle.commit_state.specs.declared.state.Memory.{Memory}
+use Rattle.commit_state.specs.declared.back.StartArgs.{StartArgs}
+use Rattle.commit_state.specs.State.{noMemory}
+use Rattle.commit_state.specs.View.{phaseOf, optionOf, gapOf, pointAt, confOf, progressOf, memoryOf}
+use Rattle.commit_state.specs.Back.{usedOf, Starts, begunState, clearedState}
+use Rattle.commit_state.specs.Numbers.{confHolds}
+use Rattle.commit_state.specs.Reads.{startArgsOf, begun-rounds, begun-progress, cleared-rounds}
+use Rattle.tables_test.specs.Model.{shape, chain-no, chain-yes, test-yes}
+use Rattle.tables_test.specs.View.{view, regular, seenAt}
+use Rattle.tables_test.specs.Refines.{shape-of}
 use Rattle.models.specs.Refusal.{unlessFailed, refusalOf, failed, not-failed}
 use Rattle.models.specs.declared.refusal.Check.{Check}
 use Rattle.models.specs.declared.refusal.Check.the-variants.{Passed}
-use Rattle.commit_answer.specs.Answer.{Board, board, seen, Left, Did, unlessRefused, doneWith, tested, tested-yes, call-tested, did-done}
+use Rattle.commit_answer.specs.Answer.{Tables, tables, viewOf, Left, Did, unlessRefused, doneWith, tested, tested-yes, call-tested, did-done}
 use Rattle.commit_start.specs.Blank.{blank, regular-none, blank-phase, blank-places, blank-pt, blank-heights}
 
 -- 1, 2 or none
-unfoldable pub startCheck : Store → Beginning → Check
-startCheck v b = cond (startOk (v .places) (beginningOf b)) (cond (counts v) (failed 2) Passed) (failed 1)
+unfoldable pub startCheck : Store → StartArgs → Check
+startCheck v b = cond (startOk (v .places) (startArgsOf b)) (cond (countsAsStarted v) (failed 2) Passed) (failed 1)
 
 -- a state that a reset left
 unfoldable pub resetHolds : State → Bool
@@ -60,52 +60,52 @@ unfolding view
 places-view s ks ls cs os n e = e
 
 -- one law for each way out of `begins`
-module _ (b : Beginning) (n : ℕ) where
-  conf-of : (r : Bool) → r ≡ confHolds (b .«history_rounds») (b .«deduplicate_rounds») → r ≡ confOk (beginningOf b .conf)
+module _ (b : StartArgs) (n : ℕ) where
+  conf-of : (r : Bool) → r ≡ confHolds (b .«commit_history_rounds») (b .«deduplicate_rounds») → r ≡ confOk (startArgsOf b .conf)
   unfolding confHolds confOk
   conf-of r e = e
 
-  module _ (r : Bool) (e : r ≡ confHolds (b .«history_rounds») (b .«deduplicate_rounds»)) where
-    pub begins-conf : not r ≡ true → false ≡ startOk n (beginningOf b)
+  module _ (r : Bool) (e : r ≡ confHolds (b .«commit_history_rounds») (b .«deduplicate_rounds»)) where
+    pub begins-conf : not r ≡ true → false ≡ startOk n (startArgsOf b)
     unfolding startOk
     begins-conf h = chain-no _ _ r (conf-of r e) h
 
     module _ (h : not r ≡ false) where
-      pub begins-genesis : 4_000_000_000 < b .genesis .0 → false ≡ startOk n (beginningOf b)
+      pub begins-genesis : 4_000_000_000 < b .genesis .0 → false ≡ startOk n (startArgsOf b)
       unfolding startOk
       begins-genesis l = chain-yes _ _ _ r (conf-of r e) h (sym (and-no _ (lt-leb _ _ l)))
 
-      pub begins-bottom : b .genesis .0 ≤ 4_000_000_000 → 4_000_000_000 < b .bottom .0 → false ≡ startOk n (beginningOf b)
+      pub begins-bottom : b .genesis .0 ≤ 4_000_000_000 → 4_000_000_000 < b .bottom .0 → false ≡ startOk n (startArgsOf b)
       unfolding startOk
       begins-bottom k l = chain-yes _ _ _ r (conf-of r e) h (test-yes _ _ _ (le-leb _ _ k) (sym (and-no _ (lt-leb _ _ l))))
 
-      pub begins-below : b .genesis .0 ≤ 4_000_000_000 → b .bottom .0 ≤ 4_000_000_000 → b .bottom .0 < b .genesis .0 → false ≡ startOk n (beginningOf b)
+      pub begins-below : b .genesis .0 ≤ 4_000_000_000 → b .bottom .0 ≤ 4_000_000_000 → b .bottom .0 < b .genesis .0 → false ≡ startOk n (startArgsOf b)
       unfolding startOk
       begins-below k l m = chain-yes _ _ _ r (conf-of r e) h (test-yes _ _ _ (le-leb _ _ k) (test-yes _ _ _ (le-leb _ _ l) (sym (and-no _ (lt-leb _ _ m)))))
 
       module _ (k : b .genesis .0 ≤ 4_000_000_000) (l : b .bottom .0 ≤ 4_000_000_000) (m : b .genesis .0 ≤ b .bottom .0) (u : Bool) (f : u ≡ usedOk (usedOf (b .used))) where
-        pub begins-used : not u ≡ true → false ≡ startOk n (beginningOf b)
+        pub begins-used : not u ≡ true → false ≡ startOk n (startArgsOf b)
         unfolding startOk
         begins-used g = chain-yes _ _ _ r (conf-of r e) h (test-yes _ _ _ (le-leb _ _ k) (test-yes _ _ _ (le-leb _ _ l) (test-yes _ _ _ (le-leb _ _ m) (chain-no _ _ u f g))))
 
-        pub begins-places : not u ≡ false → (p : Bool) → p ≡ placesOk n → p ≡ startOk n (beginningOf b)
+        pub begins-places : not u ≡ false → (p : Bool) → p ≡ placesOk n → p ≡ startOk n (startArgsOf b)
         unfolding startOk
         begins-places g p i = chain-yes _ _ _ r (conf-of r e) h (test-yes _ _ _ (le-leb _ _ k) (test-yes _ _ _ (le-leb _ _ l) (test-yes _ _ _ (le-leb _ _ m) (chain-yes _ _ _ u f g i))))
 
 -- one law for each way out of `check_start`
-module _ (v : Store) (b : Beginning) (n : ℕ) (r : Bool) (p : n ≡ v .places) (e : r ≡ startOk n (beginningOf b)) where
-  same : r ≡ startOk (v .places) (beginningOf b)
-  same = e ∙ ap (λ x. startOk x (beginningOf b)) p
+module _ (v : Store) (b : StartArgs) (n : ℕ) (r : Bool) (p : n ≡ v .places) (e : r ≡ startOk n (startArgsOf b)) where
+  same : r ≡ startOk (v .places) (startArgsOf b)
+  same = e ∙ ap (λ x. startOk x (startArgsOf b)) p
 
   pub start-range : not r ≡ true → failed 1 ≡ startCheck v b
   unfolding startCheck
   start-range h = rw (sym same ∙ not-true r h) refl
 
-  pub start-twice : not r ≡ false → (c : Bool) → c ≡ counts v → c ≡ true → failed 2 ≡ startCheck v b
+  pub start-twice : not r ≡ false → (c : Bool) → c ≡ countsAsStarted v → c ≡ true → failed 2 ≡ startCheck v b
   unfolding startCheck
   start-twice h c f g = rw (sym same ∙ not-false r h, sym f ∙ g) refl
 
-  pub start-passed : not r ≡ false → (c : Bool) → c ≡ counts v → c ≡ false → Passed ≡ startCheck v b
+  pub start-passed : not r ≡ false → (c : Bool) → c ≡ countsAsStarted v → c ≡ false → Passed ≡ startCheck v b
   unfolding startCheck
   start-passed h c f g = rw (sym same ∙ not-false r h, sym f ∙ g) refl
 
@@ -190,24 +190,24 @@ module _ (s : State) (ks ls cs os : List ℕ) (sh : shape ks ls cs os ≡ true) 
 -- ---- start
 
 -- the board after it, if it isn't refused
-abbrev pub begunBoard : Beginning → Board → Board
-begunBoard b d = board (begunState (keptMemory (d .state)) b) (blank (d .keys)) (blank (d .links)) (blank (d .certs)) (blank (d .order))
+abbrev pub begunBoard : StartArgs → Tables → Tables
+begunBoard b d = tables (begunState (keptMemory (d .state)) b) (blank (d .keys)) (blank (d .links)) (blank (d .certs)) (blank (d .order))
 
 -- what it leaves
-abbrev pub startLeft : Beginning → Board → Left
-startLeft b d = unlessRefused (startCheck (seen d) b) d (doneWith (begunBoard b d))
+abbrev pub startLeft : StartArgs → Tables → Left
+startLeft b d = unlessRefused (startCheck (viewOf d) b) d (doneWith (begunBoard b d))
 
-module _ (s : State) (ks ls cs os : List ℕ) (b : Beginning) where
+module _ (s : State) (ks ls cs os : List ℕ) (b : StartArgs) where
   abbrev w : Store
   w = view s ks ls cs os
 
   -- 01's store after it
   abbrev made : Store
-  made = calls.begun (w .places) (memoryKept w) (beginningOf b)
+  made = calls.begun (w .places) (memoryKept w) (startArgsOf b)
 
-  check-is : call w (start (beginningOf b)) ≡ finish w (unlessFailed (startCheck w b) (good made))
+  check-is : call w (start (startArgsOf b)) ≡ finish w (unlessFailed (startCheck w b) (good made))
   unfolding doStart startCheck refuse unlessFailed refusalOf
-  check-is = call-start w (beginningOf b) ∙ ap (finish w) (by (startOk (w .places) (beginningOf b)) (counts w))
+  check-is = call-start w (startArgsOf b) ∙ ap (finish w) (by (startOk (w .places) (startArgsOf b)) (countsAsStarted w))
     where
       by : (x y : Bool) → refuse (not x) 1 (refuse y 2 (good made)) ≡ unlessFailed (cond x (cond y (failed 2) Passed) (failed 1)) (good made)
       by true true = refl
@@ -220,7 +220,7 @@ module _ (s : State) (ks ls cs os : List ℕ) (b : Beginning) where
   fits e =
       byTest (shape ks ls cs os) (λ t. t)
       (λ f. absurd (
-      byTest (startOk (w .places) (beginningOf b))
+      byTest (startOk (w .places) (startArgsOf b))
       (λ t. let p : placesOk (w .places) ≡ true = search (and-l, and-r, t) in let z : w .places ≡ 0 = rw f refl in let l = ltb-true 0 (w .places) (and-l _ _ p) in omega arith)
       (λ g. not-failed _ (rw g at e))))
 
@@ -238,7 +238,7 @@ module _ (s : State) (ks ls cs os : List ℕ) (b : Beginning) where
         bottom = b .bottom .0;
         top = b .bottom .0;
         rounds = λ r. begun-rounds (keptMemory s) b (w .places) (memoryKept w) r i;
-        conf = beginningOf b .conf;
+        conf = startArgsOf b .conf;
         progress = begun-progress (keptMemory s) b (w .places) (memoryKept w) i;
         memory = memory-is s ks ls cs os sh i;
       }
@@ -247,32 +247,32 @@ module _ (s : State) (ks ls cs os : List ℕ) (b : Beginning) where
   pub start-ranges : startCheck w b ≡ Passed → Starts b
   unfolding startCheck startOk confOk
   start-ranges e =
-      byTest (startOk (w .places) (beginningOf b))
+      byTest (startOk (w .places) (startArgsOf b))
       (λ t. (leb-true _ _ (search (and-l, and-r, t)), leb-true _ _ (search (and-l, and-r, t)), leb-true _ _ (search (and-l, and-r, t)), leb-true _ _ (search (and-l, and-r, t)), search (and-l, and-r, t)))
       (λ g. absurd (not-failed _ (rw g at e)))
 
 -- it does 01's call
-pub start-did : (b : Beginning) (d : Board) (x : Left) → x ≡ startLeft b d → Did (start (beginningOf b)) (startLeft b) d x
-unfolding lent
+pub start-did : (b : StartArgs) (d : Tables) (x : Left) → x ≡ startLeft b d → Did (start (startArgsOf b)) (startLeft b) d x
+unfolding bufferOf
 start-did b d =
-    did-done (start (beginningOf b)) (startLeft b) d (begunBoard b d) (startCheck (seen d) b) refl refl _
+    did-done (start (startArgsOf b)) (startLeft b) d (begunBoard b d) (startCheck (viewOf d) b) refl refl _
     (check-is (d .state) (d .keys) (d .links) (d .certs) (d .order) b) (makes (d .state) (d .keys) (d .links) (d .certs) (d .order) b)
 
 -- ---- reset
 
 -- the board after it, if it isn't refused
-abbrev pub clearedBoard : Board → Board
-clearedBoard d = board (clearedState (d .state)) (blank (d .keys)) (blank (d .links)) (blank (d .certs)) (blank (d .order))
+abbrev pub clearedBoard : Tables → Tables
+clearedBoard d = tables (clearedState (d .state)) (blank (d .keys)) (blank (d .links)) (blank (d .certs)) (blank (d .order))
 
 -- what it leaves
-abbrev pub resetLeft : Board → Left
-resetLeft d = unlessRefused (tested (counts (seen d)) Passed) d (doneWith (clearedBoard d))
+abbrev pub resetLeft : Tables → Left
+resetLeft d = unlessRefused (tested (countsAsStarted (viewOf d)) Passed) d (doneWith (clearedBoard d))
 
 module _ (s : State) (ks ls cs os : List ℕ) where
   abbrev u : Store
   u = view s ks ls cs os
 
-  clears : counts u ≡ true → view (clearedState s) (blank ks) (blank ls) (blank cs) (blank os) ≡ calls.cleared u
+  clears : countsAsStarted u ≡ true → view (clearedState s) (blank ks) (blank ls) (blank cs) (blank os) ≡ calls.cleared u
   unfolding view clearedState calls.cleared phaseOf confOf progressOf optionOf gapOf
   clears e =
       let (sh, m) = shape-of s ks ls cs os e in
@@ -291,9 +291,9 @@ module _ (s : State) (ks ls cs os : List ℕ) where
       }
 
 -- it does 01's call
-pub reset-did : (d : Board) (x : Left) → x ≡ resetLeft d → Did calls.resetAll resetLeft d x
-unfolding isStart lent act finish unlessFailed
+pub reset-did : (d : Tables) (x : Left) → x ≡ resetLeft d → Did calls.resetAll resetLeft d x
+unfolding isStart bufferOf perform finish unlessFailed
 reset-did d =
-    did-done calls.resetAll resetLeft d (clearedBoard d) (tested (counts (seen d)) Passed) refl refl (calls.cleared (seen d))
-    (call-tested (seen d) calls.resetAll (good (calls.cleared (seen d))) Passed (calls.cleared (seen d)) refl refl refl (λ h. refl))
+    did-done calls.resetAll resetLeft d (clearedBoard d) (tested (countsAsStarted (viewOf d)) Passed) refl refl (calls.cleared (viewOf d))
+    (call-tested (viewOf d) calls.resetAll (good (calls.cleared (viewOf d))) Passed (calls.cleared (viewOf d)) refl refl refl (λ h. refl))
     (λ e. clears (d .state) (d .keys) (d .links) (d .certs) (d .order) (tested-yes _ _ e .0))

@@ -2,35 +2,35 @@
 ghost use mathlib.Core.Path.{_≡_};
 ghost use mathlib.Core.Bool.{cond};
 ghost use lib.ListN.{length};
-ghost use Rattle.spec.specs.Rules.{counts};
+ghost use Rattle.spec.specs.Rules.{countsAsStarted};
 ghost use Rattle.spec.specs.Calls as calls;
-ghost use Rattle.dag_state.specs.Reads.{beginningOf};
-ghost use Rattle.dag_state.specs.Back.{Starts};
-ghost use Rattle.dag_test.specs.Tested.{shape};
-ghost use Rattle.dag_test.specs.View.{view};
+ghost use Rattle.commit_state.specs.Reads.{startArgsOf};
+ghost use Rattle.commit_state.specs.Back.{Starts};
+ghost use Rattle.tables_test.specs.Model.{shape};
+ghost use Rattle.tables_test.specs.View.{view};
 ghost use mathlib.Core.List.{[]};
-ghost use Rattle.commit_answer.specs.Answer.{Did, board, left};
+ghost use Rattle.commit_answer.specs.Answer.{Did, tables, left};
 ghost use Rattle.commit_start.specs.Blank.{blank};
 ghost use Rattle.commit_start.specs.Start.{startCheck, keptMemory, startLeft, resetLeft};
 use commit_answer::answer::Answer;
 use commit_answer::answer::Outcome;
 use commit_answer::answer::refused;
-use dag_places::zero_words;
-use dag_state::back::Beginning;
-use dag_state::back::begun;
-use dag_state::back::cleared;
-use dag_state::back::used_ok;
-use dag_state::state::Memory;
-use dag_state::state::State;
-use dag_state::state::conf_holds;
-use dag_state::state::empty_memory;
-use dag_test::counts_as_started;
-use dag_test::places_hold;
-use dag_test::shape_holds;
+use commit_state::back::StartArgs;
+use commit_state::back::init_state;
+use commit_state::back::reset_state;
+use commit_state::back::used_ok;
+use commit_state::state::Memory;
+use commit_state::state::State;
+use commit_state::state::conf_holds;
+use commit_state::state::empty_memory;
+use dag_round_keys::zero_words;
 use models::refusal::BAD_START;
 use models::refusal::Check;
-use models::refusal::NOT_STARTED;
 use models::refusal::Refusal;
+use models::refusal::WRONG_PHASE;
+use tables_test::counts_as_started;
+use tables_test::places_hold;
+use tables_test::shape_holds;
 
 // The number of places, 0 of tables that have room for different numbers.
 fn places_of(keys: &[u64], links: &[u64], certs: &[u64], order: &[u64]) -> usize
@@ -43,13 +43,13 @@ fn places_of(keys: &[u64], links: &[u64], certs: &[u64], order: &[u64]) -> usize
 }
 
 // Whether what a start takes lies in its ranges.
-fn begins(with: Beginning, places: usize) -> bool
-    ensures { λ r. ⌜ r ≡ calls.startOk places (beginningOf with) ⌝ }
+fn begins(with: StartArgs, places: usize) -> bool
+    ensures { λ r. ⌜ r ≡ calls.startOk places (startArgsOf with) ⌝ }
 {
     let genesis = with.genesis;
     let bottom = with.bottom;
     let used = with.used;
-    if !conf_holds(with.history_rounds, with.deduplicate_rounds) {
+    if !conf_holds(with.commit_history_rounds, with.deduplicate_rounds) {
         return false;
     }
     if 4000000000 < genesis.0 {
@@ -74,7 +74,7 @@ fn check_start(
     links: &[u64],
     certs: &[u64],
     order: &[u64],
-    with: Beginning,
+    with: StartArgs,
 ) -> Check
     ensures { λ r. ⌜ r ≡ startCheck (view s (now (keys .entry)) (now (links .entry)) (now (certs .entry)) (now (order .entry))) with ⌝ }
 {
@@ -83,7 +83,7 @@ fn check_start(
         return Check::Failed(Refusal::Number(BAD_START));
     }
     if counts_as_started(s, keys, links, certs, order) {
-        return Check::Failed(Refusal::Number(NOT_STARTED));
+        return Check::Failed(Refusal::Number(WRONG_PHASE));
     }
     Check::Passed
 }
@@ -129,9 +129,9 @@ pub fn init(
     links: &mut [u64],
     certs: &mut [u64],
     order: &mut [u64],
-    with: Beginning,
+    with: StartArgs,
 ) -> Outcome
-    ensures { λ r. ⌜ Did (calls.start (beginningOf with)) (startLeft with) (board s (now (keys .entry)) (now (links .entry)) (now (certs .entry)) (now (order .entry)))
+    ensures { λ r. ⌜ Did (calls.start (startArgsOf with)) (startLeft with) (tables s (now (keys .entry)) (now (links .entry)) (now (certs .entry)) (now (order .entry)))
         (left r (now (keys .exit)) (now (links .exit)) (now (certs .exit)) (now (order .exit)) []) ⌝ }
 {
     let check = check_start(s, keys, links, certs, order, with);
@@ -140,7 +140,7 @@ pub fn init(
     }
     let memory = kept_memory(s);
     clear(keys, links, certs, order);
-    let next = begun(memory, with);
+    let next = init_state(memory, with);
     Outcome {
         answer: Answer::Done,
         state: next,
@@ -155,14 +155,14 @@ pub fn reset(
     certs: &mut [u64],
     order: &mut [u64],
 ) -> Outcome
-    ensures { λ r. ⌜ Did calls.resetAll resetLeft (board s (now (keys .entry)) (now (links .entry)) (now (certs .entry)) (now (order .entry)))
+    ensures { λ r. ⌜ Did calls.resetAll resetLeft (tables s (now (keys .entry)) (now (links .entry)) (now (certs .entry)) (now (order .entry)))
         (left r (now (keys .exit)) (now (links .exit)) (now (certs .exit)) (now (order .exit)) []) ⌝ }
 {
     if !counts_as_started(s, keys, links, certs, order) {
-        return refused(s, Refusal::Number(NOT_STARTED));
+        return refused(s, Refusal::Number(WRONG_PHASE));
     }
     clear(keys, links, certs, order);
-    let next = cleared(s);
+    let next = reset_state(s);
     Outcome {
         answer: Answer::Done,
         state: next,

@@ -8,28 +8,28 @@ use lib.Dec.{eqb}
 use Rattle.laws.specs.Lists.{NoDup, joined}
 use Rattle.spec.specs.Ids.{Id}
 use Rattle.spec.specs.Store.{Store, retained}
-use Rattle.spec.specs.Rules.{counts}
+use Rattle.spec.specs.Rules.{countsAsStarted}
 use Rattle.spec.specs.Calls as calls
 use Rattle.spec.specs.Chain.{number, conflict}
-use Rattle.spec.specs.Calls.{Call, Beginning, start, commit, call, done, said, handed, refused}
+use Rattle.spec.specs.Calls.{Call, StartArgs, start, commit, call, done, flag, anchors, refused}
 use Rattle.spec.specs.Demand.{AllInList, after, History, wrote, histories, Given, gave, resolutions, AllExact, AsSaid, AllAsSaid, AllArrive}
-use Rattle.spec.specs.Level.{Sized}
-use Rattle.spec.specs.Proof.{demand-3}
+use Rattle.spec.specs.HeightEquations.{Sized}
+use Rattle.spec.specs.Demand3.{demand-3}
 use Rattle.models.specs.Digest.{Fit}
-use Rattle.dag_test.specs.Whole.{sized}
-use Rattle.dag_test.specs.Counts.{counted}
+use Rattle.tables_test.specs.Whole.{sized}
+use Rattle.tables_test.specs.Refines.{counted}
 use Rattle.models.specs.declared.refusal.Refusal.the-variants.{Number, Conflict}
 use Rattle.commit_answer.specs.declared.answer.Answer.{Answer}
-use Rattle.commit_answer.specs.declared.answer.Answer.the-variants.{Done, Said, Handed, Refused}
+use Rattle.commit_answer.specs.declared.answer.Answer.the-variants.{Done, Flag, Anchors, Refused}
 use Rattle.models.specs.Refusal.{refusalOf}
-use Rattle.commit_answer.specs.Answer.{Board, seen, Left, outcomeOf, answerOf, Did}
+use Rattle.commit_answer.specs.Answer.{Tables, viewOf, Left, outcomeOf, answerOf, Did}
 
 -- one call that was made: 01's call that it is, the board before it, what it left, and that it has done what its contract says
 pub record Made : Type 0 where
   pub what : Call
-  pub before : Board
+  pub before : Tables
   pub left : Left
-  pub model : Board → Left
+  pub model : Tables → Left
   pub did : Did what model before left
 
 -- what it left, in 01's terms
@@ -37,14 +37,14 @@ abbrev pub outcome : Made → calls.Outcome
 outcome m = outcomeOf (m .left)
 
 -- "each call gets the whole store .. as the one before left it"
-abbrev pub Runs : Board → List Made → Type 0
+abbrev pub Runs : Tables → List Made → Type 0
 Runs d [] = Unit {0}
 Runs d (m ∷ ms) = (m .before ≡ d) × Runs (m .left .tables) ms
 
 -- the board after them, and 01's calls that they are
-unfoldable pub lastBoard : Board → List Made → Board
-lastBoard d [] = d
-lastBoard d (m ∷ ms) = lastBoard (m .left .tables) ms
+unfoldable pub lastTables : Tables → List Made → Tables
+lastTables d [] = d
+lastTables d (m ∷ ms) = lastTables (m .left .tables) ms
 
 abbrev pub callsOf : List Made → List Call
 callsOf ms = map (λ (m : Made). m .what) ms
@@ -52,7 +52,7 @@ callsOf ms = map (λ (m : Made). m .what) ms
 -- the histories, read from the bytes that its commits left, and the links that its accepted resolutions gave
 unfoldable pub historiesIn : List Made → List History
 historiesIn [] = []
-historiesIn (m ∷ ms) = wrote (seen (m .before)) (m .what) (outcome m) ++ historiesIn ms
+historiesIn (m ∷ ms) = wrote (viewOf (m .before)) (m .what) (outcome m) ++ historiesIn ms
 
 unfoldable pub resolutionsIn : List Made → List Given
 resolutionsIn [] = []
@@ -61,21 +61,21 @@ resolutionsIn (m ∷ ms) = gave (m .what) (answerOf (m .left .answer)) ++ resolu
 -- what each call writes, that a start inside is refused, and which rounds are retained
 abbrev pub AllSaid : List Made → Type 0
 AllSaid [] = Unit {0}
-AllSaid (m ∷ ms) = AsSaid (seen (m .before)) (m .what) (outcome m) × AllSaid ms
+AllSaid (m ∷ ms) = AsSaid (viewOf (m .before)) (m .what) (outcome m) × AllSaid ms
 
 -- "no point stands in two histories or twice in one, and each history holds exactly the points .. that any path from the anchor reaches and
 -- no earlier history held": after a start of the code that answers done. Each call does as said, and the start adds its bottom, no other round
 abbrev pub FirstHalf : Type 0
-FirstHalf = (s : Made) (b : Beginning) (ms : List Made) → s .what ≡ start b → answerOf (s .left .answer) ≡ done → Runs (s .left .tables) ms → AllInList (callsOf ms)
-    → NoDup (joined (λ (h : History). h .ids) (historiesIn ms)) × AllExact (resolutionsIn ms) [] (historiesIn ms) × AllSaid ms × ((r : ℕ) → retained (seen (s .left .tables)) r ≡ eqb r (b .bottom))
+FirstHalf = (s : Made) (b : StartArgs) (ms : List Made) → s .what ≡ start b → answerOf (s .left .answer) ≡ done → Runs (s .left .tables) ms → AllInList (callsOf ms)
+    → NoDup (joined (λ (h : History). h .ids) (historiesIn ms)) × AllExact (resolutionsIn ms) [] (historiesIn ms) × AllSaid ms × ((r : ℕ) → retained (viewOf (s .left .tables)) r ≡ eqb r (b .bottom))
 
 -- "The second list begins at any tables that count as started", of 64-bit words. "The commit after it is compared with the same one made
 -- there at once: the whole answer, every byte of the buffer."
 abbrev pub SecondHalf : Type 0
-SecondHalf = (d : Board) → Fit (d .keys) → Fit (d .links) → counts (seen d) ≡ true → (i : Id) (b : List ℕ) (n : ℕ) (m l : Made) (ms : List Made)
-    → m .before ≡ d → m .what ≡ commit i b → answerOf (m .left .answer) ≡ handed (suc n)
-    → Runs d ms → AllArrive (seen d) (callsOf ms)
-    → l .before ≡ lastBoard d ms → l .what ≡ commit i b
+SecondHalf = (d : Tables) → Fit (d .keys) → Fit (d .links) → countsAsStarted (viewOf d) ≡ true → (i : Id) (b : List ℕ) (n : ℕ) (m l : Made) (ms : List Made)
+    → m .before ≡ d → m .what ≡ commit i b → answerOf (m .left .answer) ≡ anchors (suc n)
+    → Runs d ms → AllArrive (viewOf d) (callsOf ms)
+    → l .before ≡ lastTables d ms → l .what ≡ commit i b
     → (l .left .answer ≡ m .left .answer) × (l .left .buffer ≡ m .left .buffer)
 
 -- ---- the code's lists are the definitions'
@@ -88,53 +88,53 @@ buffer-is : (m : Made) → outcome m .buffer ≡ m .left .buffer
 unfolding outcomeOf
 buffer-is m = refl
 
-left-is : (m : Made) → outcome m .store ≡ seen (m .left .tables)
+left-is : (m : Made) → outcome m .store ≡ viewOf (m .left .tables)
 unfolding outcomeOf
 left-is m = refl
 
 -- the store after a call
-store-is : (m : Made) (s : Store) → seen (m .before) ≡ s → seen (m .left .tables) ≡ call s (m .what) .store
+store-is : (m : Made) (s : Store) → viewOf (m .before) ≡ s → viewOf (m .left .tables) ≡ call s (m .what) .store
 store-is m s e = sym (left-is m) ∙ (ap (λ (o : calls.Outcome). o .store) (m .did .answer) ∙ ap (λ t. call t (m .what) .store) e)
 
-histories-is : (s : Store) (d : Board) (ms : List Made) → seen d ≡ s → Runs d ms → historiesIn ms ≡ histories s (callsOf ms)
+histories-is : (s : Store) (d : Tables) (ms : List Made) → viewOf d ≡ s → Runs d ms → historiesIn ms ≡ histories s (callsOf ms)
 unfolding historiesIn histories
 histories-is s d [] e r = refl
 histories-is s d (m ∷ ms) e (b, r) =
-    let k : seen (m .before) ≡ s = ap seen b ∙ e in
-    ap₂ _++_ (ap (wrote (seen (m .before)) (m .what)) (m .did .answer) ∙ ap (λ t. wrote t (m .what) (call t (m .what))) k) (histories-is (call s (m .what) .store) (m .left .tables) ms (store-is m s k) r)
+    let k : viewOf (m .before) ≡ s = ap viewOf b ∙ e in
+    ap₂ _++_ (ap (wrote (viewOf (m .before)) (m .what)) (m .did .answer) ∙ ap (λ t. wrote t (m .what) (call t (m .what))) k) (histories-is (call s (m .what) .store) (m .left .tables) ms (store-is m s k) r)
 
-resolutions-is : (s : Store) (d : Board) (ms : List Made) → seen d ≡ s → Runs d ms → resolutionsIn ms ≡ resolutions s (callsOf ms)
+resolutions-is : (s : Store) (d : Tables) (ms : List Made) → viewOf d ≡ s → Runs d ms → resolutionsIn ms ≡ resolutions s (callsOf ms)
 unfolding resolutionsIn resolutions
 resolutions-is s d [] e r = refl
 resolutions-is s d (m ∷ ms) e (b, r) =
-    let k : seen (m .before) ≡ s = ap seen b ∙ e in
+    let k : viewOf (m .before) ≡ s = ap viewOf b ∙ e in
     ap₂ _++_ (ap (gave (m .what)) (sym (answer-is m) ∙ (ap (λ (o : calls.Outcome). o .answer) (m .did .answer) ∙ ap (λ t. call t (m .what) .answer) k))) (resolutions-is (call s (m .what) .store) (m .left .tables) ms (store-is m s k) r)
 
-said-is : (s : Store) (d : Board) (ms : List Made) → seen d ≡ s → Runs d ms → AllAsSaid s (callsOf ms) → AllSaid ms
+said-is : (s : Store) (d : Tables) (ms : List Made) → viewOf d ≡ s → Runs d ms → AllAsSaid s (callsOf ms) → AllSaid ms
 said-is s d [] e r a = tt
 said-is s d (m ∷ ms) e (b, r) (a, rest) =
-    let k : seen (m .before) ≡ s = ap seen b ∙ e in
+    let k : viewOf (m .before) ≡ s = ap viewOf b ∙ e in
     let o : outcome m ≡ call s (m .what) = m .did .answer ∙ ap (λ t. call t (m .what)) k in
     (subst (λ t. AsSaid t (m .what) (outcome m)) (sym k) (subst (AsSaid s (m .what)) (sym o) a), said-is (call s (m .what) .store) (m .left .tables) ms (store-is m s k) r rest)
 
-last-is : (s : Store) (d : Board) (ms : List Made) → seen d ≡ s → Runs d ms → seen (lastBoard d ms) ≡ after s (callsOf ms)
-unfolding lastBoard after
+last-is : (s : Store) (d : Tables) (ms : List Made) → viewOf d ≡ s → Runs d ms → viewOf (lastTables d ms) ≡ after s (callsOf ms)
+unfolding lastTables after
 last-is s d [] e r = e
-last-is s d (m ∷ ms) e (b, r) = last-is (call s (m .what) .store) (m .left .tables) ms (store-is m s (ap seen b ∙ e)) r
+last-is s d (m ∷ ms) e (b, r) = last-is (call s (m .what) .store) (m .left .tables) ms (store-is m s (ap viewOf b ∙ e)) r
 
 -- the code's answer is known from 01's
 fromAnswer : calls.Answer → Answer
 fromAnswer done = Done
-fromAnswer (said b) = Said b
-fromAnswer (handed n) = Handed n
+fromAnswer (flag b) = Flag b
+fromAnswer (anchors n) = Anchors n
 fromAnswer (refused (number k) n) = Refused (Number k) n
 fromAnswer (refused (conflict r) n) = Refused (Conflict (record { 0 = r })) n
 
 from-answer : (a : Answer) → fromAnswer (answerOf a) ≡ a
 unfolding fromAnswer answerOf refusalOf
 from-answer Done = refl
-from-answer (Said b) = refl
-from-answer (Handed n) = refl
+from-answer (Flag b) = refl
+from-answer (Anchors n) = refl
 from-answer (Refused (Number k) n) = refl
 from-answer (Refused (Conflict r) n) = refl
 
@@ -142,31 +142,31 @@ answer-same : (x y : Answer) → answerOf x ≡ answerOf y → x ≡ y
 answer-same x y e = sym (from-answer x) ∙ (ap fromAnswer e ∙ from-answer y)
 
 -- what a commit that was made answered and wrote
-made-is : (m : Made) (s : Store) (c : Call) → seen (m .before) ≡ s → m .what ≡ c → outcome m ≡ call s c
+made-is : (m : Made) (s : Store) (c : Call) → viewOf (m .before) ≡ s → m .what ≡ c → outcome m ≡ call s c
 made-is m s c e f = m .did .answer ∙ ap₂ call e f
 
 -- ---- the theorem
 
 first-half : FirstHalf
 first-half s b ms f a r i =
-    let o : outcome s ≡ call (seen (s .before)) (start b) = made-is s (seen (s .before)) (start b) refl f in
-    let t : call (seen (s .before)) (start b) .store ≡ seen (s .left .tables) = ap (λ (x : calls.Outcome). x .store) (sym o) ∙ left-is s in
-    let e : seen (s .left .tables) ≡ call (seen (s .before)) (start b) .store = sym t in
-    let (x, y, z, w) = demand-3 .0 (seen (s .before)) b (callsOf ms) (ap (λ (x : calls.Outcome). x .answer) (sym o) ∙ (answer-is s ∙ a)) i in
-    let hs : historiesIn ms ≡ histories (call (seen (s .before)) (start b) .store) (callsOf ms) = histories-is (call (seen (s .before)) (start b) .store) (s .left .tables) ms e r in (
+    let o : outcome s ≡ call (viewOf (s .before)) (start b) = made-is s (viewOf (s .before)) (start b) refl f in
+    let t : call (viewOf (s .before)) (start b) .store ≡ viewOf (s .left .tables) = ap (λ (x : calls.Outcome). x .store) (sym o) ∙ left-is s in
+    let e : viewOf (s .left .tables) ≡ call (viewOf (s .before)) (start b) .store = sym t in
+    let (x, y, z, w) = demand-3 .0 (viewOf (s .before)) b (callsOf ms) (ap (λ (x : calls.Outcome). x .answer) (sym o) ∙ (answer-is s ∙ a)) i in
+    let hs : historiesIn ms ≡ histories (call (viewOf (s .before)) (start b) .store) (callsOf ms) = histories-is (call (viewOf (s .before)) (start b) .store) (s .left .tables) ms e r in (
       rw hs x,
-      rw (hs, resolutions-is (call (seen (s .before)) (start b) .store) (s .left .tables) ms e r) y,
-      said-is (call (seen (s .before)) (start b) .store) (s .left .tables) ms e r z,
+      rw (hs, resolutions-is (call (viewOf (s .before)) (start b) .store) (s .left .tables) ms e r) y,
+      said-is (call (viewOf (s .before)) (start b) .store) (s .left .tables) ms e r z,
       λ q. subst (λ u. retained u q ≡ eqb q (b .bottom)) t (w q),
     )
 
 second-half : SecondHalf
 second-half d fk fl c i b n m l ms m0 m1 a r v l0 l1 =
     let t = counted (d .state) (d .keys) (d .links) (d .certs) (d .order) fk fl c in
-    let z : Sized (seen d) = sized (d .state) (d .keys) (d .links) (d .certs) (d .order) fk fl (t .shaped) (t .facts .inside) in
-    let x : outcome m ≡ call (seen d) (commit i b) = made-is m (seen d) (commit i b) (ap seen m0) m1 in
-    let y : outcome l ≡ call (after (seen d) (callsOf ms)) (commit i b) = made-is l (after (seen d) (callsOf ms)) (commit i b) (ap seen l0 ∙ last-is (seen d) d ms refl r) l1 in
-    let k = demand-3 .1 (seen d) z c i b n (ap (λ (o : calls.Outcome). o .answer) (sym x) ∙ (answer-is m ∙ a)) (callsOf ms) v in (
+    let z : Sized (viewOf d) = sized (d .state) (d .keys) (d .links) (d .certs) (d .order) fk fl (t .shaped) (t .facts .inside) in
+    let x : outcome m ≡ call (viewOf d) (commit i b) = made-is m (viewOf d) (commit i b) (ap viewOf m0) m1 in
+    let y : outcome l ≡ call (after (viewOf d) (callsOf ms)) (commit i b) = made-is l (after (viewOf d) (callsOf ms)) (commit i b) (ap viewOf l0 ∙ last-is (viewOf d) d ms refl r) l1 in
+    let k = demand-3 .1 (viewOf d) z c i b n (ap (λ (o : calls.Outcome). o .answer) (sym x) ∙ (answer-is m ∙ a)) (callsOf ms) v in (
       answer-same (l .left .answer) (m .left .answer) (sym (answer-is l) ∙ (ap (λ (o : calls.Outcome). o .answer) y ∙ (k .0 ∙ (ap (λ (o : calls.Outcome). o .answer) (sym x) ∙ answer-is m)))),
       sym (buffer-is l) ∙ (ap (λ (o : calls.Outcome). o .buffer) y ∙ (k .1 ∙ (ap (λ (o : calls.Outcome). o .buffer) (sym x) ∙ buffer-is m))),
     )

@@ -5,7 +5,7 @@ use mathlib.Core.Bool.{cond}
 use lib.Dec.{eqb}
 use lib.ListN.{length, getD}
 use Rattle.spec.specs.Ids.{Ref}
-use Rattle.spec.specs.Store.{Told, unresolved}
+use Rattle.spec.specs.Store.{Resolution, unresolved}
 use Rattle.models.specs.declared.info.PointInfo.{PointInfo}
 use Rattle.models.specs.Digest.{digestAt}
 use Rattle.models.specs.Parts.{idOf}
@@ -20,7 +20,7 @@ refsOf rs j zero = []
 refsOf rs j (suc m) = refAt rs j ∷ refsOf rs (j + 1) m
 
 -- links of another number than the one given are no resolution: status 0, which 11 refuses
-unfoldable pub infoOf : PointInfo → List ℕ → Told
+unfoldable pub infoOf : PointInfo → List ℕ → Resolution
 infoOf i rs = cond (eqb (length rs) ((i .includes + i .witness) * 5)) (record {
   status = i .status;
   proof = i .proof;

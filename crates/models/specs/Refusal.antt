@@ -5,7 +5,7 @@ use mathlib.Core.Bool.{Bool, true, false, cond, true≢false}
 use lib.Dec.{ltb}
 use native.Mathlib.Omega.{arith}
 use Rattle.spec.specs.Chain as chain
-use Rattle.spec.specs.Chain.{number, conflict, Out, bad, good, verdict}
+use Rattle.spec.specs.Chain.{number, conflict, Out, bad, good, checkedAs}
 use Rattle.models.specs.Cert.{heightOf}
 use Rattle.models.specs.declared.refusal.Refusal.{Refusal}
 use Rattle.models.specs.declared.refusal.Refusal.the-variants.{Number, Conflict}
@@ -69,11 +69,11 @@ unless-next Passed d o = refl
 unless-next (Failed r) d o = refl
 
 -- 01's verdict on a resolved point that isn't usable
-pub verdict-not : (c r q : ℕ) → verdict true false (ltb 0 (heightOf c)) r q ≡ unlessFailed (notValid c r) (good q)
-unfolding verdict unlessFailed refusalOf notValid
-verdict-not c r q = by (ltb 0 (heightOf c))
+pub checkedAs-not : (c r q : ℕ) → checkedAs true false (ltb 0 (heightOf c)) r q ≡ unlessFailed (notValid c r) (good q)
+unfolding checkedAs unlessFailed refusalOf notValid
+checkedAs-not c r q = by (ltb 0 (heightOf c))
   where
-    by : (g : Bool) → verdict true false g r q ≡ unlessFailed (cond g (conflicting r) (failed 15)) (good q)
+    by : (g : Bool) → checkedAs true false g r q ≡ unlessFailed (cond g (conflicting r) (failed 15)) (good q)
     by true = refl
     by false = refl
 

@@ -8,10 +8,10 @@ use crate::parts::Round;
 pub const BAD_START: u32 = 1;
 
 // Not started, or started twice.
-pub const NOT_STARTED: u32 = 2;
+pub const WRONG_PHASE: u32 = 2;
 
 // A round beyond the next one, or above the last that there can be.
-pub const ROUND_TOO_HIGH: u32 = 3;
+pub const ROUND_AHEAD: u32 = 3;
 
 // 512 rounds, or a table without a free place.
 pub const FULL: u32 = 4;
@@ -23,7 +23,7 @@ pub const NOT_A_PEER: u32 = 5;
 pub const NOT_RETAINED: u32 = 6;
 
 // The digest is named in its round.
-pub const ALREADY_NAMED: u32 = 7;
+pub const DIGEST_NAMED: u32 = 7;
 
 // The author has four digests in this round.
 pub const FIFTH_DIGEST: u32 = 8;
@@ -31,24 +31,24 @@ pub const FIFTH_DIGEST: u32 = 8;
 // The id isn't named, or the trigger is unresolved.
 pub const NOT_NAMED: u32 = 9;
 
-pub const ALREADY_RESOLVED: u32 = 10;
+pub const RESOLVED: u32 = 10;
 
 // What a resolution gives isn't well-formed.
 pub const BAD_INFO: u32 = 11;
 
 // A link into a retained round leads to no named point.
-pub const DANGLING_LINK: u32 = 12;
+pub const LINK_NOT_NAMED: u32 = 12;
 
-pub const HISTORY_CONFLICT: u32 = 13;
+pub const CONFLICT: u32 = 13;
 
 // A needed point isn't named or isn't resolved.
-pub const NOT_RESOLVED: u32 = 14;
+pub const POINT_MISSING: u32 = 14;
 
 // A needed point is neither usable nor certified.
-pub const NOT_USABLE: u32 = 15;
+pub const UNUSABLE: u32 = 15;
 
 // A trigger or a proof without a previous point, or a point that is not the proof sought.
-pub const NO_PROOF: u32 = 16;
+pub const BROKEN_CHAIN: u32 = 16;
 
 // Rounds of a history are missing.
 pub const ROUNDS_MISSING: u32 = 17;
@@ -57,18 +57,18 @@ pub const ROUNDS_MISSING: u32 = 17;
 pub const NOT_CERTIFIED: u32 = 18;
 
 // The oldest anchor's top proof is above the walk's lowest round.
-pub const CHAIN_NOT_LINKED: u32 = 19;
+pub const CHAIN_ENDS_EARLY: u32 = 19;
 
 // The gap question isn't put.
-pub const GAP_NOT_ASKED: u32 = 20;
+pub const GAP_QUESTION: u32 = 20;
 
 // The answer is larger than the buffer left.
-pub const BUFFER_TOO_SMALL: u32 = 21;
+pub const NO_ROOM: u32 = 21;
 
-pub const ANCHOR_AT_GENESIS: u32 = 22;
+pub const AT_GENESIS: u32 = 22;
 
 // A remove above the last anchor handed out.
-pub const BEYOND_LAST_ANCHOR: u32 = 23;
+pub const REMOVE_AHEAD: u32 = 23;
 
 // Document 01's number of a refusal; 13, the history conflict, holds its round.
 pub enum Refusal {
@@ -89,5 +89,5 @@ pub fn not_valid(cert: Cert, round: Round) -> Check
     if cert.is_certified() {
         return Check::Failed(Refusal::Conflict(round));
     }
-    Check::Failed(Refusal::Number(NOT_USABLE))
+    Check::Failed(Refusal::Number(UNUSABLE))
 }

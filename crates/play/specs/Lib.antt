@@ -1,3 +1,3 @@
 pub mod Sized
-pub mod Made
+pub mod Steps
 pub mod Plays

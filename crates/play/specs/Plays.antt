@@ -8,9 +8,9 @@ use Rattle.spec.specs.Chain as chain
 use Rattle.spec.specs.Calls as calls
 use Rattle.spec.specs.Demand.{finished}
 use Rattle.models.specs.declared.parts.Round.{Round}
-use Rattle.dag_state.specs.declared.state.State.{State}
+use Rattle.commit_state.specs.declared.state.State.{State}
 use Rattle.models.specs.Refusal.{refusalOf}
-use Rattle.commit_answer.specs.Answer.{Board, board, Left, left, answerOf, Did}
+use Rattle.commit_answer.specs.Answer.{Tables, tables, Left, left, answerOf, Did}
 use Rattle.models.specs.declared.refusal.Refusal.{Refusal}
 use Rattle.models.specs.declared.refusal.Refusal.the-variants as why
 use Rattle.commit_answer.specs.declared.answer.Answer.{Answer}
@@ -33,8 +33,8 @@ refusedWith (chain.conflict r) = line.Conflict r
 -- the line of an answer of 01; y and n are the lines of a call that says yes or no
 unfoldable pub lineSaid : Line → Line → calls.Answer → Line
 lineSaid y n calls.done = line.Ok
-lineSaid y n (calls.said b) = cond b y n
-lineSaid y n (calls.handed m) = line.Ok
+lineSaid y n (calls.flag b) = cond b y n
+lineSaid y n (calls.anchors m) = line.Ok
 lineSaid y n (calls.refused r m) = refusedWith r
 
 -- the kinds whose calls are made
@@ -58,9 +58,9 @@ idle k = elim k [ kind.Start ↦ line.Unsupported | kind.Round ↦ line.Unsuppor
 
 -- A call that was made: w is the buffer that is there, c and v are the board and the buffer after it. The call did what its contract says;
 -- line and anchors are those of its answer; the buffer stays unless the call takes it.
-pub record Made (k : Kind) (b : Board) (w f : List ℕ) (t : Step) (c : Board) (v : List ℕ) : Type 0 where
+pub record Made (k : Kind) (b : Tables) (w f : List ℕ) (t : Step) (c : Tables) (v : List ℕ) : Type 0 where
   pub left : Left
-  pub model : Board → Left
+  pub model : Tables → Left
   pub did : Did (callBy k f w) model b left
   pub tables : c ≡ left .tables
   pub line : t .line ≡ lineSaid (yesOf k) (noOf k) (answerOf (left .answer))
@@ -68,11 +68,11 @@ pub record Made (k : Kind) (b : Board) (w f : List ℕ) (t : Step) (c : Board) (
   pub buffer : v ≡ cond (isLent k) (left .buffer) w
 
 -- a record whose call is made, or all stays
-unfoldable pub Plays : Kind → Board → List ℕ → List ℕ → Step → Board → List ℕ → Type 0
+unfoldable pub Plays : Kind → Tables → List ℕ → List ℕ → Step → Tables → List ℕ → Type 0
 Plays k b w f t c v = (isMade k ≡ true → Made k b w f t c v) × (isMade k ≡ false → (c ≡ b) × (t .line ≡ idle k) × (t .anchors ≡ 0) × (v ≡ w))
 
 -- a call that takes no buffer, whatever buffer there is
-abbrev pub PlaysPlain : Kind → Board → List ℕ → Step → Board → Type 0
+abbrev pub PlaysPlain : Kind → Tables → List ℕ → Step → Tables → Type 0
 PlaysPlain k b f t c = (w : List ℕ) → Plays k b w f t c w
 
 -- ---- laws
@@ -91,11 +91,11 @@ module _ (a : Answer) where
   unfolding finished answerOf
   anchors-done e = rw e refl
 
-  pub anchors-said : (b : Bool) → a ≡ answer.Said b → 0 ≡ finished (answerOf a)
+  pub anchors-said : (b : Bool) → a ≡ answer.Flag b → 0 ≡ finished (answerOf a)
   unfolding finished answerOf
   anchors-said b e = rw e refl
 
-  pub anchors-handed : (n : ℕ) → a ≡ answer.Handed n → n ≡ finished (answerOf a)
+  pub anchors-handed : (n : ℕ) → a ≡ answer.Anchors n → n ≡ finished (answerOf a)
   unfolding finished answerOf
   anchors-handed n e = rw e refl
 
@@ -108,17 +108,17 @@ module _ (a : Answer) (y n : Line) where
   unfolding lineSaid answerOf
   line-done e = rw e refl
 
-  pub line-said : (b : Bool) → a ≡ answer.Said b → cond b y n ≡ lineSaid y n (answerOf a)
+  pub line-said : (b : Bool) → a ≡ answer.Flag b → cond b y n ≡ lineSaid y n (answerOf a)
   unfolding lineSaid answerOf
   line-said b e = rw e refl
 
-  pub line-yes : (b : Bool) → a ≡ answer.Said b → b ≡ true → y ≡ lineSaid y n (answerOf a)
+  pub line-yes : (b : Bool) → a ≡ answer.Flag b → b ≡ true → y ≡ lineSaid y n (answerOf a)
   line-yes b e h = rw h at (line-said b e)
 
-  pub line-no : (b : Bool) → a ≡ answer.Said b → b ≡ false → n ≡ lineSaid y n (answerOf a)
+  pub line-no : (b : Bool) → a ≡ answer.Flag b → b ≡ false → n ≡ lineSaid y n (answerOf a)
   line-no b e h = rw h at (line-said b e)
 
-  pub line-handed : (m : ℕ) → a ≡ answer.Handed m → line.Ok ≡ lineSaid y n (answerOf a)
+  pub line-handed : (m : ℕ) → a ≡ answer.Anchors m → line.Ok ≡ lineSaid y n (answerOf a)
   unfolding lineSaid answerOf
   line-handed m e = rw e refl
 
@@ -135,30 +135,30 @@ abbrev pub stepOf : Kind → Answer → State → Step
 stepOf j a s = record { line = lineSaid (yesOf j) (noOf j) (answerOf a); anchors = finished (answerOf a); state = s }
 
 -- a call that is made, with the outcome o
-module _ (j : Kind) (m : Board → Left) (b : Board) (f : List ℕ) (o : Outcome) (ks ls cs os : List ℕ) (t : Step) (y : isMade j ≡ true) (g : t ≡ stepOf j (o .answer) (o .state)) (w v : List ℕ) where
-  plays : (u : List ℕ) → Did (callBy j f w) m b (left o ks ls cs os v) → u ≡ cond (isLent j) v w → Plays j b w f t (board (t .state) ks ls cs os) u
+module _ (j : Kind) (m : Tables → Left) (b : Tables) (f : List ℕ) (o : Outcome) (ks ls cs os : List ℕ) (t : Step) (y : isMade j ≡ true) (g : t ≡ stepOf j (o .answer) (o .state)) (w v : List ℕ) where
+  plays : (u : List ℕ) → Did (callBy j f w) m b (left o ks ls cs os v) → u ≡ cond (isLent j) v w → Plays j b w f t (tables (t .state) ks ls cs os) u
   unfolding Plays
   plays u h e = rw g (λ _. record { left = left o ks ls cs os v; model = m; did = h; tables = refl; line = refl; anchors = refl; buffer = e }, λ n. absurd (clash y n))
 
   -- without a buffer
-  pub plays-plain : isLent j ≡ false → Did (callBy j f w) m b (left o ks ls cs os v) → Plays j b w f t (board (t .state) ks ls cs os) w
+  pub plays-plain : isLent j ≡ false → Did (callBy j f w) m b (left o ks ls cs os v) → Plays j b w f t (tables (t .state) ks ls cs os) w
   plays-plain l h = plays w h (sym (cond-no _ _ _ l refl))
 
   -- with one
-  pub plays-lent : isLent j ≡ true → Did (callBy j f w) m b (left o ks ls cs os v) → Plays j b w f t (board (t .state) ks ls cs os) v
-  plays-lent l h = plays v h (sym (cond-yes _ _ _ l refl))
+  pub plays-bufferOf : isLent j ≡ true → Did (callBy j f w) m b (left o ks ls cs os v) → Plays j b w f t (tables (t .state) ks ls cs os) v
+  plays-bufferOf l h = plays v h (sym (cond-yes _ _ _ l refl))
 
 -- a record of that kind, its fields also others that make the same call
-pub plays-at : (k j : Kind) (b c : Board) (w v f g : List ℕ) (t : Step) → k ≡ j → callBy j g w ≡ callBy j f w → Plays j b w g t c v → Plays k b w f t c v
+pub plays-at : (k j : Kind) (b c : Tables) (w v f g : List ℕ) (t : Step) → k ≡ j → callBy j g w ≡ callBy j f w → Plays j b w g t c v → Plays k b w f t c v
 unfolding Plays
 plays-at k j b c w v f g t e h p = rw e (λ y. let m = p .0 y in record { left = m .left; model = m .model; did = subst (λ x. Did x (m .model) b (m .left)) h (m .did); tables = m .tables; line = m .line; anchors = m .anchors; buffer = m .buffer }, p .1)
 
 -- one that isn't
-pub plays-unmade : (k j : Kind) (b : Board) (w f : List ℕ) (t : Step) → k ≡ j → isMade j ≡ false → t ≡ record { line = idle j; anchors = 0; state = b .state }
-    → Plays k b w f t (board (t .state) (b .keys) (b .links) (b .certs) (b .order)) w
+pub plays-unmade : (k j : Kind) (b : Tables) (w f : List ℕ) (t : Step) → k ≡ j → isMade j ≡ false → t ≡ record { line = idle j; anchors = 0; state = b .state }
+    → Plays k b w f t (tables (t .state) (b .keys) (b .links) (b .certs) (b .order)) w
 unfolding Plays
 plays-unmade k j b w f t e m g = rw (g, e) (λ n. absurd (clash n m), λ _. (refl, refl, refl, refl))
 
 -- the record that was found
-pub plays-head : (bs : List ℕ) (r h : Record) (b c : Board) (w v : List ℕ) (t : Step) → r ≡ h → Plays (r .kind) b w (part bs (r .from) (r .end)) t c v → Plays (h .kind) b w (part bs (h .from) (h .end)) t c v
+pub plays-head : (bs : List ℕ) (r h : Record) (b c : Tables) (w v : List ℕ) (t : Step) → r ≡ h → Plays (r .kind) b w (part bs (r .from) (r .end)) t c v → Plays (h .kind) b w (part bs (h .from) (h .end)) t c v
 plays-head bs r h b c w v t e p = rw (sym e) p

@@ -6,7 +6,7 @@ ghost use Rattle.commit_answer.specs.Answer.{answerOf};
 ghost use Rattle.play.specs.Plays.{lineSaid, refusedWith};
 use commit_answer::answer::Answer;
 use commit_answer::answer::Outcome;
-use dag_state::state::State;
+use commit_state::state::State;
 use models::refusal::Refusal;
 
 // What one recorded call answered. Refused holds document 01's number; Conflict, its number 13, the round; Broken: no record could be read.
@@ -44,8 +44,8 @@ fn line_of(answer: Answer, yes: Line, no: Line) -> Line
 {
     match answer {
         Answer::Done => Line::Ok,
-        Answer::Said(said) => { if said { yes } else { no } }
-        Answer::Handed(_n) => Line::Ok,
+        Answer::Flag(said) => { if said { yes } else { no } }
+        Answer::Anchors(_n) => Line::Ok,
         Answer::Refused(why, _finished) => refused_line(why),
     }
 }
@@ -56,8 +56,8 @@ fn anchors_of(answer: Answer) -> u32
 {
     match answer {
         Answer::Done => 0,
-        Answer::Said(_said) => 0,
-        Answer::Handed(n) => n,
+        Answer::Flag(_said) => 0,
+        Answer::Anchors(n) => n,
         Answer::Refused(_why, finished) => finished,
     }
 }

@@ -4,7 +4,7 @@ ghost use mathlib.Core.Bool.{true};
 ghost use Prim.Native.Nat.{_<_, _≤_};
 ghost use lib.ListN.{length};
 ghost use Rattle.trace.specs.Head.{known, part, headAt};
-ghost use Rattle.commit_answer.specs.Answer.{board};
+ghost use Rattle.commit_answer.specs.Answer.{tables};
 ghost use Rattle.play.specs.Sized.{Sized};
 ghost use Rattle.play.specs.Plays.{Plays};
 use crate::line::Line;
@@ -19,7 +19,7 @@ use crate::rounds::play_gap;
 use crate::rounds::play_reset;
 use crate::rounds::play_round;
 use crate::rounds::play_start;
-use dag_state::state::State;
+use commit_state::state::State;
 use trace::head::Kind;
 use trace::head::record_at;
 
@@ -41,8 +41,8 @@ fn play_fields(
     f: &[u8],
 ) -> Step
     requires { ⌜ Sized kind (now f) ⌝ }
-    ensures { λ r. ⌜ Plays kind (board s (now (keys .entry)) (now (links .entry)) (now (certs .entry)) (now (order .entry))) (now (b .entry)) (now (f .entry)) r
-        (board (r .state) (now (keys .exit)) (now (links .exit)) (now (certs .exit)) (now (order .exit))) (now (b .exit)) ⌝ }
+    ensures { λ r. ⌜ Plays kind (tables s (now (keys .entry)) (now (links .entry)) (now (certs .entry)) (now (order .entry))) (now (b .entry)) (now (f .entry)) r
+        (tables (r .state) (now (keys .exit)) (now (links .exit)) (now (certs .exit)) (now (order .exit))) (now (b .exit)) ⌝ }
 {
     match kind {
         Kind::Start => play_start(s, keys, links, certs, order, f),
@@ -73,9 +73,9 @@ pub fn play_one(
     at: usize,
 ) -> Played
     ensures end { λ r. ⌜ (r .end ≡ headAt (now (bytes .entry)) at .end) × (at ≤ r .end) × (at ≤ length (now (bytes .entry)) → r .end ≤ length (now (bytes .entry))) ⌝ }
-    ensures plays { λ r. ⌜ Plays (headAt (now (bytes .entry)) at .kind) (board s (now (keys .entry)) (now (links .entry)) (now (certs .entry)) (now (order .entry))) (now (b .entry))
+    ensures plays { λ r. ⌜ Plays (headAt (now (bytes .entry)) at .kind) (tables s (now (keys .entry)) (now (links .entry)) (now (certs .entry)) (now (order .entry))) (now (b .entry))
         (part (now (bytes .entry)) (headAt (now (bytes .entry)) at .from) (headAt (now (bytes .entry)) at .end)) (r .step)
-        (board (r .step .state) (now (keys .exit)) (now (links .exit)) (now (certs .exit)) (now (order .exit))) (now (b .exit)) ⌝ }
+        (tables (r .step .state) (now (keys .exit)) (now (links .exit)) (now (certs .exit)) (now (order .exit))) (now (b .exit)) ⌝ }
     ensures moves { λ r. ⌜ (known (headAt (now (bytes .entry)) at .kind) ≡ true → at < r .end) ⌝ }
 {
     if bytes.len() < at {

@@ -1,18 +1,18 @@
 // Origin: none. A point named, resolved, certified or committed from, by the fields of its record.
 ghost use Prim.Native.Nat.{_+_, _*_, _≤_};
 ghost use lib.ListN.{length};
-ghost use Rattle.commit_answer.specs.Answer.{board};
+ghost use Rattle.commit_answer.specs.Answer.{tables};
 ghost use Rattle.trace.specs.Head.{linksIn};
 ghost use Rattle.trace.specs.declared.head.Kind.the-variants as kinds;
 ghost use Rattle.play.specs.Plays.{Plays, PlaysPlain};
 use crate::line::Line;
 use crate::line::Step;
 use crate::line::step_of;
-use commit_commit::commit;
+use commit_call::commit;
 use commit_points::certify::certify;
 use commit_points::name::add_dependency;
 use commit_points::resolve::resolve;
-use dag_state::state::State;
+use commit_state::state::State;
 use trace::bytes::id_of;
 use trace::fields::info_of;
 use trace::fields::refs_of;
@@ -27,8 +27,8 @@ pub fn play_name(
     f: &[u8],
 ) -> Step
     requires { ⌜ 37 ≤ length (now f) ⌝ }
-    ensures { λ r. ⌜ PlaysPlain kinds.Name (board s (now (keys .entry)) (now (links .entry)) (now (certs .entry)) (now (order .entry))) (now (f .entry)) r
-        (board (r .state) (now (keys .exit)) (now (links .entry)) (now (certs .exit)) (now (order .exit))) ⌝ }
+    ensures { λ r. ⌜ PlaysPlain kinds.Name (tables s (now (keys .entry)) (now (links .entry)) (now (certs .entry)) (now (order .entry))) (now (f .entry)) r
+        (tables (r .state) (now (keys .exit)) (now (links .entry)) (now (certs .exit)) (now (order .exit))) ⌝ }
 {
     let id = id_of(f, 0);
     let o = add_dependency(s, keys, links, certs, order, id);
@@ -46,8 +46,8 @@ pub fn play_resolve(
 ) -> Step
     requires { ⌜ 82 + 33 * linksIn (now f) ≤ length (now f) ⌝ }
     requires { ⌜ linksIn (now f) ≤ 121 ⌝ }
-    ensures { λ r. ⌜ PlaysPlain kinds.Resolve (board s (now (keys .entry)) (now (links .entry)) (now (certs .entry)) (now (order .entry))) (now (f .entry)) r
-        (board (r .state) (now (keys .exit)) (now (links .exit)) (now (certs .exit)) (now (order .entry))) ⌝ }
+    ensures { λ r. ⌜ PlaysPlain kinds.Resolve (tables s (now (keys .entry)) (now (links .entry)) (now (certs .entry)) (now (order .entry))) (now (f .entry)) r
+        (tables (r .state) (now (keys .exit)) (now (links .exit)) (now (certs .exit)) (now (order .entry))) ⌝ }
 {
     let id = id_of(f, 0);
     let info = info_of(f);
@@ -68,8 +68,8 @@ pub fn play_certify(
     f: &[u8],
 ) -> Step
     requires { ⌜ 37 ≤ length (now f) ⌝ }
-    ensures { λ r. ⌜ PlaysPlain kinds.Certify (board s (now (keys .entry)) (now (links .entry)) (now (certs .entry)) (now (order .entry))) (now (f .entry)) r
-        (board (r .state) (now (keys .entry)) (now (links .entry)) (now (certs .exit)) (now (order .entry))) ⌝ }
+    ensures { λ r. ⌜ PlaysPlain kinds.Certify (tables s (now (keys .entry)) (now (links .entry)) (now (certs .entry)) (now (order .entry))) (now (f .entry)) r
+        (tables (r .state) (now (keys .entry)) (now (links .entry)) (now (certs .exit)) (now (order .entry))) ⌝ }
 {
     let id = id_of(f, 0);
     let o = certify(s, keys, links, certs, order, id);
@@ -87,8 +87,8 @@ pub fn play_commit(
     f: &[u8],
 ) -> Step
     requires { ⌜ 37 ≤ length (now f) ⌝ }
-    ensures { λ r. ⌜ Plays kinds.Commit (board s (now (keys .entry)) (now (links .entry)) (now (certs .entry)) (now (order .entry))) (now (b .entry)) (now (f .entry)) r
-        (board (r .state) (now (keys .entry)) (now (links .entry)) (now (certs .exit)) (now (order .entry))) (now (b .exit)) ⌝ }
+    ensures { λ r. ⌜ Plays kinds.Commit (tables s (now (keys .entry)) (now (links .entry)) (now (certs .entry)) (now (order .entry))) (now (b .entry)) (now (f .entry)) r
+        (tables (r .state) (now (keys .entry)) (now (links .entry)) (now (certs .exit)) (now (order .entry))) (now (b .exit)) ⌝ }
 {
     let id = id_of(f, 0);
     let o = commit(s, keys, links, certs, order, id, b);

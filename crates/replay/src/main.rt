@@ -2,7 +2,7 @@
 // Its argument is the number of places of the tables, 1 to 256; without one there are 20.
 ghost use Prim.Native.Nat.{_≤_};
 ghost use lib.ListN.{length};
-use dag_state::state::State;
+use commit_state::state::State;
 use show::part::play_part;
 use show::state::unstarted;
 use show::state::write_state;

@@ -5,20 +5,20 @@ use mathlib.Core.List.{List}
 use mathlib.Core.Bool.{Bool, true}
 use native.Mathlib.Omega.{arith}
 use lib.ListN.{length}
-use Rattle.spec.specs.Rules.{counts}
-use Rattle.dag_state.specs.declared.state.State.{State}
+use Rattle.spec.specs.Rules.{countsAsStarted}
+use Rattle.commit_state.specs.declared.state.State.{State}
 use Rattle.models.specs.Digest.{Fit}
 use Rattle.models.specs.Tables.{placeAt, Inside}
-use Rattle.dag_test.specs.Tested.{shape-says}
-use Rattle.dag_test.specs.Counts.{counted}
-use Rattle.dag_test.specs.View.{view}
+use Rattle.tables_test.specs.Model.{shape-says}
+use Rattle.tables_test.specs.Refines.{counted}
+use Rattle.tables_test.specs.View.{view}
 
 -- the first n cells of the order hold places of the tables
 unfoldable pub Readable : List ℕ → List ℕ → List ℕ → ℕ → Type 0
 Readable ks cs os n = (length ks ≡ length os * 8) × (length cs ≡ length os) × (n ≤ length os) × Inside os n (length os)
 
 -- tables that count as started are so
-pub readable : (s : State) (ks ls cs os : List ℕ) → Fit ks → Fit ls → (b : Bool) → b ≡ counts (view s ks ls cs os) → b ≡ true → Readable ks cs os (s .count)
+pub readable : (s : State) (ks ls cs os : List ℕ) → Fit ks → Fit ls → (b : Bool) → b ≡ countsAsStarted (view s ks ls cs os) → b ≡ true → Readable ks cs os (s .count)
 unfolding Readable
 readable s ks ls cs os fk fl b e h =
     let t = counted s ks ls cs os fk fl (sym e ∙ h) in

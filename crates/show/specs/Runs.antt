@@ -6,7 +6,7 @@ use mathlib.Core.Bool.{Bool, true, false, cond, true≢false}
 use native.Mathlib.Omega.{arith}
 use lib.ListN.{length}
 use Rattle.laws.specs.Test.{byTest, clash, cond-yes, cond-no}
-use Rattle.commit_answer.specs.Answer.{Board}
+use Rattle.commit_answer.specs.Answer.{Tables}
 use Rattle.trace.specs.Head.{part, headOk, headAt, restAt}
 use Rattle.trace.specs.declared.head.Kind.the-variants.{Broken}
 use Rattle.trace.specs.declared.head.Record.{Record}
@@ -14,13 +14,13 @@ use Rattle.play.specs.Plays.{Plays, isMade}
 use Rattle.play.specs.declared.line.Step.{Step}
 
 -- the record of bs at p makes d of the board c, and v of the buffer u
-abbrev pub PlaysAt : List ℕ → ℕ → Board → List ℕ → Step → Board → List ℕ → Type 0
+abbrev pub PlaysAt : List ℕ → ℕ → Tables → List ℕ → Step → Tables → List ℕ → Type 0
 PlaysAt bs p c u t d v = Plays (headAt bs p .kind) c u (part bs (headAt bs p .from) (headAt bs p .end)) t d v
 
 -- the records of bs before p, one after another, make c of the board b, and u of the buffer w
-pub data Runs (bs : List ℕ) (b : Board) (w : List ℕ) : ℕ → Board → List ℕ → Type 0 where
+pub data Runs (bs : List ℕ) (b : Tables) (w : List ℕ) : ℕ → Tables → List ℕ → Type 0 where
   none-yet : Runs bs b w 0 b w
-  one-more : {p : ℕ} {c : Board} {u : List ℕ} (t : Step) (d : Board) (v : List ℕ) → Runs bs b w p c u → p < headAt bs p .end → PlaysAt bs p c u t d v → Runs bs b w (headAt bs p .end) d v
+  one-more : {p : ℕ} {c : Tables} {u : List ℕ} (t : Step) (d : Tables) (v : List ℕ) → Runs bs b w p c u → p < headAt bs p .end → PlaysAt bs p c u t d v → Runs bs b w (headAt bs p .end) d v
 
 -- as many bytes must be left for a record to be played
 abbrev pub leastLeft : Bool → ℕ
@@ -40,7 +40,7 @@ stays bs p l =
     (λ t. let g : headAt bs p .end ≡ p + 4 + restAt bs p = ap (λ (x : Record). x .end) (cond-yes _ _ _ t refl) in absurd (omega (arith, g)))
     (λ t. ap (λ (x : Record). x .kind) (cond-no _ _ _ t refl))
 
-module _ (bs : List ℕ) (b c d : Board) (w u v : List ℕ) (p e : ℕ) (t : Step) (r : Runs bs b w p c u) (g : e ≡ headAt bs p .end) (q : PlaysAt bs p c u t d v) where
+module _ (bs : List ℕ) (b c d : Tables) (w u v : List ℕ) (p e : ℕ) (t : Step) (r : Runs bs b w p c u) (g : e ≡ headAt bs p .end) (q : PlaysAt bs p c u t d v) where
   -- a record more
   pub runs-more : p < e → Runs bs b w e d v
   runs-more l = rw g (one-more t d v r (rw g at l) q)

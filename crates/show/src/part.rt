@@ -2,11 +2,11 @@
 ghost use mathlib.Core.Path.{_≡_};
 ghost use Prim.Native.Nat.{_≤_};
 ghost use lib.ListN.{length};
-ghost use Rattle.commit_answer.specs.Answer.{board};
+ghost use Rattle.commit_answer.specs.Answer.{tables};
 ghost use Rattle.show.specs.Runs.{Runs, Ends, leastLeft};
 use crate::anchors::write_anchors;
 use crate::lines::write_line;
-use dag_state::state::State;
+use commit_state::state::State;
 use play::one::play_one;
 
 // The state after the records that were played, the offset of the first that was not, and whether that one is broken.
@@ -36,8 +36,8 @@ pub fn play_part(
     base: u64,
     last: bool,
 ) -> Part
-    ensures runs { λ r. ⌜ Runs (now (bytes .entry)) (board s (now (keys .entry)) (now (links .entry)) (now (certs .entry)) (now (order .entry))) (now (b .entry)) (r .at)
-        (board (r .state) (now (keys .exit)) (now (links .exit)) (now (certs .exit)) (now (order .exit))) (now (b .exit)) ⌝ }
+    ensures runs { λ r. ⌜ Runs (now (bytes .entry)) (tables s (now (keys .entry)) (now (links .entry)) (now (certs .entry)) (now (order .entry))) (now (b .entry)) (r .at)
+        (tables (r .state) (now (keys .exit)) (now (links .exit)) (now (certs .exit)) (now (order .exit))) (now (b .exit)) ⌝ }
     ensures ends { λ r. ⌜ (r .at ≤ length (now (bytes .entry))) × Ends (now (bytes .entry)) last (r .at) (r .broken) ⌝ }
 {
     let mut now = s;

@@ -5,41 +5,44 @@ ghost use Rattle.show.specs.Points.{Readable};
 use crate::lines::write;
 use crate::lines::write_digest;
 use crate::lines::write_number;
-use dag_state::state::RoundRecord;
-use dag_state::state::State;
-use dag_state::state::empty_memory;
-use dag_test::counts_as_started;
+use commit_state::state::RoundRecord;
+use commit_state::state::State;
+use commit_state::state::empty_memory;
 use models::parts::OptionRound;
 use models::parts::Round;
+use tables_test::counts_as_started;
 
 // A state of zeros, which isn't started.
 pub fn unstarted() -> State {
-    let empty = RoundRecord { peers: 0, used: 0 };
+    let empty = RoundRecord {
+        peers: 0,
+        used_anchor_proof: 0,
+    };
     let memory = empty_memory();
     State {
         phase: 0,
         count: 0,
         genesis: Round(0),
-        history_rounds: 0,
+        commit_history_rounds: 0,
         deduplicate_rounds: 0,
         bottom: Round(0),
         top: Round(0),
-        last_proof: OptionRound::NONE,
+        last_committed_proof: OptionRound::NONE,
         last_anchor: OptionRound::NONE,
         full_history_bottom: Round(0),
         first_executable: Round(0),
-        gap: 0,
+        emit_first_after_gap: 0,
         rounds: [empty; 512],
         memory,
     }
 }
 
 // The last proof's round.
-fn write_last_proof(last_proof: OptionRound) {
-    if last_proof.0 == 0 {
+fn write_last_proof(last_committed_proof: OptionRound) {
+    if last_committed_proof.0 == 0 {
         write(b" lastproof none");
     } else {
-        write_number(b" lastproof ", (last_proof.0 - 1) as u64);
+        write_number(b" lastproof ", (last_committed_proof.0 - 1) as u64);
     }
 }
 
@@ -62,11 +65,11 @@ fn write_rounds(s: State) {
     let first = s.first_executable;
     write_number(b"state bottom ", bottom.0 as u64);
     write_number(b" top ", top.0 as u64);
-    let last_proof = s.last_proof;
-    write_last_proof(last_proof);
+    let last_committed_proof = s.last_committed_proof;
+    write_last_proof(last_committed_proof);
     write_number(b" fullbottom ", full.0 as u64);
     write_number(b" first ", first.0 as u64);
-    write_emit(s.gap);
+    write_emit(s.emit_first_after_gap);
 }
 
 // The line of the point at place q with its certificate word.

@@ -9,11 +9,11 @@ use Rattle.laws.specs.Scan.{any, lowest}
 use Rattle.laws.specs.Lists.{has}
 use Rattle.laws.specs.Bytes.{written}
 use Rattle.spec.specs.Ids.{Id}
-use Rattle.spec.specs.Store.{Told, Point, Memory, Conf, started, reset, Store, unresolved, noFlags, free, noRound, noMemory, roundAt, resolved, links, retained, withPoints, withProgress, withMemory, withGap}
+use Rattle.spec.specs.Store.{Resolution, Point, Memory, Conf, started, reset, Store, unresolved, noFlags, free, noRound, noMemory, roundAt, resolved, links, retained, withPoints, withProgress, withMemory, withGap}
 use Rattle.spec.specs.Paths.{height}
-use Rattle.spec.specs.Rules.{isPeer, twin, versions, wellFormed, wild, usedOk, lastRound, confOk, placesOk, counts, wasReset}
+use Rattle.spec.specs.Rules.{isPeer, sameDigest, versions, wellFormed, dangling, usedOk, lastRound, confOk, placesOk, countsAsStarted, wasReset}
 use Rattle.spec.specs.Chain.{Refusal, number, conflict, Out, bad, good, then, refuse, placeOf, anchorsOf}
-use Rattle.spec.specs.History.{isWaiting, Finished, commitAll, outlookAll}
+use Rattle.spec.specs.History.{gapPending, Finished, commitAll, outlookAll}
 use Rattle.spec.specs.Inspect.{inspected, memoryAfter, removeBytes}
 
 -- ---- answers
@@ -22,8 +22,8 @@ use Rattle.spec.specs.Inspect.{inspected, memoryAfter, removeBytes}
 -- refused: with the finished anchors, 0 in every call but commit.
 pub data Answer : Type 0 where
   done : Answer
-  said : Bool → Answer
-  handed : ℕ → Answer
+  flag : Bool → Answer
+  anchors : ℕ → Answer
   refused : Refusal → ℕ → Answer
 
 -- 01, 'Refusals': the number of a refusal, and what is returned with it
@@ -41,17 +41,17 @@ pub record Outcome : Type 0 where
   pub store : Store
   pub buffer : List ℕ
 
-abbrev pub quiet : Store → Answer → Outcome
-quiet s a = record { answer = a; store = s; buffer = [] }
+abbrev pub withoutBuffer : Store → Answer → Outcome
+withoutBuffer s a = record { answer = a; store = s; buffer = [] }
 
 -- "Nothing changes unless stated." A call without a buffer: refused, or the store after it
 unfoldable pub finish : Store → Out Store → Outcome
-finish s (bad r) = quiet s (refused r 0)
-finish s (good t) = quiet t done
+finish s (bad r) = withoutBuffer s (refused r 0)
+finish s (good t) = withoutBuffer t done
 
 -- ---- start and reset
 
-pub record Beginning : Type 0 where
+pub record StartArgs : Type 0 where
   pub conf : Conf
   pub bottom : ℕ
   pub peers : ℕ
@@ -60,7 +60,7 @@ pub record Beginning : Type 0 where
 
 -- 1: "H of 0 or above 255; deduplicate rounds above 65,535; a round above 4,000,000,000; bottom below genesis; used author above 31;
 -- a table of no places or above 4,096"
-unfoldable pub startOk : ℕ → Beginning → Bool
+unfoldable pub startOk : ℕ → StartArgs → Bool
 startOk n b =
     confOk (b .conf) && (leb (b .conf .genesis) lastRound && (leb (b .bottom) lastRound && (leb (b .conf .genesis) (b .bottom) && (usedOk (b .used) && placesOk n))))
 
@@ -68,7 +68,7 @@ startOk n b =
 unfoldable pub fullBottomAt : Conf → ℕ → ℕ
 fullBottomAt c b = cond (leb b (c .genesis + c .historyRounds)) b (b + c .historyRounds)
 
-unfoldable pub begun : ℕ → Memory → Beginning → Store
+unfoldable pub begun : ℕ → Memory → StartArgs → Store
 begun n m b = let full = fullBottomAt (b .conf) (b .bottom) in record {
   phase = started;
   places = n;
@@ -93,8 +93,8 @@ unfoldable pub memoryKept : Store → Memory
 memoryKept s = cond (wasReset s) (s .memory) noMemory
 
 -- 1, then 2: "start twice"
-unfoldable pub doStart : Store → Beginning → Outcome
-doStart s b = finish s (refuse (not (startOk (s .places) b)) 1 (refuse (counts s) 2 (good (begun (s .places) (memoryKept s) b))))
+unfoldable pub doStart : Store → StartArgs → Outcome
+doStart s b = finish s (refuse (not (startOk (s .places) b)) 1 (refuse (countsAsStarted s) 2 (good (begun (s .places) (memoryKept s) b))))
 
 -- "Reset keeps the inspector's memory of its last round."
 unfoldable pub cleared : Store → Store
@@ -143,7 +143,7 @@ atId s i o = refuse (leb 32 (i .author)) 5 (refuse (not (retained s (i .round)))
 
 -- the point i is named at the place q
 unfoldable pub newPoint : Id → Point
-newPoint i = record { named = true; id = i; told = unresolved; flags = noFlags }
+newPoint i = record { named = true; id = i; resolution = unresolved; flags = noFlags }
 
 unfoldable pub nameAt : Store → Id → ℕ → Store
 nameAt s i q = withPoints s (λ p. cond (eqb p q) (newPoint i) (s .pt p)) (λ p. cond (eqb p q) 0 (s .heights p))
@@ -156,32 +156,32 @@ intoFree s i (some q) = good (nameAt s i q)
 -- "naming goes on with 7, 8, 4": 8: "fifth digest"
 unfoldable pub doName : Store → Id → Out Store
 doName s i =
-    atId s i (refuse (any (s .places) (twin s i)) 7 (refuse (leb 4 (versions s i)) 8 (intoFree s i (lowest (s .places) (λ q. not (s .pt q .named))))))
+    atId s i (refuse (any (s .places) (sameDigest s i)) 7 (refuse (leb 4 (versions s i)) 8 (intoFree s i (lowest (s .places) (λ q. not (s .pt q .named))))))
 
 -- s with the heights of its paths
-unfoldable pub settled : Store → Store
-settled s = withPoints s (s .pt) (height s)
+unfoldable pub withPathHeights : Store → Store
+withPathHeights s = withPoints s (s .pt) (height s)
 
 -- flags started and completed are set where links come in: status 1 to 3
-unfoldable pub resolvedAs : Bool → Told → Point → Point
+unfoldable pub resolvedAs : Bool → Resolution → Point → Point
 resolvedAs b t p = let set = b && leb (t .status) 3 in record {
   named = p .named;
   id = p .id;
-  told = cond b t (p .told);
+  resolution = cond b t (p .resolution);
   flags = record { top = p .flags .top; started = set || p .flags .started; completed = set || p .flags .completed; committed = p .flags .committed };
 }
 
-unfoldable pub resolveAt : Store → Told → ℕ → Store
-resolveAt s t q = settled (withPoints s (λ p. resolvedAs (eqb p q) t (s .pt p)) (s .heights))
+unfoldable pub resolveAt : Store → Resolution → ℕ → Store
+resolveAt s t q = withPathHeights (withPoints s (λ p. resolvedAs (eqb p q) t (s .pt p)) (s .heights))
 
 -- 10: "resolved already"; 11; 12
-unfoldable pub resolving : Store → Told → ℕ → Out Store
+unfoldable pub resolving : Store → Resolution → ℕ → Out Store
 resolving s t q =
     refuse (resolved (s .pt q)) 10 (refuse (not (wellFormed (roundAt s q) t)) 11 (
-    refuse (has (wild s (roundAt s q)) (links (resolvedAs true t (s .pt q)))) 12 (good (resolveAt s t q))
+    refuse (has (dangling s (roundAt s q)) (links (resolvedAs true t (s .pt q)))) 12 (good (resolveAt s t q))
     ))
 
-unfoldable pub doResolve : Store → Id → Told → Out Store
+unfoldable pub doResolve : Store → Id → Resolution → Out Store
 doResolve s i t = atId s i (then (placeOf s i) (resolving s t))
 
 -- "Certifying marks a point as top. .. A second certificate changes nothing."
@@ -189,20 +189,20 @@ unfoldable pub setTop : Bool → Point → Point
 setTop b p = record {
   named = p .named;
   id = p .id;
-  told = p .told;
+  resolution = p .resolution;
   flags = record { top = b || p .flags .top; started = p .flags .started; completed = p .flags .completed; committed = p .flags .committed };
 }
 
 unfoldable pub certifyAt : Store → ℕ → Store
-certifyAt s q = settled (withPoints s (λ p. setTop (eqb p q) (s .pt p)) (s .heights))
+certifyAt s q = withPathHeights (withPoints s (λ p. setTop (eqb p q) (s .pt p)) (s .heights))
 
 unfoldable pub doCertify : Store → Id → Out Store
 doCertify s i = atId s i (then (placeOf s i) (λ q. good (certifyAt s q)))
 
 -- ---- the gap question (`is_once_after_gap`)
 
-unfoldable pub doAsk : Store → Outcome
-doAsk s = elim (isWaiting (s .progress .gap)) [ true ↦ quiet (withGap s (some true)) (said true) | false ↦ quiet s (said false) ]
+unfoldable pub doGapQuestion : Store → Outcome
+doGapQuestion s = elim (gapPending (s .progress .gap)) [ true ↦ withoutBuffer (withGap s (some true)) (flag true) | false ↦ withoutBuffer s (flag false) ]
 
 -- ---- commit and outlook
 
@@ -210,7 +210,7 @@ unfoldable pub commitEnd : Finished → Outcome
 commitEnd f = record { answer = ended (f .stopped); store = f .store; buffer = f .buffer }
   where
     ended : Option Refusal → Answer
-    ended none = handed (f .anchors)
+    ended none = anchors (f .anchors)
     ended (some r) = refused r (f .anchors)
 
 -- "A commit does its whole walk first"
@@ -226,7 +226,7 @@ doOutlook s i b = elim (anchorsOf s i) [
   | bad r ↦ record { answer = refused r 0; store = s; buffer = b }
   | good es ↦ elim (outlookAll s (length b) es) [
     | bad r ↦ record { answer = refused r 0; store = s; buffer = b }
-    | good bytes ↦ record { answer = handed (length es); store = s; buffer = written b 0 bytes }
+    | good bytes ↦ record { answer = anchors (length es); store = s; buffer = written b 0 bytes }
   ]
 ]
 
@@ -274,64 +274,64 @@ unfoldable pub doDrop : Store → ℕ → Outcome
 doDrop s r =
     let actual = min r (s .top) in
     let full = actual + s .conf .historyRounds in
-    quiet (withProgress (drained s (newBottom s r)) (record {
+    withoutBuffer (withProgress (drained s (newBottom s r)) (record {
       lastProof = s .progress .lastProof;
       lastAnchor = s .progress .lastAnchor;
       fullBottom = full;
       firstExecutable = full + s .conf .deduplicateRounds;
       gap = some false;
-    })) (said (eqb actual r))
+    })) (flag (eqb actual r))
 
 -- ---- all calls
 
 pub data Call : Type 0 where
-  start : Beginning → Call
+  start : StartArgs → Call
   resetAll : Call
   round : ℕ → ℕ → Call
   name : Id → Call
-  resolve : Id → Told → Call
+  resolve : Id → Resolution → Call
   certify : Id → Call
-  ask : Call
+  gapQuestion : Call
   commit : Id → List ℕ → Call
   outlook : Id → List ℕ → Call
   remove : ℕ → Option ℕ → List ℕ → Call
   drop : ℕ → Call
 
 -- the buffer that a call is lent
-unfoldable pub lent : Call → List ℕ
-lent (start b) = []
-lent resetAll = []
-lent (round r peers) = []
-lent (name i) = []
-lent (resolve i t) = []
-lent (certify i) = []
-lent ask = []
-lent (commit i b) = b
-lent (outlook i b) = b
-lent (remove r from b) = b
-lent (drop r) = []
+unfoldable pub bufferOf : Call → List ℕ
+bufferOf (start b) = []
+bufferOf resetAll = []
+bufferOf (round r peers) = []
+bufferOf (name i) = []
+bufferOf (resolve i t) = []
+bufferOf (certify i) = []
+bufferOf gapQuestion = []
+bufferOf (commit i b) = b
+bufferOf (outlook i b) = b
+bufferOf (remove r from b) = b
+bufferOf (drop r) = []
 
 -- what a call does, the tables once tested
-unfoldable pub act : Store → Call → Outcome
-act s (start b) = doStart s b
-act s resetAll = quiet (cleared s) done
-act s (round r peers) = finish s (doRound s r peers)
-act s (name i) = finish s (doName s i)
-act s (resolve i t) = finish s (doResolve s i t)
-act s (certify i) = finish s (doCertify s i)
-act s ask = doAsk s
-act s (commit i b) = doCommit s i b
-act s (outlook i b) = doOutlook s i b
-act s (remove r from b) = doRemove s r from b
-act s (drop r) = doDrop s r
+unfoldable pub perform : Store → Call → Outcome
+perform s (start b) = doStart s b
+perform s resetAll = withoutBuffer (cleared s) done
+perform s (round r peers) = finish s (doRound s r peers)
+perform s (name i) = finish s (doName s i)
+perform s (resolve i t) = finish s (doResolve s i t)
+perform s (certify i) = finish s (doCertify s i)
+perform s gapQuestion = doGapQuestion s
+perform s (commit i b) = doCommit s i b
+perform s (outlook i b) = doOutlook s i b
+perform s (remove r from b) = doRemove s r from b
+perform s (drop r) = doDrop s r
 
 -- 2: "not started"; of the calls only start is for tables that don't count as started
 unfoldable pub isStart : Call → Bool
-isStart c = elim c [ start b ↦ true | resetAll ↦ false | round r peers ↦ false | name i ↦ false | resolve i t ↦ false | certify i ↦ false | ask ↦ false | commit i b ↦ false | outlook i b ↦ false | remove r from b ↦ false | drop r ↦ false ]
+isStart c = elim c [ start b ↦ true | resetAll ↦ false | round r peers ↦ false | name i ↦ false | resolve i t ↦ false | certify i ↦ false | gapQuestion ↦ false | commit i b ↦ false | outlook i b ↦ false | remove r from b ↦ false | drop r ↦ false ]
 
 abbrev pub unstarted : Store → Call → Outcome
-unstarted s c = record { answer = refused (number 2) 0; store = s; buffer = lent c }
+unstarted s c = record { answer = refused (number 2) 0; store = s; buffer = bufferOf c }
 
 -- "Each call tests the tables against this paper's rules"
 unfoldable pub call : Store → Call → Outcome
-call s c = elim (counts s || isStart c) [ true ↦ act s c | false ↦ unstarted s c ]
+call s c = elim (countsAsStarted s || isStart c) [ true ↦ perform s c | false ↦ unstarted s c ]

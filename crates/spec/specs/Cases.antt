@@ -7,12 +7,12 @@ use mathlib.Core.Option.{none, some}
 use lib.ListN.{getD, replicate}
 use Rattle.laws.specs.Lists
 use Rattle.spec.specs.Store.{Store, withProgress}
-use Rattle.spec.specs.Chain.{Enqueued}
+use Rattle.spec.specs.Chain.{EnqueuedAnchor}
 use Rattle.spec.specs.History.{limit, prevAnchor}
 use Rattle.spec.specs.Inspect.{score}
 use Rattle.spec.specs.Calls.{Outcome, Call, round, name, resolve, certify, commit, drop, call}
 use Rattle.spec.specs.Demand.{after}
-use Rattle.spec.specs.Play.{Row, conf, blank, from, id, ref, valid, rounds, computed, numbers, same, agree, agree-elim}
+use Rattle.spec.specs.Scenarios.{Row, conf, blank, from, id, ref, valid, rounds, computed, numbers, same, agree, agree-elim}
 
 -- ---- K13
 
@@ -62,7 +62,7 @@ bounds s = s .bottom ∷ s .progress .fullBottom ∷ s .progress .firstExecutabl
 abbrev k8 : Outcome
 k8 = call (after (blank 6) (from 2 20 false none ∷ rounds 21 10)) (drop 10)
 
-abbrev link : ℕ → Enqueued
+abbrev link : ℕ → EnqueuedAnchor
 link r = record { anchor = 0; proof = 0; prevProofRound = r }
 
 -- a start at 10, rounds to 12, last proof 12 and a trigger of round 12
@@ -80,18 +80,18 @@ proved12 = withProgress s (record {
 
 abbrev rows : List Row
 rows =
-    record { case = 1; given = limit (conf 2) 13 ∷ []; said = 11 ∷ [] }
-    ∷ record { case = 2; given = limit (conf 2) 12 ∷ []; said = 11 ∷ [] }
-    ∷ record { case = 3; given = limit (conf 2) 14 ∷ []; said = 12 ∷ [] }
-    ∷ record { case = 4; given = heightsOf (after (blank 6) line); said = 4 ∷ 3 ∷ 2 ∷ 1 ∷ 0 ∷ [] }
-    ∷ record { case = 5; given = heightsOf (after (blank 6) (line ++ (certify (id 18 0 180) ∷ []))); said = 4 ∷ 3 ∷ 4 ∷ 3 ∷ 2 ∷ [] }
-    ∷ record { case = 6; given = bounds (after (blank 6) (from 2 12 false none ∷ [])); said = 12 ∷ 12 ∷ 12 ∷ [] }
-    ∷ record { case = 7; given = bounds (after (blank 6) (from 2 13 true none ∷ [])); said = 13 ∷ 15 ∷ 20 ∷ [] }
-    ∷ record { case = 8; given = numbers (k8 .answer) ++ bounds (k8 .store); said = 1 ∷ 20 ∷ 12 ∷ 17 ∷ [] }
-    ∷ record { case = 10; given = score (record { wasLeader = 0; skippedRounds = 10; validPoints = 0; pointsProved = 0; equivocated = 2; transInvalid = 0; invalid = 0; illFormed = 0; referencesSkipped = 0 }) ∷ []; said = 70 ∷ [] }
-    ∷ record { case = 11; given = prevAnchor (blank 6) (link 11) ∷ prevAnchor (blank 6) (link 12) ∷ []; said = 0 ∷ 11 ∷ [] }
-    ∷ record { case = 12; given = numbers (call proved12 (commit (id 12 0 120) []) .answer); said = 3 ∷ 0 ∷ [] }
-    ∷ record { case = 13; given = numbers (k13 .answer) ++ (points (k13 .buffer) ∷ []); said = 3 ∷ 1 ∷ 4 ∷ [] }
+    record { case = 1; given = limit (conf 2) 13 ∷ []; expected = 11 ∷ [] }
+    ∷ record { case = 2; given = limit (conf 2) 12 ∷ []; expected = 11 ∷ [] }
+    ∷ record { case = 3; given = limit (conf 2) 14 ∷ []; expected = 12 ∷ [] }
+    ∷ record { case = 4; given = heightsOf (after (blank 6) line); expected = 4 ∷ 3 ∷ 2 ∷ 1 ∷ 0 ∷ [] }
+    ∷ record { case = 5; given = heightsOf (after (blank 6) (line ++ (certify (id 18 0 180) ∷ []))); expected = 4 ∷ 3 ∷ 4 ∷ 3 ∷ 2 ∷ [] }
+    ∷ record { case = 6; given = bounds (after (blank 6) (from 2 12 false none ∷ [])); expected = 12 ∷ 12 ∷ 12 ∷ [] }
+    ∷ record { case = 7; given = bounds (after (blank 6) (from 2 13 true none ∷ [])); expected = 13 ∷ 15 ∷ 20 ∷ [] }
+    ∷ record { case = 8; given = numbers (k8 .answer) ++ bounds (k8 .store); expected = 1 ∷ 20 ∷ 12 ∷ 17 ∷ [] }
+    ∷ record { case = 10; given = score (record { wasLeader = 0; skippedRounds = 10; validPoints = 0; pointsProved = 0; equivocated = 2; transInvalid = 0; invalid = 0; illFormed = 0; referencesSkipped = 0 }) ∷ []; expected = 70 ∷ [] }
+    ∷ record { case = 11; given = prevAnchor (blank 6) (link 11) ∷ prevAnchor (blank 6) (link 12) ∷ []; expected = 0 ∷ 11 ∷ [] }
+    ∷ record { case = 12; given = numbers (call proved12 (commit (id 12 0 120) []) .answer); expected = 3 ∷ 0 ∷ [] }
+    ∷ record { case = 13; given = numbers (k13 .answer) ++ (points (k13 .buffer) ∷ []); expected = 3 ∷ 1 ∷ 4 ∷ [] }
     ∷ []
 
 -- every row is computed ..
@@ -100,5 +100,5 @@ unfolding computed numbers same agree Lists.all
 test = refl
 
 -- .. so each case comes out as 01 says
-pub cases : (r : Row) → List·Memᴰ r rows → r .given ≡ r .said
+pub cases : (r : Row) → List·Memᴰ r rows → r .given ≡ r .expected
 cases = agree-elim rows test

@@ -31,57 +31,57 @@ refuse b n o = elim b [ true ↦ bad (number n) | false ↦ o ]
 unfoldable pub usableInWalk : Store → ℕ → Bool
 usableInWalk s q = eqb (statusAt s q) 1
 
-unfoldable pub usableInHistory : Store → ℕ → Bool
-usableInHistory s q = eqb (statusAt s q) 1 || (eqb (statusAt s q) 2 && not (proved s q))
+unfoldable pub isCommittable : Store → ℕ → Bool
+isCommittable s q = eqb (statusAt s q) 1 || (eqb (statusAt s q) 2 && not (proved s q))
 
 -- 14: "point needed, not named or unresolved"; 13: "a needed point that isn't usable and is certified .. its round is that point's";
 -- 15: "status neither usable nor certified"
-unfoldable pub verdict : (isResolved isUsable isCertified : Bool) → ℕ → ℕ → Out ℕ
-verdict false u c r q = bad (number 14)
-verdict true true c r q = good q
-verdict true false true r q = bad (conflict r)
-verdict true false false r q = bad (number 15)
+unfoldable pub checkedAs : (isResolved isUsable isCertified : Bool) → ℕ → ℕ → Out ℕ
+checkedAs false u c r q = bad (number 14)
+checkedAs true true c r q = good q
+checkedAs true false true r q = bad (conflict r)
+checkedAs true false false r q = bad (number 15)
 
-unfoldable pub judged : Store → (Store → ℕ → Bool) → ℕ → Out ℕ
-judged s usable q = verdict (resolved (s .pt q)) (usable s q) (certified s q) (roundAt s q) q
+unfoldable pub checked : Store → (Store → ℕ → Bool) → ℕ → Out ℕ
+checked s usable q = checkedAs (resolved (s .pt q)) (usable s q) (certified s q) (roundAt s q) q
 
 -- the place of a point that the walk needs
-unfoldable pub needInWalk : Store → Id → Out ℕ
-needInWalk s i = elim (find s i) [ none ↦ bad (number 14) | some q ↦ judged s usableInWalk q ]
+unfoldable pub readyValidPoint : Store → Id → Out ℕ
+readyValidPoint s i = elim (find s i) [ none ↦ bad (number 14) | some q ↦ checked s usableInWalk q ]
 
 -- an anchor of the chain: its place, its proof's, and the round of the anchor's top proof (`EnqueuedAnchor`)
-pub record Enqueued : Type 0 where
+pub record EnqueuedAnchor : Type 0 where
   pub anchor : ℕ
   pub proof : ℕ
   pub prevProofRound : ℕ
 
 -- how the walk goes on below: from the sought proof and the anchors found so far, oldest first
 abbrev pub Onward : Type 0
-Onward = Id → List Enqueued → Out (List Enqueued)
+Onward = Id → List EnqueuedAnchor → Out (List EnqueuedAnchor)
 
 -- "Else the proof's previous point is the anchor and the anchor's top proof is sought next. Anchors come out oldest first."
-unfoldable pub enqueue : Store → Onward → List Enqueued → ℕ → ℕ → Out (List Enqueued)
-enqueue s below acc p a = below (s .pt a .told .topProof) (record { anchor = a; proof = p; prevProofRound = s .pt a .told .topProof .round } ∷ acc)
+unfoldable pub enqueue : Store → Onward → List EnqueuedAnchor → ℕ → ℕ → Out (List EnqueuedAnchor)
+enqueue s below acc p a = below (s .pt a .resolution .topProof) (record { anchor = a; proof = p; prevProofRound = s .pt a .resolution .topProof .round } ∷ acc)
 
 -- "a proof at the lowest walked round, tested like the others, ends it unused"
-unfoldable pub toAnchor : Store → ℕ → Bool → Onward → List Enqueued → ℕ → ℕ → Out (List Enqueued)
+unfoldable pub toAnchor : Store → ℕ → Bool → Onward → List EnqueuedAnchor → ℕ → ℕ → Out (List EnqueuedAnchor)
 toAnchor s x lowest below acc p d = elim lowest [
   | true ↦ good acc
-  | false ↦ then (needInWalk s (record { round = prev x; author = idAt s p .author; digest = d })) (enqueue s below acc p)
+  | false ↦ then (readyValidPoint s (record { round = prev x; author = idAt s p .author; digest = d })) (enqueue s below acc p)
 ]
 
 -- 16: "trigger or proof without a previous point"
-unfoldable pub toPrevious : Store → ℕ → Bool → Onward → List Enqueued → ℕ → Option ℕ → Out (List Enqueued)
+unfoldable pub toPrevious : Store → ℕ → Bool → Onward → List EnqueuedAnchor → ℕ → Option ℕ → Out (List EnqueuedAnchor)
 toPrevious s x lowest below acc p none = bad (number 16)
 toPrevious s x lowest below acc p (some d) = toAnchor s x lowest below acc p d
 
 -- 16: "not marked as proof"
-unfoldable pub atProof : Store → ℕ → Bool → Onward → List Enqueued → ℕ → Out (List Enqueued)
-atProof s x lowest below acc p = elim (s .pt p .told .proof) [ true ↦ toPrevious s x lowest below acc p (previous (s .pt p)) | false ↦ bad (number 16) ]
+unfoldable pub atProof : Store → ℕ → Bool → Onward → List EnqueuedAnchor → ℕ → Out (List EnqueuedAnchor)
+atProof s x lowest below acc p = elim (s .pt p .resolution .proof) [ true ↦ toPrevious s x lowest below acc p (previous (s .pt p)) | false ↦ bad (number 16) ]
 
 -- "a round with a used mark ends the walk if its author matches"; 16: "of another author than the used mark"
-unfoldable pub atUsed : Store → ℕ → Bool → Onward → List Enqueued → Id → Option ℕ → Out (List Enqueued)
-atUsed s x lowest below acc i none = then (needInWalk s i) (atProof s x lowest below acc)
+unfoldable pub atUsed : Store → ℕ → Bool → Onward → List EnqueuedAnchor → Id → Option ℕ → Out (List EnqueuedAnchor)
+atUsed s x lowest below acc i none = then (readyValidPoint s i) (atProof s x lowest below acc)
 atUsed s x lowest below acc i (some a) = elim (eqb a (i .author)) [ true ↦ good acc | false ↦ bad (number 16) ]
 
 -- the round x of the walk: "Rounds above [the sought proof] are passed"; 16: "sought proof above the round walked"
@@ -105,15 +105,15 @@ abbrev pub lowestWalked : Store → ℕ
 lowestWalked s = max (orZero (s .progress .lastProof)) (s .bottom)
 
 -- 19: "oldest link above the walk's lowest round"
-unfoldable pub unlinked : ℕ → List Enqueued → Bool
+unfoldable pub unlinked : ℕ → List EnqueuedAnchor → Bool
 unlinked low [] = false
 unlinked low (e ∷ es) = ltb low (e .prevProofRound)
 
-unfoldable pub checkOldest : ℕ → List Enqueued → Out (List Enqueued)
+unfoldable pub checkOldest : ℕ → List EnqueuedAnchor → Out (List EnqueuedAnchor)
 checkOldest low es = refuse (unlinked low es) 19 (good es)
 
 -- "from the round below the trigger down"; "The sought proof is first the trigger's previous point."
-unfoldable pub chainFrom : Store → ℕ → Option ℕ → Out (List Enqueued)
+unfoldable pub chainFrom : Store → ℕ → Option ℕ → Out (List EnqueuedAnchor)
 chainFrom s t none = bad (number 16)
 chainFrom s t (some d) =
     let low = lowestWalked s in
@@ -125,8 +125,8 @@ abbrev pub emptyWalk : Store → ℕ → Bool
 emptyWalk s t = leb (roundAt s t) (lowestWalked s)
 
 -- a valid trigger: `filter` turns away one without the mark, `commit` one of the genesis round
-unfoldable pub chain : Store → ℕ → Out (List Enqueued)
-chain s t = elim (not (s .pt t .told .trigger) || (eqb (roundAt s t) (s .conf .genesis) || emptyWalk s t)) [
+unfoldable pub chain : Store → ℕ → Out (List EnqueuedAnchor)
+chain s t = elim (not (s .pt t .resolution .trigger) || (eqb (roundAt s t) (s .conf .genesis) || emptyWalk s t)) [
   | true ↦ good []
   | false ↦ chainFrom s t (previous (s .pt t))
 ]
@@ -137,8 +137,8 @@ triggerConflict s t = elim (eqb (statusAt s t) 2) [ true ↦ proved s t | false 
 
 -- 9: "trigger unresolved"; 13; 15: "status neither usable nor certified, the trigger's too"; `filter` turns away, with no anchors, a
 -- trans-invalid trigger that is certified and not proved
-unfoldable pub triggered : Store → ℕ → Out (List Enqueued)
-triggered s t =
+unfoldable pub filtered : Store → ℕ → Out (List EnqueuedAnchor)
+filtered s t =
     refuse (not (resolved (s .pt t))) 9 (elim (eqb (statusAt s t) 1) [
       | true ↦ chain s t
       | false ↦ elim (triggerConflict s t) [ true ↦ bad (conflict (roundAt s t)) | false ↦ refuse (not (certified s t)) 15 (good []) ]
@@ -150,9 +150,9 @@ placeOf s i = elim (find s i) [ none ↦ bad (number 9) | some q ↦ good q ]
 
 -- the anchors that a trigger yields. 5: "author above 31"; 6: "a trigger below the bottom yields no anchors instead"; 5: "not a peer of
 -- its round"
-unfoldable pub anchorsOf : Store → Id → Out (List Enqueued)
+unfoldable pub anchorsOf : Store → Id → Out (List EnqueuedAnchor)
 anchorsOf s i =
     refuse (leb 32 (i .author)) 5 (elim (ltb (i .round) (s .bottom)) [
       | true ↦ good []
-      | false ↦ refuse (ltb (s .top) (i .round)) 6 (refuse (not (isPeer s i)) 5 (then (placeOf s i) (triggered s)))
+      | false ↦ refuse (ltb (s .top) (i .round)) 6 (refuse (not (isPeer s i)) 5 (then (placeOf s i) (filtered s)))
     ])

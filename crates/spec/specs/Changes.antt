@@ -8,15 +8,15 @@ use borrow.Author.Tests.{eq-eqb, ne-eqb, lt-ltb, le-ltb}
 use native.Mathlib.Omega.{arith}
 use native.Mathlib.Decide.{ℕ-discrete}
 use Rattle.laws.specs.Test.{byTest, clash, both, and-l, and-r, le-or-lt}
-use Rattle.spec.specs.Store.{Told, Point, Store, free, linksTo, resolved, roundAt, withPoints}
-use Rattle.spec.specs.Paths.{Path, here, step, E, Top, gives, IsHeight, height}
-use Rattle.spec.specs.Chain.{Enqueued}
-use Rattle.spec.specs.History.{committedAt, setCommitted}
-use Rattle.spec.specs.Calls.{settled, setTop, certifyAt, resolvedAs, resolveAt, drained}
+use Rattle.spec.specs.Store.{Resolution, Point, Store, free, linksTo, resolved, roundAt, withPoints}
+use Rattle.spec.specs.Paths.{Path, here, step, LinkedTo, Top, heightFrom, IsHeight, height}
+use Rattle.spec.specs.Chain.{EnqueuedAnchor}
+use Rattle.spec.specs.History.{dequeued, setCommitted}
+use Rattle.spec.specs.Calls.{withPathHeights, setTop, certifyAt, resolvedAs, resolveAt, drained}
 use Rattle.spec.specs.Graph.{append, carry, path-down}
 use Rattle.spec.specs.Heights.{height-unique}
 use Rattle.spec.specs.Links.{linked, down, source-named}
-use Rattle.spec.specs.Level.{Sized, height-is}
+use Rattle.spec.specs.HeightEquations.{Sized, height-is}
 
 le-max-l : (m n : ℕ) {a : ℕ} → a ≤ m → a ≤ max m n
 le-max-l m n l = omega arith
@@ -47,7 +47,7 @@ module _ (s : Store) (z : Sized s) (i : ℕ) (there : s .pt i .named ≡ true) w
   H = s .conf .historyRounds
 
   cert-top : (t : ℕ) → Top (certifyAt s i) t → Top s t ⊎ (t ≡ i)
-  unfolding certifyAt settled withPoints setTop
+  unfolding certifyAt withPathHeights withPoints setTop
   cert-top t h = go (ℕ-discrete t i)
     where
       go : Dec (t ≡ i) → Top s t ⊎ (t ≡ i)
@@ -55,34 +55,34 @@ module _ (s : Store) (z : Sized s) (i : ℕ) (there : s .pt i .named ≡ true) w
       go (no e) = inl (subst (λ b. (s .pt t .named && (b || s .pt t .flags .top)) ≡ true) (ne-eqb t i e) h)
 
   top-cert : (t : ℕ) → Top s t ⊎ (t ≡ i) → Top (certifyAt s i) t
-  unfolding certifyAt settled withPoints setTop
+  unfolding certifyAt withPathHeights withPoints setTop
   top-cert t (inl h) = both {a = s .pt t .named} {b = eqb t i || s .pt t .flags .top} (and-l _ (s .pt t .flags .top) h) (byTest (eqb t i) (λ y. rw y refl) (λ n. rw n (and-r (s .pt t .named) _ h)))
   top-cert t (inr e) = both {a = s .pt t .named} {b = eqb t i || s .pt t .flags .top} (subst (λ x. s .pt x .named ≡ true) (sym e) there) (rw (eq-eqb t i e) refl)
 
-  cert-is : (p : ℕ) → IsHeight (E s) (roundAt s) (Top (certifyAt s i)) H p (height (certifyAt s i) p)
-  unfolding certifyAt settled withPoints setTop linksTo resolved
+  cert-is : (p : ℕ) → IsHeight (LinkedTo s) (roundAt s) (Top (certifyAt s i)) H p (height (certifyAt s i) p)
+  unfolding certifyAt withPathHeights withPoints setTop linksTo resolved
   cert-is p = height-is (certifyAt s i) z p
 
   -- a certificate of i raises what a path from i reaches to what i gives ..
-  pub certify-on : (q : ℕ) → Path (E s) i q → height (certifyAt s i) q ≡ max (height s q) (gives H (roundAt s) i q)
-  certify-on q w = height-unique (cert-is q) (record { bound = bound; met = met (le-or-lt (height s q) (gives H (roundAt s) i q)) })
+  pub certify-on : (q : ℕ) → Path (LinkedTo s) i q → height (certifyAt s i) q ≡ max (height s q) (heightFrom H (roundAt s) i q)
+  certify-on q w = height-unique (cert-is q) (record { bound = bound; met = met (le-or-lt (height s q) (heightFrom H (roundAt s) i q)) })
     where
-      bound : (t : ℕ) → Top (certifyAt s i) t → Path (E s) t q → gives H (roundAt s) t q ≤ max (height s q) (gives H (roundAt s) i q)
+      bound : (t : ℕ) → Top (certifyAt s i) t → Path (LinkedTo s) t q → heightFrom H (roundAt s) t q ≤ max (height s q) (heightFrom H (roundAt s) i q)
       bound t to v = ⊎-elim (λ k. omega (arith, height-is s z q .bound t k v)) (λ e. rw e (omega arith)) (cert-top t to)
 
-      met : (height s q ≤ gives H (roundAt s) i q) ⊎ (gives H (roundAt s) i q < height s q)
-          → (max (height s q) (gives H (roundAt s) i q) ≡ 0) ⊎ ((t : ℕ) × Top (certifyAt s i) t × Path (E s) t q × (max (height s q) (gives H (roundAt s) i q) ≡ gives H (roundAt s) t q))
+      met : (height s q ≤ heightFrom H (roundAt s) i q) ⊎ (heightFrom H (roundAt s) i q < height s q)
+          → (max (height s q) (heightFrom H (roundAt s) i q) ≡ 0) ⊎ ((t : ℕ) × Top (certifyAt s i) t × Path (LinkedTo s) t q × (max (height s q) (heightFrom H (roundAt s) i q) ≡ heightFrom H (roundAt s) t q))
       met (inl l) = inr (i, top-cert i (inr refl), w, omega arith)
       met (inr l) = ⊎-elim (λ e. absurd (omega arith)) (λ (t, to, v, e). inr (t, top-cert t (inl to), v, omega arith)) (height-is s z q .met)
 
   -- .. and no other point
-  pub certify-off : (q : ℕ) → (Path (E s) i q → ⊥) → height (certifyAt s i) q ≡ height s q
+  pub certify-off : (q : ℕ) → (Path (LinkedTo s) i q → ⊥) → height (certifyAt s i) q ≡ height s q
   certify-off q n = height-unique (cert-is q) (record { bound = bound; met = met })
     where
-      bound : (t : ℕ) → Top (certifyAt s i) t → Path (E s) t q → gives H (roundAt s) t q ≤ height s q
-      bound t to v = ⊎-elim (λ k. height-is s z q .bound t k v) (λ e. absurd (n (subst (λ x. Path (E s) x q) e v))) (cert-top t to)
+      bound : (t : ℕ) → Top (certifyAt s i) t → Path (LinkedTo s) t q → heightFrom H (roundAt s) t q ≤ height s q
+      bound t to v = ⊎-elim (λ k. height-is s z q .bound t k v) (λ e. absurd (n (subst (λ x. Path (LinkedTo s) x q) e v))) (cert-top t to)
 
-      met : (height s q ≡ 0) ⊎ ((t : ℕ) × Top (certifyAt s i) t × Path (E s) t q × (height s q ≡ gives H (roundAt s) t q))
+      met : (height s q ≡ 0) ⊎ ((t : ℕ) × Top (certifyAt s i) t × Path (LinkedTo s) t q × (height s q ≡ heightFrom H (roundAt s) t q))
       met = ⊎-elim inl (λ (t, to, v, e). inr (t, top-cert t (inl to), v, e)) (height-is s z q .met)
 
   -- "A second certificate changes nothing."
@@ -94,55 +94,55 @@ module _ (s : Store) (z : Sized s) (i : ℕ) (there : s .pt i .named ≡ true) w
 
 -- ---- a resolution
 
-module _ (s : Store) (z : Sized s) (i : ℕ) (told : Told) (late : resolved (s .pt i) ≡ false) where
+module _ (s : Store) (z : Sized s) (i : ℕ) (resolution : Resolution) (late : resolved (s .pt i) ≡ false) where
   abbrev s′ : Store
-  s′ = resolveAt s told i
+  s′ = resolveAt s resolution i
 
   pub res-off : (p : ℕ) → p ≢ i → s′ .pt p ≡ s .pt p
-  unfolding resolveAt settled withPoints resolvedAs
+  unfolding resolveAt withPathHeights withPoints resolvedAs
   res-off p n = rw (ne-eqb p i n) refl
 
   res-sized : Sized s′
-  unfolding resolveAt settled withPoints resolvedAs
+  unfolding resolveAt withPathHeights withPoints resolvedAs
   res-sized = z
 
   res-round : (p : ℕ) → roundAt s′ p ≡ roundAt s p
-  unfolding resolveAt settled withPoints resolvedAs
+  unfolding resolveAt withPathHeights withPoints resolvedAs
   res-round p = refl
 
   pub res-target : (x : Point) (q : ℕ) → linksTo x (s′ .pt q) ≡ linksTo x (s .pt q)
-  unfolding linksTo resolveAt settled withPoints resolvedAs
+  unfolding linksTo resolveAt withPathHeights withPoints resolvedAs
   res-target x q = refl
 
   -- only links of i are new
-  pub res-link : (p q : ℕ) → E s′ p q → E s p q ⊎ (p ≡ i)
+  pub res-link : (p q : ℕ) → LinkedTo s′ p q → LinkedTo s p q ⊎ (p ≡ i)
   res-link p q e = go (ℕ-discrete p i)
     where
-      go : Dec (p ≡ i) → E s p q ⊎ (p ≡ i)
+      go : Dec (p ≡ i) → LinkedTo s p q ⊎ (p ≡ i)
       go (yes m) = inr m
       go (no m) = inl (sym (res-target (s .pt p) q) ∙ subst (λ x. linksTo x (s′ .pt q) ≡ true) (res-off p m) e)
 
-  pub link-res : (p q : ℕ) → E s p q → E s′ p q
+  pub link-res : (p q : ℕ) → LinkedTo s p q → LinkedTo s′ p q
   link-res p q e = subst (λ x. linksTo x (s′ .pt q) ≡ true) (sym (res-off p n)) (res-target (s .pt p) q ∙ e)
     where
       n : p ≢ i
       n m = clash (linked _ _ e .resolved-is) (subst (λ x. resolved (s .pt x) ≡ false) (sym m) late)
 
   -- a path after the resolution is one from before, or goes through i
-  through : (t q : ℕ) → Path (E s′) t q → Path (E s) t q ⊎ (Path (E s) t i × Path (E s′) i q)
+  through : (t q : ℕ) → Path (LinkedTo s′) t q → Path (LinkedTo s) t q ⊎ (Path (LinkedTo s) t i × Path (LinkedTo s′) i q)
   through t q here = inl here
   through t q (step {q = x} e w) = go (res-link t x e) (through x q w)
     where
-      go : E s t x ⊎ (t ≡ i) → Path (E s) x q ⊎ (Path (E s) x i × Path (E s′) i q) → Path (E s) t q ⊎ (Path (E s) t i × Path (E s′) i q)
-      go (inr m) r = inr (subst (Path (E s) t) m here, subst (λ y. Path (E s′) y q) m (step e w))
+      go : LinkedTo s t x ⊎ (t ≡ i) → Path (LinkedTo s) x q ⊎ (Path (LinkedTo s) x i × Path (LinkedTo s′) i q) → Path (LinkedTo s) t q ⊎ (Path (LinkedTo s) t i × Path (LinkedTo s′) i q)
+      go (inr m) r = inr (subst (Path (LinkedTo s) t) m here, subst (λ y. Path (LinkedTo s′) y q) m (step e w))
       go (inl k) (inl v) = inl (step k v)
       go (inl k) (inr (a, b)) = inr (step k a, b)
 
-  res-is : (p : ℕ) → IsHeight (E s′) (roundAt s) (Top s) (s .conf .historyRounds) p (height s′ p)
-  unfolding resolveAt settled withPoints resolvedAs
-  res-is p = height-is (resolveAt s told i) z p
+  res-is : (p : ℕ) → IsHeight (LinkedTo s′) (roundAt s) (Top s) (s .conf .historyRounds) p (height s′ p)
+  unfolding resolveAt withPathHeights withPoints resolvedAs
+  res-is p = height-is (resolveAt s resolution i) z p
 
-  res-low : (q : ℕ) → Path (E s′) i q → roundAt s q ≤ roundAt s i
+  res-low : (q : ℕ) → Path (LinkedTo s′) i q → roundAt s q ≤ roundAt s i
   res-low q w = subst (λ x. x ≤ roundAt s i) (res-round q) (subst (λ x. roundAt s′ q ≤ x) (res-round i) (path-down (down s′) w))
 
   -- what i hands on to q
@@ -150,22 +150,22 @@ module _ (s : Store) (z : Sized s) (i : ℕ) (told : Told) (late : resolved (s .
   share q = height s i - (roundAt s i - roundAt s q)
 
   -- what a path from i reaches gets the height of i less the rounds between, if that is more ..
-  pub resolve-on : (q : ℕ) → Path (E s′) i q → height s′ q ≡ max (height s q) (share q)
+  pub resolve-on : (q : ℕ) → Path (LinkedTo s′) i q → height s′ q ≡ max (height s q) (share q)
   resolve-on q w = height-unique (res-is q) (record { bound = bound; met = met (le-or-lt (share q) (height s q)) })
     where
-      bound : (t : ℕ) → Top s t → Path (E s′) t q → gives (s .conf .historyRounds) (roundAt s) t q ≤ max (height s q) (share q)
+      bound : (t : ℕ) → Top s t → Path (LinkedTo s′) t q → heightFrom (s .conf .historyRounds) (roundAt s) t q ≤ max (height s q) (share q)
       bound t to v = go (through t q v)
         where
-          go : Path (E s) t q ⊎ (Path (E s) t i × Path (E s′) i q) → gives (s .conf .historyRounds) (roundAt s) t q ≤ max (height s q) (share q)
+          go : Path (LinkedTo s) t q ⊎ (Path (LinkedTo s) t i × Path (LinkedTo s′) i q) → heightFrom (s .conf .historyRounds) (roundAt s) t q ≤ max (height s q) (share q)
           go (inl u) = le-max-l (height s q) (share q) (height-is s z q .bound t to u)
           go (inr (a, b)) = le-max-r (height s q) (share q) (fall (s .conf .historyRounds) (height s i) (roundAt s t) (roundAt s i) (roundAt s q) (res-low q w) (path-down (down s) a) (height-is s z i .bound t to a))
 
-      met : (share q ≤ height s q) ⊎ (height s q < share q) → (max (height s q) (share q) ≡ 0) ⊎ ((t : ℕ) × Top s t × Path (E s′) t q × (max (height s q) (share q) ≡ gives (s .conf .historyRounds) (roundAt s) t q))
+      met : (share q ≤ height s q) ⊎ (height s q < share q) → (max (height s q) (share q) ≡ 0) ⊎ ((t : ℕ) × Top s t × Path (LinkedTo s′) t q × (max (height s q) (share q) ≡ heightFrom (s .conf .historyRounds) (roundAt s) t q))
       met (inl l) = ⊎-elim (λ e. inl (max-l (height s q) (share q) l ∙ e)) (λ (t, to, v, e). inr (t, to, carry link-res v, max-l (height s q) (share q) l ∙ e)) (height-is s z q .met)
       met (inr l) = ⊎-elim (λ e. absurd (no-share (height s i) (roundAt s i - roundAt s q) (height s q) e l)) (λ (t, to, v, e). inr (t, to, append (carry link-res v) w, max-r (height s q) (share q) l ∙ exact (s .conf .historyRounds) (height s i) (roundAt s t) (roundAt s i) (roundAt s q) (res-low q w) (path-down (down s) v) e)) (height-is s z i .met)
 
   -- .. and no other point changes
-  pub resolve-off : (q : ℕ) → (Path (E s′) i q → ⊥) → height s′ q ≡ height s q
+  pub resolve-off : (q : ℕ) → (Path (LinkedTo s′) i q → ⊥) → height s′ q ≡ height s q
   resolve-off q n = height-unique (res-is q) (record {
     bound = λ t to v. ⊎-elim (λ u. height-is s z q .bound t to u) (λ (a, b). absurd (n b)) (through t q v);
     met = ⊎-elim inl (λ (t, to, v, e). inr (t, to, carry link-res v, e)) (height-is s z q .met);
@@ -186,13 +186,13 @@ module _ (s : Store) (b : ℕ) where
   pub drain-was : (q : ℕ) → drained s b .pt q .named ≡ true → (drained s b .pt q ≡ s .pt q) × (b ≤ roundAt s q)
   drain-was q h = ⊎-elim (λ l. (drain-stays q l, l)) (λ l. absurd (clash h (ap (λ (p : Point). p .named) (drain-gone q l)))) (le-or-lt b (roundAt s q))
 
-  pub drain-link : (p q : ℕ) → E (drained s b) p q → E s p q
+  pub drain-link : (p q : ℕ) → LinkedTo (drained s b) p q → LinkedTo s p q
   drain-link p q e = subst (λ x. linksTo x (s .pt q) ≡ true) (drain-was p (source-named (drained s b) p q e) .0) (subst (λ x. linksTo (drained s b .pt p) x ≡ true) (drain-was q (linked _ _ e .named-is) .0) e)
 
-  pub link-drain : (p q : ℕ) → b ≤ roundAt s q → E s p q → E (drained s b) p q
+  pub link-drain : (p q : ℕ) → b ≤ roundAt s q → LinkedTo s p q → LinkedTo (drained s b) p q
   link-drain p q l e = subst (λ x. linksTo x (drained s b .pt q) ≡ true) (sym (drain-stays p (omega (arith, down s p q e)))) (subst (λ x. linksTo (s .pt p) x ≡ true) (sym (drain-stays q l)) e)
 
-  path-drain : (p q : ℕ) → b ≤ roundAt s q → Path (E s) p q → Path (E (drained s b)) p q
+  path-drain : (p q : ℕ) → b ≤ roundAt s q → Path (LinkedTo s) p q → Path (LinkedTo (drained s b)) p q
   path-drain p q l here = here
   path-drain p q l (step {q = x} e w) = step {q = x} (link-drain p x (omega (arith, path-down (down s) w)) e) (path-drain x q l w)
 
@@ -210,7 +210,7 @@ module _ (s : Store) (b : ℕ) where
   unfolding drained
   drain-sized z q l = byTest (ltb (roundAt s q) b) (λ t. rw t refl) (λ f. rw f (z q l))
 
-  drain-is : Sized s → (p : ℕ) → IsHeight (E (drained s b)) (roundAt (drained s b)) (Top (drained s b)) (s .conf .historyRounds) p (height (drained s b) p)
+  drain-is : Sized s → (p : ℕ) → IsHeight (LinkedTo (drained s b)) (roundAt (drained s b)) (Top (drained s b)) (s .conf .historyRounds) p (height (drained s b) p)
   unfolding drained
   drain-is z p = height-is (drained s b) (drain-sized z) p
 
@@ -221,29 +221,29 @@ module _ (s : Store) (b : ℕ) where
     met = ⊎-elim inl (λ (t, to, v, e). let k = at t v in inr (t, top-drain t k to, path-drain t p l v, e ∙ sym (same t (ap (λ (x : Point). x .id .round) (drain-stays t k))))) (height-is s z p .met);
   })
     where
-      same : (t : ℕ) → roundAt (drained s b) t ≡ roundAt s t → gives (s .conf .historyRounds) (roundAt (drained s b)) t p ≡ gives (s .conf .historyRounds) (roundAt s) t p
+      same : (t : ℕ) → roundAt (drained s b) t ≡ roundAt s t → heightFrom (s .conf .historyRounds) (roundAt (drained s b)) t p ≡ heightFrom (s .conf .historyRounds) (roundAt s) t p
       same t e = rw (e, ap (λ (x : Point). x .id .round) (drain-stays p l)) refl
 
-      at : (t : ℕ) → Path (E s) t p → b ≤ roundAt s t
+      at : (t : ℕ) → Path (LinkedTo s) t p → b ≤ roundAt s t
       at t v = omega (arith, path-down (down s) v)
 
 -- ---- commit marks
 
-mark-is : (s : Store) → Sized s → (e : Enqueued) (p : ℕ) → IsHeight (E s) (roundAt s) (Top s) (s .conf .historyRounds) p (height (committedAt s e) p)
-unfolding committedAt setCommitted linksTo resolved
-mark-is s z e p = height-is (committedAt s e) z p
+mark-is : (s : Store) → Sized s → (e : EnqueuedAnchor) (p : ℕ) → IsHeight (LinkedTo s) (roundAt s) (Top s) (s .conf .historyRounds) p (height (dequeued s e) p)
+unfolding dequeued setCommitted linksTo resolved
+mark-is s z e p = height-is (dequeued s e) z p
 
 -- "commit marks change no height"
-pub mark-height : (s : Store) → Sized s → (e : Enqueued) (p : ℕ) → height (committedAt s e) p ≡ height s p
+pub mark-height : (s : Store) → Sized s → (e : EnqueuedAnchor) (p : ℕ) → height (dequeued s e) p ≡ height s p
 mark-height s z e p = height-unique (mark-is s z e p) (height-is s z p)
 
 -- ---- what a change of points stores
 
 -- a certificate and a resolution store the heights of their paths
-settle-is : (s : Store) → Sized s → (p : ℕ) → IsHeight (E s) (roundAt s) (Top s) (s .conf .historyRounds) p (height (settled s) p)
-unfolding settled withPoints
-settle-is s z p = height-is (settled s) z p
+settle-is : (s : Store) → Sized s → (p : ℕ) → IsHeight (LinkedTo s) (roundAt s) (Top s) (s .conf .historyRounds) p (height (withPathHeights s) p)
+unfolding withPathHeights withPoints
+settle-is s z p = height-is (withPathHeights s) z p
 
-pub settled-height : (s : Store) → Sized s → (p : ℕ) → settled s .heights p ≡ height (settled s) p
-unfolding settled withPoints
+pub settled-height : (s : Store) → Sized s → (p : ℕ) → withPathHeights s .heights p ≡ height (withPathHeights s) p
+unfolding withPathHeights withPoints
 settled-height s z p = height-unique (height-is s z p) (settle-is s z p)

@@ -8,12 +8,12 @@ use lib.Dec.{eqb}
 use lib.ListN.{getD, replicate}
 use Rattle.laws.specs.Lists
 use Rattle.spec.specs.Ids.{Id, Ref}
-use Rattle.spec.specs.Store.{Told, Conf, Store, word, withProgress, withMemory}
+use Rattle.spec.specs.Store.{Resolution, Conf, Store, word, withProgress, withMemory}
 use Rattle.spec.specs.Chain.{orZero}
 use Rattle.spec.specs.Inspect.{weight}
-use Rattle.spec.specs.Calls.{Answer, Outcome, Beginning, Call, start, resetAll, round, name, resolve, certify, ask, commit, outlook, remove, drop as dropTo, call, startOk, conflictRound, done, said, handed, refused}
+use Rattle.spec.specs.Calls.{Answer, Outcome, StartArgs, Call, start, resetAll, round, name, resolve, certify, gapQuestion, commit, outlook, remove, drop as dropTo, call, startOk, conflictRound, done, flag, anchors, refused}
 use Rattle.spec.specs.Demand.{after}
-use Rattle.spec.specs.Play.{Row, conf, blank, from, id, ref, rounds, computed, numbers, same, agree}
+use Rattle.spec.specs.Scenarios.{Row, conf, blank, from, id, ref, rounds, computed, numbers, same, agree}
 
 -- ---- short ways to write
 
@@ -23,14 +23,14 @@ answer n cs c = numbers (call (after (blank n) cs) c .answer)
 
 -- a row
 abbrev row : ℕ → List ℕ → List ℕ → Row
-row n x y = record { case = n; given = x; said = y }
+row n x y = record { case = n; given = x; expected = y }
 
 -- refused with n, no anchor finished
 abbrev stop : ℕ → List ℕ
 stop n = 4 ∷ n ∷ 0 ∷ []
 
 -- a resolution with this status and these links
-abbrev gave : ℕ → List Ref → List Ref → Told
+abbrev gave : ℕ → List Ref → List Ref → Resolution
 gave s is ws = record { status = s; proof = false; trigger = false; cause = true; topProof = id 10 0 0; evidence = 0; includes = is; witness = ws }
 
 -- a start at 10, used by 0, rounds to 12
@@ -39,7 +39,7 @@ twelve = from 2 10 false (some 0) ∷ round 11 3 ∷ round 12 3 ∷ []
 
 -- ---- start, reset, rounds, names
 
-abbrev begin : Conf → ℕ → Option ℕ → Beginning
+abbrev begin : Conf → ℕ → Option ℕ → StartArgs
 begin c b used = record { conf = c; bottom = b; peers = 3; afterGap = false; used = used }
 
 abbrev confOf : ℕ → ℕ → ℕ → Conf
@@ -80,9 +80,9 @@ starts =
     ∷ row 24 (after (blank 2) (twelve ++ (round 12 1 ∷ [])) .top ∷ []) (12 ∷ [])
     ∷ row 25 (answer 2 (from 2 4000000000 false none ∷ []) (round 4000000001 3)) (stop 3)
     -- the gap question is answered yes once
-    ∷ row 26 (answer 2 twelve ask) (2 ∷ [])
-    ∷ row 27 (answer 2 (from 2 10 true none ∷ []) ask) (1 ∷ [])
-    ∷ row 28 (answer 2 (from 2 10 true none ∷ ask ∷ []) ask) (2 ∷ [])
+    ∷ row 26 (answer 2 twelve gapQuestion) (2 ∷ [])
+    ∷ row 27 (answer 2 (from 2 10 true none ∷ []) gapQuestion) (1 ∷ [])
+    ∷ row 28 (answer 2 (from 2 10 true none ∷ gapQuestion ∷ []) gapQuestion) (2 ∷ [])
     -- drop: the new bottom, the full-history bottom, the last round left
     ∷ row 29 (answer 2 twelve (dropTo 13)) (2 ∷ [])
     ∷ row 30 (after (blank 2) (twelve ++ (dropTo 13 ∷ [])) .bottom ∷ []) (12 ∷ [])
@@ -102,8 +102,8 @@ abbrev fourth : List Call
 fourth = twelve ++ (name (id 11 0 1) ∷ name (id 11 0 2) ∷ name (id 11 0 3) ∷ name (id 11 0 4) ∷ [])
 
 -- the point 12.1 resolved with this
-abbrev told : Told → List ℕ
-told t = answer 4 named (resolve (id 12 1 121) t)
+abbrev resolution : Resolution → List ℕ
+resolution t = answer 4 named (resolve (id 12 1 121) t)
 
 abbrev points : List Row
 points =
@@ -125,20 +125,20 @@ points =
     ∷ row 15 (answer 4 named (certify (id 12 1 121))) (0 ∷ [])
     ∷ row 16 (answer 4 (named ++ (resolve (id 12 1 121) (gave 5 [] []) ∷ [])) (resolve (id 12 1 121) (gave 9 [] []))) (stop 10)
     -- 11
-    ∷ row 17 (told (gave 0 [] [])) (stop 11)
-    ∷ row 18 (told (gave 6 [] [])) (stop 11)
-    ∷ row 19 (told (gave 1 (ref 1 5 ∷ ref 0 110 ∷ []) [])) (stop 11)
-    ∷ row 20 (told (gave 1 (ref 0 110 ∷ ref 0 110 ∷ []) [])) (stop 11)
-    ∷ row 21 (told (gave 1 (ref 0 110 ∷ ref 32 5 ∷ []) [])) (stop 11)
-    ∷ row 22 (told (gave 4 (ref 0 110 ∷ []) [])) (stop 11)
-    ∷ row 23 (told (gave 3 (ref 0 110 ∷ []) [])) (0 ∷ [])
-    ∷ row 24 (told (record { status = 5; proof = true; trigger = true; cause = true; topProof = id 10 31 0; evidence = 0; includes = []; witness = [] })) (0 ∷ [])
-    ∷ row 25 (told (record { status = 5; proof = true; trigger = true; cause = true; topProof = id 10 32 0; evidence = 0; includes = []; witness = [] })) (stop 11)
-    ∷ row 26 (told (record { status = 5; proof = false; trigger = false; cause = false; topProof = id 10 0 0; evidence = 1; includes = []; witness = [] })) (stop 11)
+    ∷ row 17 (resolution (gave 0 [] [])) (stop 11)
+    ∷ row 18 (resolution (gave 6 [] [])) (stop 11)
+    ∷ row 19 (resolution (gave 1 (ref 1 5 ∷ ref 0 110 ∷ []) [])) (stop 11)
+    ∷ row 20 (resolution (gave 1 (ref 0 110 ∷ ref 0 110 ∷ []) [])) (stop 11)
+    ∷ row 21 (resolution (gave 1 (ref 0 110 ∷ ref 32 5 ∷ []) [])) (stop 11)
+    ∷ row 22 (resolution (gave 4 (ref 0 110 ∷ []) [])) (stop 11)
+    ∷ row 23 (resolution (gave 3 (ref 0 110 ∷ []) [])) (0 ∷ [])
+    ∷ row 24 (resolution (record { status = 5; proof = true; trigger = true; cause = true; topProof = id 10 31 0; evidence = 0; includes = []; witness = [] })) (0 ∷ [])
+    ∷ row 25 (resolution (record { status = 5; proof = true; trigger = true; cause = true; topProof = id 10 32 0; evidence = 0; includes = []; witness = [] })) (stop 11)
+    ∷ row 26 (resolution (record { status = 5; proof = false; trigger = false; cause = false; topProof = id 10 0 0; evidence = 1; includes = []; witness = [] })) (stop 11)
     -- 12, after 11; no test below the bottom
-    ∷ row 27 (told (gave 1 (ref 1 5 ∷ []) [])) (stop 12)
-    ∷ row 28 (told (gave 1 (ref 0 110 ∷ []) (ref 1 5 ∷ []))) (stop 12)
-    ∷ row 29 (told (gave 6 (ref 1 5 ∷ []) [])) (stop 11)
+    ∷ row 27 (resolution (gave 1 (ref 1 5 ∷ []) [])) (stop 12)
+    ∷ row 28 (resolution (gave 1 (ref 0 110 ∷ []) (ref 1 5 ∷ []))) (stop 12)
+    ∷ row 29 (resolution (gave 6 (ref 1 5 ∷ []) [])) (stop 11)
     ∷ row 30 (answer 4 named (resolve (id 11 0 110) (gave 1 [] (ref 1 5 ∷ [])))) (0 ∷ [])
     ∷ row 31 (answer 4 (start (begin (confOf 0 2 5) 0 none) ∷ round 1 3 ∷ name (id 1 0 1) ∷ []) (resolve (id 1 0 1) (gave 1 [] (ref 0 5 ∷ [])))) (stop 11)
     ∷ row 32 (answer 4 (start (begin (confOf 0 2 5) 0 none) ∷ name (id 0 0 1) ∷ []) (resolve (id 0 0 1) (gave 1 (ref 0 5 ∷ []) []))) (stop 11)
@@ -151,15 +151,15 @@ pointed = refl
 -- ---- commits: two anchors 13 and 15 by peer 0, proofs 14 and 16, trigger 17; 15 includes the point of 14 by peer 1
 
 -- a point with these marks, top proof and includes
-abbrev point : ℕ → Bool → Bool → Id → List Ref → Told
+abbrev point : ℕ → Bool → Bool → Id → List Ref → Resolution
 point s p t top is = record { status = s; proof = p; trigger = t; cause = true; topProof = top; evidence = 0; includes = is; witness = [] }
 
 -- named and resolved
-abbrev both : Id → Told → List Call
+abbrev both : Id → Resolution → List Call
 both i t = name i ∷ resolve i t ∷ []
 
 -- the point of 14 by peer 1 is resolved as told; the trigger too
-abbrev two : Bool → Option ℕ → List Call → Told → List Call
+abbrev two : Bool → Option ℕ → List Call → Resolution → List Call
 two gap used side trigger =
     (from 2 10 gap used ∷ rounds 11 7)
     ++ (both (id 13 0 130) (point 1 false false (id 10 0 0) [])
@@ -169,7 +169,7 @@ two gap used side trigger =
     ++ (both (id 16 0 160) (point 1 true false (id 14 0 140) (ref 0 150 ∷ []))
     ++ both (id 17 0 170) trigger)))))
 
-abbrev firing : Told
+abbrev firing : Resolution
 firing = point 1 false true (id 16 0 160) (ref 0 160 ∷ [])
 
 abbrev side : ℕ → List Call
@@ -221,10 +221,10 @@ committed = refl
 
 -- a history conflict comes with its point's round
 abbrev roundOf : Answer → ℕ
-roundOf a = elim a [ done ↦ 0 | said b ↦ 0 | handed n ↦ 0 | refused r n ↦ orZero (conflictRound r) ]
+roundOf a = elim a [ done ↦ 0 | flag b ↦ 0 | anchors n ↦ 0 | refused r n ↦ orZero (conflictRound r) ]
 
 -- with the trigger told so, not certified; and certified
-abbrev told17 : Told → List Call → List ℕ
+abbrev told17 : Resolution → List Call → List ℕ
 told17 t cs = numbers (fire (after (blank 6) (two false (some 0) (side 1) t ++ (certs ++ cs))) 400 .answer)
 
 abbrev trigger : ℕ → List ℕ
@@ -247,7 +247,7 @@ triggers =
     ∷ row 4 (roundOf (fire (onTwo 3) 400 .answer) ∷ []) (14 ∷ [])
     -- 20, before 21; after the question the first executable anchor has no previous one and uses the flag up
     ∷ row 5 (ended (fire (after (blank 6) (two true (some 0) (side 1) firing ++ certs)) 0)) (4 ∷ 20 ∷ 0 ∷ 0 ∷ 0 ∷ [])
-    ∷ row 6 (bytes (fire (after (blank 6) (two true (some 0) (side 1) firing ++ (ask ∷ certs))) 314) (74 ∷ 194 ∷ 198 ∷ [])) (0 ∷ 1 ∷ 0 ∷ [])
+    ∷ row 6 (bytes (fire (after (blank 6) (two true (some 0) (side 1) firing ++ (gapQuestion ∷ certs))) 314) (74 ∷ 194 ∷ 198 ∷ [])) (0 ∷ 1 ∷ 0 ∷ [])
     -- the trigger: 15, 13, no anchors where `filter` turns it away
     ∷ row 7 (trigger 1) (3 ∷ 2 ∷ [])
     ∷ row 8 (trigger 2) (4 ∷ 15 ∷ 0 ∷ [])
@@ -393,13 +393,13 @@ removed = refl
 -- ---- events
 
 -- a proof of the point of 12 by 0 that peer 1 signed
-abbrev signed : Told
+abbrev signed : Resolution
 signed = record { status = 1; proof = false; trigger = false; cause = false; topProof = id 10 0 0; evidence = 2; includes = ref 0 120 ∷ []; witness = [] }
 
 -- peer 1 signed the point of 12 by 0 (evidence in 13.0.130), did not include it at 13, and may witness it at 14; it made a second,
 -- ill-formed point at 14
-abbrev owing : List Ref → List Call → List Call
-owing ws more =
+abbrev unreferencedBy : List Ref → List Call → List Call
+unreferencedBy ws more =
     (from 2 10 false (some 0) ∷ rounds 11 5)
     ++ (both (id 12 0 120) (gave 1 [] [])
     ++ (both (id 13 0 130) signed
@@ -407,10 +407,10 @@ owing ws more =
     ++ (both (id 14 1 141) (gave 1 [] ws) ++ (both (id 14 1 142) (gave 4 [] []) ++ more)))))
 
 abbrev blaming : List Ref → List Call → Option ℕ → ℕ → Outcome
-blaming ws more since n = wipe (withLast (after (blank 6) (owing ws more)) 17) 17 since n
+blaming ws more since n = wipe (withLast (after (blank 6) (unreferencedBy ws more)) 17) 17 since n
 
-abbrev blames : List Row
-blames =
+abbrev notReferenced : List Row
+notReferenced =
     -- no counters: kind 3 with 14.1.142, kind 4 with two digests, kind 5 with blamed 13.1.131 and 14.1.141, proof 13.0.130
     row 1 (bytes (blaming [] [] none 300) (0 ∷ 4 ∷ 5 ∷ 9 ∷ 10 ∷ 42 ∷ 43 ∷ 44 ∷ 48 ∷ 52 ∷ 84 ∷ 116 ∷ 117 ∷ 118 ∷ 122 ∷ 126 ∷ 127 ∷ 159 ∷ 163 ∷ 196 ∷ 200 ∷ 204 ∷ 205 ∷ 237 ∷ 238 ∷ []))
     (0 ∷ 3 ∷ 3 ∷ 14 ∷ 1 ∷ 142 ∷ 4 ∷ 1 ∷ 14 ∷ 2 ∷ 141 ∷ 142 ∷ 5 ∷ 1 ∷ 2 ∷ 13 ∷ 1 ∷ 131 ∷ 14 ∷ 141 ∷ 1 ∷ 13 ∷ 0 ∷ 130 ∷ 99 ∷ [])
@@ -422,7 +422,7 @@ blames =
     ∷ row 3 (blaming [] [] none 300 .store .memory .last ∷ []) (14 ∷ [])
     ∷ []
 
-blamed : agree blames ≡ true
+blamed : agree notReferenced ≡ true
 unfolding computed numbers same agree Lists.all
 blamed = refl
 

@@ -12,8 +12,8 @@ use Rattle.laws.specs.Sort.{sort}
 use Rattle.laws.specs.Bytes.{be, written}
 use Rattle.spec.specs.Ids.{Id, idBytes, rises, falls, prev}
 use Rattle.spec.specs.Store.{Point, Store, Conf, Round, idAt, roundAt, linksTo}
-use Rattle.spec.specs.Paths.{E, height}
-use Rattle.spec.specs.Chain.{Refusal, Out, bad, good, then, refuse, judged, usableInHistory, Enqueued}
+use Rattle.spec.specs.Paths.{LinkedTo, height}
+use Rattle.spec.specs.Chain.{Refusal, Out, bad, good, then, refuse, checked, isCommittable, EnqueuedAnchor}
 
 -- 01, back.rs: "limit = the larger of genesis + 1 and anchor − H"
 unfoldable pub limit : Conf → ℕ → ℕ
@@ -27,7 +27,7 @@ lowest s a = max (limit (s .conf) (roundAt s a)) (s .bottom)
 -- points so linked, committed ones too."
 pub data Need (s : Store) (a : ℕ) : ℕ → Type 0 where
   anchor : Need s a a
-  hand : (p q : ℕ) → Need s a p → s .pt p .flags .committed ≡ false → E s p q → Need s a q
+  hand : (p q : ℕ) → Need s a p → s .pt p .flags .committed ≡ false → LinkedTo s p q → Need s a q
 
 -- the same as a sweep downwards, round by round: the marked points of round r that aren't committed hand on their links
 unfoldable pub hands : Store → (ℕ → Bool) → ℕ → ℕ → ℕ → Bool
@@ -61,7 +61,7 @@ history s a = sort rises (map (idAt s) (those (s .places) (inHistory s a)))
 -- 13 to 15 "over its history downwards .. inside one round, points are tested by rising digest"
 unfoldable pub firstFault : Store → List ℕ → Out ℕ
 firstFault s [] = good 0
-firstFault s (q ∷ qs) = then (judged s usableInHistory q) (λ x. firstFault s qs)
+firstFault s (q ∷ qs) = then (checked s isCommittable q) (λ x. firstFault s qs)
 
 unfoldable pub faults : Store → ℕ → Out ℕ
 faults s a = firstFault s (sort (λ p q. falls (idAt s p) (idAt s q)) (those (s .places) (needed s a)))
@@ -71,24 +71,24 @@ unfoldable pub roundsMissing : Store → ℕ → Bool
 roundsMissing s a = leb (s .progress .fullBottom) (limit (s .conf) (roundAt s a)) && ltb (limit (s .conf) (roundAt s a)) (s .bottom)
 
 -- 18: "history point of height 0"
-unfoldable pub isFlat : Store → ℕ → Bool
-isFlat s a = any (s .places) (λ q. inHistory s a q && eqb (height s q) 0)
+unfoldable pub anyUncertified : Store → ℕ → Bool
+anyUncertified s a = any (s .places) (λ q. inHistory s a q && eqb (height s q) 0)
 
 -- 22: "anchor at genesis"; 13 to 15; 17; 18: what commit and outlook both test
 unfoldable pub tested : Store → ℕ → Out ℕ
 tested s a =
     refuse (leb (roundAt s a) (s .conf .genesis)) 22 (
-    then (faults s a) (λ x. refuse (roundsMissing s a) 17 (refuse (isFlat s a) 18 (good a)))
+    then (faults s a) (λ x. refuse (roundsMissing s a) 17 (refuse (anyUncertified s a) 18 (good a)))
     )
 
 -- 20: "gap question not put"
-unfoldable pub isWaiting : Option Bool → Bool
-isWaiting none = false
-isWaiting (some asked) = not asked
+unfoldable pub gapPending : Option Bool → Bool
+gapPending none = false
+gapPending (some asked) = not asked
 
 -- all tests of one anchor of a commit that has this many bytes of its buffer left, for a record of this length
 unfoldable pub testAnchor : Store → ℕ → ℕ → ℕ → Out ℕ
-testAnchor s left size a = then (tested s a) (λ x. refuse (isWaiting (s .progress .gap)) 20 (refuse (ltb left size) 21 (good a)))
+testAnchor s left size a = then (tested s a) (λ x. refuse (gapPending (s .progress .gap)) 20 (refuse (ltb left size) 21 (good a)))
 
 -- ---- the anchor record
 
@@ -96,19 +96,19 @@ unfoldable pub isExecutable : Store → ℕ → Bool
 isExecutable s a = leb (s .progress .firstExecutable) (roundAt s a)
 
 -- `is_first_executable`: the first executable anchor after a gap, once the gap question was put
-unfoldable pub isAsked : Option Bool → Bool
-isAsked none = false
-isAsked (some asked) = asked
+unfoldable pub gapAsked : Option Bool → Bool
+gapAsked none = false
+gapAsked (some asked) = asked
 
-unfoldable pub isFirst : Store → ℕ → Bool
-isFirst s a = isAsked (s .progress .gap) && isExecutable s a
+unfoldable pub isFirstExecutable : Store → ℕ → Bool
+isFirstExecutable s a = gapAsked (s .progress .gap) && isExecutable s a
 
 -- "previous anchor round (4; 0 for none)": the round below the previous proof's, above genesis, and none for the first executable one
-unfoldable pub prevAnchor : Store → Enqueued → ℕ
-prevAnchor s e = cond (ltb (s .conf .genesis) (prev (e .prevProofRound)) && not (isFirst s (e .anchor))) (prev (e .prevProofRound)) 0
+unfoldable pub prevAnchor : Store → EnqueuedAnchor → ℕ
+prevAnchor s e = cond (ltb (s .conf .genesis) (prev (e .prevProofRound)) && not (isFirstExecutable s (e .anchor))) (prev (e .prevProofRound)) 0
 
 -- "Anchor record: anchor id, proof id, executable (1 byte), previous anchor round (4; 0 for none), number of points (4), their ids."
-unfoldable pub recordBytes : Store → Enqueued → List ℕ
+unfoldable pub recordBytes : Store → EnqueuedAnchor → List ℕ
 recordBytes s e =
     idBytes (idAt s (e .anchor)) ++ (idBytes (idAt s (e .proof)) ++ (be 1 (cond (isExecutable s (e .anchor)) 1 0) ++ (be 4 (prevAnchor s e)
     ++ (be 4 (length (history s (e .anchor))) ++ joined idBytes (history s (e .anchor))))))
@@ -119,13 +119,13 @@ unfoldable pub setCommitted : Bool → Point → Point
 setCommitted b p = record {
   named = p .named;
   id = p .id;
-  told = p .told;
+  resolution = p .resolution;
   flags = record { top = p .flags .top; started = p .flags .started; completed = p .flags .completed; committed = b || p .flags .committed };
 }
 
 -- the gap flag is used up by the first executable anchor
 unfoldable pub gapAfter : Store → ℕ → Option Bool
-gapAfter s a = cond (isFirst s a) none (s .progress .gap)
+gapAfter s a = cond (isFirstExecutable s a) none (s .progress .gap)
 
 -- the proof's round gets its used mark
 unfoldable pub useProof : Round → ℕ → Round
@@ -133,8 +133,8 @@ useProof r a = record { peers = r .peers; used = some a }
 
 -- "Each finished anchor's proof becomes the last committed one": the history is marked, the proof's round used by the anchor's author,
 -- proof and anchor become the last ones
-unfoldable pub committedAt : Store → Enqueued → Store
-committedAt s e = record {
+unfoldable pub dequeued : Store → EnqueuedAnchor → Store
+dequeued s e = record {
   phase = s .phase;
   places = s .places;
   pt = λ q. setCommitted (inHistory s (e .anchor) q) (s .pt q);
@@ -161,13 +161,13 @@ pub record Finished : Type 0 where
   pub stopped : Option Refusal
 
 -- "Then each anchor, oldest first, is tested .. Finished anchors keep their records and marks." at: the next free byte
-unfoldable pub commitAll : Store → List ℕ → ℕ → ℕ → List Enqueued → Finished
+unfoldable pub commitAll : Store → List ℕ → ℕ → ℕ → List EnqueuedAnchor → Finished
 commitAll s b at n [] = record { store = s; buffer = b; anchors = n; stopped = none }
 commitAll s b at n (e ∷ es) =
     let bytes = recordBytes s e in
     elim (testAnchor s (length b - at) (length bytes) (e .anchor)) [
       | bad r ↦ record { store = s; buffer = b; anchors = n; stopped = some r }
-      | good a ↦ commitAll (committedAt s e) (written b at bytes) (at + length bytes) (suc n) es
+      | good a ↦ commitAll (dequeued s e) (written b at bytes) (at + length bytes) (suc n) es
     ]
 
 -- ---- the outlook
@@ -177,7 +177,7 @@ unfoldable pub outlookBytes : Store → ℕ → List ℕ
 outlookBytes s a = idBytes (idAt s a) ++ be 4 (length (history s a))
 
 -- "It is refused as the commit would be, by 20 never, by 21 for its own buffer"; left: the bytes of it that are left
-unfoldable pub outlookAll : Store → ℕ → List Enqueued → Out (List ℕ)
+unfoldable pub outlookAll : Store → ℕ → List EnqueuedAnchor → Out (List ℕ)
 outlookAll s left [] = good []
 outlookAll s left (e ∷ es) =
     let bytes = outlookBytes s (e .anchor) in

@@ -36,11 +36,11 @@ isProved s q = resolved (s .pt q) && proved s q
 
 -- kind 1: trans-invalid, not proved, its cause has a DAG round
 unfoldable pub isTransInvalid : Store → ℕ → Bool
-isTransInvalid s q = eqb (statusAt s q) 2 && (not (proved s q) && s .pt q .told .cause)
+isTransInvalid s q = eqb (statusAt s q) 2 && (not (proved s q) && s .pt q .resolution .cause)
 
 -- kind 2: invalid, not certified, its cause has a DAG round
 unfoldable pub isInvalid : Store → ℕ → Bool
-isInvalid s q = eqb (statusAt s q) 3 && (not (certified s q) && s .pt q .told .cause)
+isInvalid s q = eqb (statusAt s q) 3 && (not (certified s q) && s .pt q .resolution .cause)
 
 -- kind 3: ill-formed, not certified
 unfoldable pub isIllFormed : Store → ℕ → Bool
@@ -58,15 +58,15 @@ refersTo d rs = has (λ r. eqb (r .digest) d) rs
 
 -- a trusted point of a at round r includes, or witnesses, the digest d
 unfoldable pub includedBy : Store → ℕ → ℕ → ℕ → Bool
-includedBy s r a d = has (λ q. of (isTrusted s) s a q && refersTo d (s .pt q .told .includes)) (placesIn s r)
+includedBy s r a d = has (λ q. of (isTrusted s) s a q && refersTo d (s .pt q .resolution .includes)) (placesIn s r)
 
 unfoldable pub witnessedBy : Store → ℕ → ℕ → ℕ → Bool
-witnessedBy s r a d = has (λ q. of (isTrusted s) s a q && refersTo d (s .pt q .told .witness)) (placesIn s r)
+witnessedBy s r a d = has (λ q. of (isTrusted s) s a q && refersTo d (s .pt q .resolution .witness)) (placesIn s r)
 
 -- a signed the previous point (its digest, if there is one) and no trusted point of a at round r includes it
-unfoldable pub misses : Store → ℕ → Option ℕ → ℕ → Bool
-misses s r none a = false
-misses s r (some d) a = not (includedBy s r a d)
+unfoldable pub mustReference : Store → ℕ → Option ℕ → ℕ → Bool
+mustReference s r none a = false
+mustReference s r (some d) a = not (includedBy s r a d)
 
 -- "the inspector's memory of its last round": what it keeps of round r
 unfoldable pub entryOf : Store → ℕ → ℕ → Entry
@@ -74,11 +74,11 @@ entryOf s r q = record {
   author = idAt s q .author;
   digest = idAt s q .digest;
   previous = previous (s .pt q);
-  owing = λ a. member (s .pt q .told .evidence) a && misses s r (previous (s .pt q)) a;
+  unreferencedBy = λ a. member (s .pt q .resolution .evidence) a && mustReference s r (previous (s .pt q)) a;
 }
 
-unfoldable pub remember : Store → ℕ → Memory
-remember s r = record { last = r; entries = map (entryOf s r) (keep (isTrusted s) (placesIn s r)) }
+unfoldable pub roundData : Store → ℕ → Memory
+roundData s r = record { last = r; entries = map (entryOf s r) (keep (isTrusted s) (placesIn s r)) }
 
 -- an option holds x
 unfoldable pub holds : Option ℕ → ℕ → Bool
@@ -97,10 +97,10 @@ greatest f (e ∷ es) = cond (f e) (larger (e .digest) (greatest f es)) (greates
 -- the proof that is reported for the previous digest d that a owes: "If two proofs share a previous digest, the greater proof digest
 -- is reported."; none where a trusted point of a at round r witnesses d
 unfoldable pub due : List Entry → Store → ℕ → ℕ → ℕ → Option ℕ
-due es s r a d = cond (witnessedBy s r a d) none (greatest (λ e. e .owing a && holds (e .previous) d) es)
+due es s r a d = cond (witnessedBy s r a d) none (greatest (λ e. e .unreferencedBy a && holds (e .previous) d) es)
 
 unfoldable pub reported : List Entry → Store → ℕ → ℕ → Entry → Bool
-reported es s r a e = e .owing a && dueIs (e .previous)
+reported es s r a e = e .unreferencedBy a && dueIs (e .previous)
   where
     dueIs : Option ℕ → Bool
     dueIs none = false
@@ -122,8 +122,8 @@ isNil [] = true
 isNil (x ∷ xs) = false
 
 -- the memory is of the round below; a made points at both rounds and owes a reference
-unfoldable pub blames : Memory → Store → ℕ → ℕ → Bool
-blames m s r a =
+unfoldable pub notReferenced : Memory → Store → ℕ → ℕ → Bool
+notReferenced m s r a =
     eqb (m .last) (prev r) && (not (isNil (proofs (m .entries) s r a)) && (not (isNil (authoredThen (m .entries) a)) && not (isNil (authoredNow s r a))))
 
 -- ---- counters
@@ -153,7 +153,7 @@ counted m s r a = let ps = placesIn s r in record {
   transInvalid = count (of (isTransInvalid s) s a) ps;
   invalid = count (of (isInvalid s) s a) ps;
   illFormed = count (of (isIllFormed s) s a) ps;
-  referencesSkipped = cond (blames m s r a) (length (proofs (m .entries) s r a)) 0;
+  referencesSkipped = cond (notReferenced m s r a) (length (proofs (m .entries) s r a)) 0;
 }
 
 unfoldable pub add : Counters → Counters → Counters
@@ -182,7 +182,7 @@ merge (some t) r c = some (record { first = t .first; last = r; counters = add (
 -- ---- the drained rounds, rising
 
 -- a round and the memory that it meets
-pub record Seen : Type 0 where
+pub record InspectedRound : Type 0 where
   pub memory : Memory
   pub round : ℕ
 
@@ -198,24 +198,24 @@ lastNonExecutable s = max (prev (s .progress .firstExecutable)) (s .conf .genesi
 unfoldable pub inspected : Store → ℕ → List ℕ
 inspected s b = keep (leb (lastNonExecutable s)) (upFrom (s .bottom) (b - s .bottom))
 
-unfoldable pub seen : Store → Memory → List ℕ → List Seen
-seen s m [] = []
-seen s m (r ∷ rs) = record { memory = m; round = r } ∷ seen s (remember s r) rs
+unfoldable pub inspectedRounds : Store → Memory → List ℕ → List InspectedRound
+inspectedRounds s m [] = []
+inspectedRounds s m (r ∷ rs) = record { memory = m; round = r } ∷ inspectedRounds s (roundData s r) rs
 
 unfoldable pub memoryAfter : Store → Memory → List ℕ → Memory
 memoryAfter s m [] = m
-memoryAfter s m (r ∷ rs) = memoryAfter s (remember s r) rs
+memoryAfter s m (r ∷ rs) = memoryAfter s (roundData s r) rs
 
 -- the last non-executable round refills the memory and isn't reported
-unfoldable pub shown : Store → ℕ → List Seen
-shown s b = keep (λ v. ltb (lastNonExecutable s) (v .round)) (seen s (s .memory) (inspected s b))
+unfoldable pub shown : Store → ℕ → List InspectedRound
+shown s b = keep (λ v. ltb (lastNonExecutable s) (v .round)) (inspectedRounds s (s .memory) (inspected s b))
 
 -- `stats_since`: none suppresses all counters, a round those of the rounds before it
 unfoldable pub since : Option ℕ → ℕ → Bool
 since none r = false
 since (some from) r = leb from r
 
-unfoldable pub total : Store → ℕ → List Seen → Option Stats → Option Stats
+unfoldable pub total : Store → ℕ → List InspectedRound → Option Stats → Option Stats
 total s a [] t = t
 total s a (v ∷ vs) t = total s a vs (merge t (v .round) (counted (v .memory) s (v .round) a))
 
@@ -262,10 +262,10 @@ pub data Event : Type 0 where
 unfoldable pub onlyIf : Bool → Event → List Event
 onlyIf b e = cond b (e ∷ []) []
 
-unfoldable pub singles : ℕ → (Store → ℕ → Bool) → Store → Seen → ℕ → List Event
+unfoldable pub singles : ℕ → (Store → ℕ → Bool) → Store → InspectedRound → ℕ → List Event
 singles kind f s v a = map (λ q. single kind (idAt s q)) (keep (of (f s) s a) (placesIn s (v .round)))
 
-unfoldable pub equivocations : Store → Seen → ℕ → List Event
+unfoldable pub equivocations : Store → InspectedRound → ℕ → List Event
 equivocations s v a =
     let qs = keep (of (isFound s) s a) (placesIn s (v .round)) in
     onlyIf (ltb 1 (length qs)) (equivocation a (v .round) (map (λ q. idAt s q .digest) qs))
@@ -274,15 +274,15 @@ abbrev pub idsOf : ℕ → ℕ → List ℕ → List Id
 idsOf r a ds = map (λ d. record { round = r; author = a; digest = d }) ds
 
 -- "Blamed ids have the earlier round first"
-unfoldable pub noInclusions : Store → Seen → ℕ → List Event
+unfoldable pub noInclusions : Store → InspectedRound → ℕ → List Event
 noInclusions s v a =
     let m = v .memory in
-    onlyIf (blames m s (v .round) a)
+    onlyIf (notReferenced m s (v .round) a)
     (noInclusion a (idsOf (m .last) a (authoredThen (m .entries) a) ++ idsOf (v .round) a (authoredNow s (v .round) a))
     (map (λ e. record { round = m .last; author = e .author; digest = e .digest }) (proofs (m .entries) s (v .round) a)))
 
 -- round by round, and in a round peer by peer
-unfoldable pub over : (Seen → ℕ → List Event) → List Seen → List Event
+unfoldable pub over : (InspectedRound → ℕ → List Event) → List InspectedRound → List Event
 over f vs = joined (λ v. upTo 32 (f v)) vs
 
 -- "in the order of `take_events`, then by round, author (or signer) and digest"

@@ -18,13 +18,13 @@ use Rattle.laws.specs.Peers.{member}
 use Rattle.laws.specs.Bytes.{written}
 use Rattle.spec.specs.Ids.{Id, prev}
 use Rattle.spec.specs.Store.{Entry, Memory, Store, idAt, roundAt, withNumbers, withMemory}
-use Rattle.spec.specs.Inspect.{placesIn, of, isTrusted, entryOf, remember, holds, larger, greatest, witnessedBy, due, reported, Seen, upFrom, lastNonExecutable, inspected, seen, memoryAfter, shown, isFound, isTransInvalid, isInvalid, isIllFormed, proofs, authoredThen, authoredNow, isValid, isProved, blames, Counters, one, counted, add, Stats, merge, since, total, statsOf, idsOf, Event, single, equivocation, noInclusion, onlyIf, singles, equivocations, noInclusions, over, events, removeBytes}
+use Rattle.spec.specs.Inspect.{placesIn, of, isTrusted, entryOf, roundData, holds, larger, greatest, witnessedBy, due, reported, InspectedRound, upFrom, lastNonExecutable, inspected, inspectedRounds, memoryAfter, shown, isFound, isTransInvalid, isInvalid, isIllFormed, proofs, authoredThen, authoredNow, isValid, isProved, notReferenced, Counters, one, counted, add, Stats, merge, since, total, statsOf, idsOf, Event, single, equivocation, noInclusion, onlyIf, singles, equivocations, noInclusions, over, events, removeBytes}
 use Rattle.spec.specs.Chain.{Out, bad, good}
 use Rattle.spec.specs.Rules.{isPeer, version, versions}
 use Rattle.spec.specs.Calls.{Outcome, refused, done, newBottom, drained, removing, doRemove}
-use Rattle.spec.specs.Started.{Wf}
+use Rattle.spec.specs.WellFormed.{Wf}
 use Rattle.spec.specs.Order.{Before, strict}
-use Rattle.spec.specs.Kept.{new-bottom}
+use Rattle.spec.specs.Preservation.{new-bottom}
 
 -- ---- the rounds that a remove looks at
 
@@ -66,21 +66,21 @@ firstShown s = max (s .bottom) (suc (lastNonExecutable s))
 
 -- what round r meets: the bottom meets the store's memory, every other round what the round below it left
 unfoldable pub before : Store → ℕ → Memory
-before s r = cond (eqb r (s .bottom)) (s .memory) (remember s (prev r))
+before s r = cond (eqb r (s .bottom)) (s .memory) (roundData s (prev r))
 
 -- round r with the memory that it meets
-abbrev pub inspectedRound : Store → ℕ → Seen
+abbrev pub inspectedRound : Store → ℕ → InspectedRound
 inspectedRound s r = record { memory = before s r; round = r }
 
 -- the rounds above r, of which the first meets what r left
-seen-on : (s : Store) (r k : ℕ) → seen s (remember s r) (upFrom (suc r) k) ≡ map (λ x. record { memory = remember s (prev x); round = x }) (upFrom (suc r) k)
-unfolding seen upFrom
+seen-on : (s : Store) (r k : ℕ) → inspectedRounds s (roundData s r) (upFrom (suc r) k) ≡ map (λ x. record { memory = roundData s (prev x); round = x }) (upFrom (suc r) k)
+unfolding inspectedRounds upFrom
 seen-on s r zero = refl
 seen-on s r (suc k) = let e : suc r - 1 ≡ r = omega arith in rw (e, seen-on s (suc r) k) refl
 
 -- the rounds from r on, of which the first meets m
-seen-from : (s : Store) (m : Memory) (r k : ℕ) → seen s m (upFrom r k) ≡ map (λ x. record { memory = cond (eqb x r) m (remember s (prev x)); round = x }) (upFrom r k)
-unfolding seen upFrom
+seen-from : (s : Store) (m : Memory) (r k : ℕ) → inspectedRounds s m (upFrom r k) ≡ map (λ x. record { memory = cond (eqb x r) m (roundData s (prev x)); round = x }) (upFrom r k)
+unfolding inspectedRounds upFrom
 seen-from s m r zero = refl
 seen-from s m r (suc k) =
     ap₂ _∷_ (rw (eq-eqb r r refl) refl)
@@ -98,7 +98,7 @@ inspected-is s b = from-keep (lastNonExecutable s) (s .bottom) (b - s .bottom) �
 pub shown-is : (s : Store) (b : ℕ) → shown s b ≡ map (inspectedRound s) (upFrom (firstShown s) (b - firstShown s))
 unfolding shown before
 shown-is s b =
-    ap (λ l. keep reports (seen s (s .memory) l)) (inspected-is s b)
+    ap (λ l. keep reports (inspectedRounds s (s .memory) l)) (inspected-is s b)
     ∙ (ap (keep reports) (seen-from s (s .memory) low (b - low))
     ∙ (keep-map reports met (upFrom low (b - low))
     ∙ (ap (map met) (from-keep (suc (lastNonExecutable s)) low (b - low) ∙ ap₂ upFrom (first (s .bottom) (lastNonExecutable s)) (rest (s .bottom) (lastNonExecutable s) b))
@@ -107,11 +107,11 @@ shown-is s b =
     low : ℕ
     low = max (s .bottom) (lastNonExecutable s)
 
-    reports : Seen → Bool
+    reports : InspectedRound → Bool
     reports v = ltb (lastNonExecutable s) (v .round)
 
-    met : ℕ → Seen
-    met x = record { memory = cond (eqb x low) (s .memory) (remember s (prev x)); round = x }
+    met : ℕ → InspectedRound
+    met x = record { memory = cond (eqb x low) (s .memory) (roundData s (prev x)); round = x }
 
     first : (m l : ℕ) → max (max m l) (suc l) ≡ max m (suc l)
     first m l = omega arith
@@ -128,13 +128,13 @@ shown-is s b =
 -- ---- the memory that is left
 
 -- the last of the rounds fills it
-after-from : (s : Store) (m : Memory) (r k : ℕ) → memoryAfter s m (upFrom r (suc k)) ≡ remember s (r + k)
+after-from : (s : Store) (m : Memory) (r k : ℕ) → memoryAfter s m (upFrom r (suc k)) ≡ roundData s (r + k)
 unfolding memoryAfter upFrom
-after-from s m r zero = ap (remember s) (omega arith)
-after-from s m r (suc k) = after-from s (remember s r) (suc r) k ∙ ap (remember s) (omega arith)
+after-from s m r zero = ap (roundData s) (omega arith)
+after-from s m r (suc k) = after-from s (roundData s r) (suc r) k ∙ ap (roundData s) (omega arith)
 
 -- what the round below the new bottom left, if that round is inspected
-pub memory-after : (s : Store) (b : ℕ) → memoryAfter s (s .memory) (inspected s b) ≡ cond (ltb (max (s .bottom) (lastNonExecutable s)) b) (remember s (prev b)) (s .memory)
+pub memory-after : (s : Store) (b : ℕ) → memoryAfter s (s .memory) (inspected s b) ≡ cond (ltb (max (s .bottom) (lastNonExecutable s)) b) (roundData s (prev b)) (s .memory)
 unfolding memoryAfter upFrom
 memory-after s b =
     ap (memoryAfter s (s .memory)) (inspected-is s b)
@@ -142,7 +142,7 @@ memory-after s b =
     (λ l. let e : b - low ≡ 0 = omega arith in rw (e, le-ltb low b l) refl)
     (λ l. let e : b - low ≡ suc (b - suc low) = omega arith in
     let d : low + (b - suc low) ≡ prev b = omega arith in
-    rw (e, lt-ltb low b l) (after-from s (s .memory) low (b - suc low) ∙ ap (remember s) d))
+    rw (e, lt-ltb low b l) (after-from s (s .memory) low (b - suc low) ∙ ap (roundData s) d))
   where
     low : ℕ
     low = max (s .bottom) (lastNonExecutable s)
@@ -188,8 +188,8 @@ module _ (s : Store) (r : ℕ) where
       is-trans p q x f g = le-leb (idAt s p .digest) (idAt s x .digest) (omega (arith, leb-true (idAt s p .digest) (idAt s q .digest) f, leb-true (idAt s q .digest) (idAt s x .digest) g))
 
   -- so do the entries that the round leaves
-  pub data-rises : Wf s → Ascending (remember s r .entries)
-  unfolding remember entryOf
+  pub data-rises : Wf s → Ascending (roundData s r .entries)
+  unfolding roundData entryOf
   data-rises w = picked-pairs (LowerAt s) Lower (isTrusted s) (entryOf s r) (λ p q l. l) (placesIn s r) (places-rise w)
 
 -- ---- the greatest is the last
@@ -233,7 +233,7 @@ module _ (f : Entry → Bool) where
 
 -- by e, peer a still has to refer to the digest d
 abbrev pub isUnreferenced : ℕ → ℕ → Entry → Bool
-isUnreferenced a d e = e .owing a && holds (e .previous) d
+isUnreferenced a d e = e .unreferencedBy a && holds (e .previous) d
 
 -- of an entry with the previous digest o and the later entries ys: it is the last by which a has to refer to o, and no point of a witnesses o
 unfoldable pub isLastUnreferenced : Store → ℕ → ℕ → List Entry → Option ℕ → Bool
@@ -241,38 +241,38 @@ isLastUnreferenced s r a ys none = false
 isLastUnreferenced s r a ys (some d) = not (witnessedBy s r a d) && not (has (isUnreferenced a d) ys)
 
 -- without a previous digest nothing is reported
-reported-none : (es : List Entry) (s : Store) (r a : ℕ) (e : Entry) → e .previous ≡ none → reported es s r a e ≡ (e .owing a && false)
+reported-none : (es : List Entry) (s : Store) (r a : ℕ) (e : Entry) → e .previous ≡ none → reported es s r a e ≡ (e .unreferencedBy a && false)
 unfolding reported
 reported-none es s r a e h = rw h refl
 
 -- with one, if its digest is the one that is due
-reported-some : (es : List Entry) (s : Store) (r a : ℕ) (e : Entry) (d : ℕ) → e .previous ≡ some d → reported es s r a e ≡ (e .owing a && holds (due es s r a d) (e .digest))
+reported-some : (es : List Entry) (s : Store) (r a : ℕ) (e : Entry) (d : ℕ) → e .previous ≡ some d → reported es s r a e ≡ (e .unreferencedBy a && holds (due es s r a d) (e .digest))
 unfolding reported
 reported-some es s r a e d h = rw h refl
 
 -- where digests rise, exactly that one is reported
-pub reported-last : (s : Store) (r a : ℕ) (xs : List Entry) (e : Entry) (ys : List Entry) → Ascending (xs ++ (e ∷ ys)) → reported (xs ++ (e ∷ ys)) s r a e ≡ (e .owing a && isLastUnreferenced s r a ys (e .previous))
+pub reported-last : (s : Store) (r a : ℕ) (xs : List Entry) (e : Entry) (ys : List Entry) → Ascending (xs ++ (e ∷ ys)) → reported (xs ++ (e ∷ ys)) s r a e ≡ (e .unreferencedBy a && isLastUnreferenced s r a ys (e .previous))
 unfolding due holds isLastUnreferenced
 reported-last s r a xs e ys p = go (e .previous) refl
   where
     es : List Entry
     es = xs ++ (e ∷ ys)
 
-    last : (d : ℕ) → e .previous ≡ some d → e .owing a ≡ true → holds (greatest (isUnreferenced a d) es) (e .digest) ≡ not (has (isUnreferenced a d) ys)
+    last : (d : ℕ) → e .previous ≡ some d → e .unreferencedBy a ≡ true → holds (greatest (isUnreferenced a d) es) (e .digest) ≡ not (has (isUnreferenced a d) ys)
     last d h t = greatest-last (isUnreferenced a d) xs e ys p (both t (rw h (eq-eqb d d refl)))
 
-    by-due : (d : ℕ) → e .previous ≡ some d → (e .owing a && holds (due es s r a d) (e .digest)) ≡ (e .owing a && isLastUnreferenced s r a ys (some d))
+    by-due : (d : ℕ) → e .previous ≡ some d → (e .unreferencedBy a && holds (due es s r a d) (e .digest)) ≡ (e .unreferencedBy a && isLastUnreferenced s r a ys (some d))
     by-due d h =
-        byTest (e .owing a)
+        byTest (e .unreferencedBy a)
         (λ t. byTest (witnessedBy s r a d) (λ u. rw (t, u) refl) (λ u. rw (t, u) (last d h t)))
         (λ n. rw n refl)
 
-    go : (o : Option ℕ) → e .previous ≡ o → reported es s r a e ≡ (e .owing a && isLastUnreferenced s r a ys (e .previous))
-    go none h = reported-none es s r a e h ∙ ap (λ o. e .owing a && isLastUnreferenced s r a ys o) (sym h)
-    go (some d) h = reported-some es s r a e d h ∙ (by-due d h ∙ ap (λ o. e .owing a && isLastUnreferenced s r a ys o) (sym h))
+    go : (o : Option ℕ) → e .previous ≡ o → reported es s r a e ≡ (e .unreferencedBy a && isLastUnreferenced s r a ys (e .previous))
+    go none h = reported-none es s r a e h ∙ ap (λ o. e .unreferencedBy a && isLastUnreferenced s r a ys o) (sym h)
+    go (some d) h = reported-some es s r a e d h ∙ (by-due d h ∙ ap (λ o. e .unreferencedBy a && isLastUnreferenced s r a ys o) (sym h))
 
 -- the same of the entry at k
-pub reported-at : (s : Store) (r a : ℕ) (es : List Entry) (k : ℕ) (z : Entry) → k < length es → Ascending es → reported es s r a (getD es k z) ≡ (getD es k z .owing a && isLastUnreferenced s r a (drop (suc k) es) (getD es k z .previous))
+pub reported-at : (s : Store) (r a : ℕ) (es : List Entry) (k : ℕ) (z : Entry) → k < length es → Ascending es → reported es s r a (getD es k z) ≡ (getD es k z .unreferencedBy a && isLastUnreferenced s r a (drop (suc k) es) (getD es k z .previous))
 reported-at s r a es k z l p =
     let e : es ≡ take k es ++ (getD es k z ∷ drop (suc k) es) = split-at es k z l in
     ap (λ x. reported x s r a (getD es k z)) e ∙ reported-last s r a (take k es) (getD es k z) (drop (suc k) es) (subst Ascending e p)
@@ -294,10 +294,10 @@ proof-once es s r a p x y m n e =
     one-of (some z) x y h k = sym (eqb-true z x h) ∙ eqb-true z y k
 
     go : (o : Option ℕ) → y .previous ≡ o → reported es s r a x ≡ true → reported es s r a y ≡ true → x .digest ≡ y .digest
-    go none h t u = absurd (false≢true (and-r (y .owing a) false (sym (reported-none es s r a y h) ∙ u)))
+    go none h t u = absurd (false≢true (and-r (y .unreferencedBy a) false (sym (reported-none es s r a y h) ∙ u)))
     go (some d) h t u = one-of (due es s r a d) (x .digest) (y .digest)
-        (and-r (x .owing a) _ (sym (reported-some es s r a x d (e ∙ h)) ∙ t))
-        (and-r (y .owing a) _ (sym (reported-some es s r a y d h) ∙ u))
+        (and-r (x .unreferencedBy a) _ (sym (reported-some es s r a x d (e ∙ h)) ∙ t))
+        (and-r (y .unreferencedBy a) _ (sym (reported-some es s r a y d h) ∙ u))
 
 -- ---- how many
 
@@ -350,13 +350,13 @@ module _ (s : Store) (w : Wf s) (r : ℕ) where
   kept-few f = omega (arith, keep-length f (placesIn s r), round-few)
 
   -- it leaves at most 128 entries
-  pub data-few : length (remember s r .entries) ≤ 128
-  unfolding remember
+  pub data-few : length (roundData s r .entries) ≤ 128
+  unfolding roundData
   data-few = omega (arith, length-map (keep (isTrusted s) (placesIn s r)) (entryOf s r), kept-few (isTrusted s))
 
   -- of peers below 32
-  pub data-low : (e : Entry) → List·Memᴰ e (remember s r .entries) → e .author < 32
-  unfolding remember entryOf
+  pub data-low : (e : Entry) → List·Memᴰ e (roundData s r .entries) → e .author < 32
+  unfolding roundData entryOf
   data-low e m =
       let (q, k, h) = mem-map (entryOf s r) _ e m in
       subst (λ (x : Entry). x .author < 32) h (author-low q (keep-in (isTrusted s) (placesIn s r) q .0 k .0))
@@ -364,13 +364,13 @@ module _ (s : Store) (w : Wf s) (r : ℕ) where
 -- ---- what a remove leaves
 
 -- what holds of a memory and of what every round leaves, holds after any rounds
-after-all : (P : Memory → Type 0) (s : Store) → ((x : ℕ) → P (remember s x)) → (m : Memory) (rs : List ℕ) → P m → P (memoryAfter s m rs)
+after-all : (P : Memory → Type 0) (s : Store) → ((x : ℕ) → P (roundData s x)) → (m : Memory) (rs : List ℕ) → P m → P (memoryAfter s m rs)
 unfolding memoryAfter
 after-all P s f m [] h = h
-after-all P s f m (r ∷ rs) h = after-all P s f (remember s r) rs (f r)
+after-all P s f m (r ∷ rs) h = after-all P s f (roundData s r) rs (f r)
 
 -- what holds of the store's memory and of what every round leaves, holds of the memory after a remove
-pub after-keeps : (P : Memory → Type 0) (s : Store) (r : ℕ) (from : Option ℕ) (b : List ℕ) → P (s .memory) → ((x : ℕ) → P (remember s x)) → P (doRemove s r from b .store .memory)
+pub after-keeps : (P : Memory → Type 0) (s : Store) (r : ℕ) (from : Option ℕ) (b : List ℕ) → P (s .memory) → ((x : ℕ) → P (roundData s x)) → P (doRemove s r from b .store .memory)
 unfolding doRemove withNumbers
 after-keeps P s r from b h f = go (removing s r b (removeBytes s low from))
   where
@@ -400,19 +400,19 @@ after-low s w r from b h = after-keeps (λ m. (e : Entry) → List·Memᴰ e (m 
 
 module _ (s : Store) (b : ℕ) where
   -- each meets the memory said above, above the last non-executable round and below the new bottom
-  pub shown-elim : (v : Seen) → List·Memᴰ v (shown s b) → (v .memory ≡ before s (v .round)) × (firstShown s ≤ v .round) × (v .round < b)
+  pub shown-elim : (v : InspectedRound) → List·Memᴰ v (shown s b) → (v .memory ≡ before s (v .round)) × (firstShown s ≤ v .round) × (v .round < b)
   shown-elim v m =
       let (x, k, e) = mem-map (inspectedRound s) (upFrom (firstShown s) (b - firstShown s)) v (subst (List·Memᴰ v) (shown-is s b) m) in
       let (l, h) = from-elim (firstShown s) (b - firstShown s) x k in
-      let i : x ≡ v .round = ap (λ (u : Seen). u .round) e in
-      (sym (ap (λ (u : Seen). u .memory) e) ∙ ap (before s) i, rw i at l, let z : x < b = omega arith in rw i at z)
+      let i : x ≡ v .round = ap (λ (u : InspectedRound). u .round) e in
+      (sym (ap (λ (u : InspectedRound). u .memory) e) ∙ ap (before s) i, rw i at l, let z : x < b = omega arith in rw i at z)
 
   -- as many as there are rounds from the first on
   pub shown-length : length (shown s b) ≡ b - firstShown s
   shown-length = ap length (shown-is s b) ∙ (length-map (upFrom (firstShown s) (b - firstShown s)) (inspectedRound s) ∙ from-length (firstShown s) (b - firstShown s))
 
 -- what holds of the store's memory and of what every round leaves, holds of what a round meets
-pub before-keeps : (P : Memory → Type 0) (s : Store) (r : ℕ) → P (s .memory) → ((x : ℕ) → P (remember s x)) → P (before s r)
+pub before-keeps : (P : Memory → Type 0) (s : Store) (r : ℕ) → P (s .memory) → ((x : ℕ) → P (roundData s x)) → P (before s r)
 unfolding before
 before-keeps P s r h f = byTest (eqb r (s .bottom)) (λ t. rw t h) (λ n. rw n (f (prev r)))
 
@@ -439,7 +439,7 @@ shown-more s b l =
     ∙ (map-append (inspectedRound s) (upFrom (firstShown s) (b - firstShown s)) (b ∷ []) ∙ ap (λ l. l ++ (inspectedRound s b ∷ [])) (sym (shown-is s b))))
 
 -- counters, and one round more
-total-more : (s : Store) (a : ℕ) (vs : List Seen) (v : Seen) (t : Option Stats) → total s a (vs ++ (v ∷ [])) t ≡ merge (total s a vs t) (v .round) (counted (v .memory) s (v .round) a)
+total-more : (s : Store) (a : ℕ) (vs : List InspectedRound) (v : InspectedRound) (t : Option Stats) → total s a (vs ++ (v ∷ [])) t ≡ merge (total s a vs t) (v .round) (counted (v .memory) s (v .round) a)
 unfolding total
 total-more s a [] v t = refl
 total-more s a (u ∷ us) v t = total-more s a us v _
@@ -463,16 +463,16 @@ stats-next s b from a l =
     (λ t. rw t (total-more s a (keep picks (shown s b)) (inspectedRound s b) none))
     (λ n. rw n (ap (λ vs. total s a vs none) (append-nil (keep picks (shown s b))))))
   where
-    picks : Seen → Bool
+    picks : InspectedRound → Bool
     picks v = hasStats s from a (v .round)
 
 -- no events up to the first reported round
-pub over-none : (s : Store) (f : Seen → ℕ → List Event) (b : ℕ) → b ≤ firstShown s → over f (shown s b) ≡ []
+pub over-none : (s : Store) (f : InspectedRound → ℕ → List Event) (b : ℕ) → b ≤ firstShown s → over f (shown s b) ≡ []
 unfolding over joined
 over-none s f b l = rw (shown-none s b l) refl
 
 -- from there on those of a round more
-pub over-more : (s : Store) (f : Seen → ℕ → List Event) (b : ℕ) → firstShown s ≤ b → over f (shown s (suc b)) ≡ over f (shown s b) ++ upTo 32 (f (inspectedRound s b))
+pub over-more : (s : Store) (f : InspectedRound → ℕ → List Event) (b : ℕ) → firstShown s ≤ b → over f (shown s (suc b)) ≡ over f (shown s b) ++ upTo 32 (f (inspectedRound s b))
 unfolding over joined
 over-more s f b l =
     ap (over f) (shown-more s b l)
@@ -488,7 +488,7 @@ ListsRise (equivocation a r ds) = Pairs _<_ ds
 ListsRise (noInclusion a xs ys) = Pairs Before xs × Pairs Before ys
 
 -- an event of these is that of a peer at a round
-over-elim : (f : Seen → ℕ → List Event) (vs : List Seen) (e : Event) → List·Memᴰ e (over f vs) → (v : Seen) × List·Memᴰ v vs × ((a : ℕ) × List·Memᴰ e (f v a))
+over-elim : (f : InspectedRound → ℕ → List Event) (vs : List InspectedRound) (e : Event) → List·Memᴰ e (over f vs) → (v : InspectedRound) × List·Memᴰ v vs × ((a : ℕ) × List·Memᴰ e (f v a))
 unfolding over
 over-elim f vs e m =
     let (v, k, n) = joined-in (λ v. upTo 32 (f v)) vs e .0 m in
@@ -513,20 +513,20 @@ ids-round r a ds i m =
 
 module _ (s : Store) (w : Wf s) where
   -- an event with an id has no list
-  single-rises : (kind : ℕ) (f : Store → ℕ → Bool) (v : Seen) (a : ℕ) (e : Event) → List·Memᴰ e (singles kind f s v a) → ListsRise e
+  single-rises : (kind : ℕ) (f : Store → ℕ → Bool) (v : InspectedRound) (a : ℕ) (e : Event) → List·Memᴰ e (singles kind f s v a) → ListsRise e
   unfolding singles
   single-rises kind f v a e m = let (q, k, h) = mem-map (λ q. single kind (idAt s q)) (keep (of (f s) s a) (placesIn s (v .round))) e m in subst ListsRise h tt
 
   -- the digests of an equivocation
-  equivocation-rises : (v : Seen) (a : ℕ) (e : Event) → List·Memᴰ e (equivocations s v a) → ListsRise e
+  equivocation-rises : (v : InspectedRound) (a : ℕ) (e : Event) → List·Memᴰ e (equivocations s v a) → ListsRise e
   unfolding equivocations
   equivocation-rises v a e m =
       let (t, h) = onlyif-elim _ _ e m in
       subst ListsRise h (picked-pairs (LowerAt s) _<_ (of (isFound s) s a) (λ q. idAt s q .digest) (λ p q l. l) (placesIn s (v .round)) (places-rise s (v .round) w))
 
   -- the proofs and the blamed ids of a round that meets rising entries
-  blame-rises : (v : Seen) (a : ℕ) (e : Event) → 0 < v .round → Ascending (v .memory .entries) → List·Memᴰ e (noInclusions s v a) → ListsRise e
-  unfolding noInclusions proofs authoredThen authoredNow blames
+  blame-rises : (v : InspectedRound) (a : ℕ) (e : Event) → 0 < v .round → Ascending (v .memory .entries) → List·Memᴰ e (noInclusions s v a) → ListsRise e
+  unfolding noInclusions proofs authoredThen authoredNow notReferenced
   blame-rises v a e l p m = let (t, h) = onlyif-elim _ _ e m in subst ListsRise h (blamed (eqb-true _ _ (and-l _ _ t)), proofs-rise)
     where
       r : ℕ
@@ -551,7 +551,7 @@ module _ (s : Store) (w : Wf s) where
   lists-rise p b e m =
       part (single-rises 1 isTransInvalid) m (λ m. part (single-rises 2 isInvalid) m (λ m. part (single-rises 3 isIllFormed) m (λ m. part equivocation-rises m (λ m. blame m))))
     where
-      part : {f : Seen → ℕ → List Event} {es : List Event} → ((v : Seen) (a : ℕ) (e : Event) → List·Memᴰ e (f v a) → ListsRise e) → List·Memᴰ e (over f (shown s b) ++ es) → (List·Memᴰ e es → ListsRise e) → ListsRise e
+      part : {f : InspectedRound → ℕ → List Event} {es : List Event} → ((v : InspectedRound) (a : ℕ) (e : Event) → List·Memᴰ e (f v a) → ListsRise e) → List·Memᴰ e (over f (shown s b) ++ es) → (List·Memᴰ e es → ListsRise e) → ListsRise e
       part {f} h m g = ⊎-elim (λ k. let (v, n, (a, i)) = over-elim f (shown s b) e k in h v a e i) g (List·Memᴰ·append-cases (over f (shown s b)) m)
 
       blame : List·Memᴰ e (over (noInclusions s) (shown s b)) → ListsRise e
@@ -608,7 +608,7 @@ counted-few s w m r a l = record {
   transInvalid = passing-few s w r (isTransInvalid s) a;
   invalid = passing-few s w r (isInvalid s) a;
   illFormed = passing-few s w r (isIllFormed s) a;
-  referencesSkipped = if-most (blames m s r a) (length (proofs (m .entries) s r a)) 128 (omega (arith, keep-length (reported (m .entries) s r a) (m .entries)));
+  referencesSkipped = if-most (notReferenced m s r a) (length (proofs (m .entries) s r a)) 128 (omega (arith, keep-length (reported (m .entries) s r a) (m .entries)));
 }
 
 -- so each counter at most 128
@@ -644,7 +644,7 @@ stats-more m n none l h = tt
 stats-more m n (some t) l h = most-more m n (t .counters) l h
 
 -- each round adds at most 128
-pub total-most : (s : Store) → Wf s → (a : ℕ) (vs : List Seen) (n : ℕ) (t : Option Stats) → ((v : Seen) → List·Memᴰ v vs → length (v .memory .entries) ≤ 128) → StatsMost n t → StatsMost (n + length vs * 128) (total s a vs t)
+pub total-most : (s : Store) → Wf s → (a : ℕ) (vs : List InspectedRound) (n : ℕ) (t : Option Stats) → ((v : InspectedRound) → List·Memᴰ v vs → length (v .memory .entries) ≤ 128) → StatsMost n t → StatsMost (n + length vs * 128) (total s a vs t)
 unfolding total
 total-most s w a [] n t few h = stats-more n (n + 0 * 128) t (omega arith) h
 total-most s w a (v ∷ vs) n t few h =
@@ -654,23 +654,23 @@ total-most s w a (v ∷ vs) n t few h =
     (total-most s w a vs (n + 128) (merge t (v .round) c) (λ u m. few u (List·Memᴰ·tail m)) (merge-most n t (v .round) c h k))
 
 -- "Counts always fit": at most 511 rounds are drained, so each counter of a remove's answer is at most 511 * 128
-pub counts-fit : (s : Store) → Wf s → length (s .memory .entries) ≤ 128 → (b : ℕ) → b ≤ s .top → (from : Option ℕ) (a : ℕ) → StatsMost 65_408 (statsOf s b from a)
+pub countsAsStarted-fit : (s : Store) → Wf s → length (s .memory .entries) ≤ 128 → (b : ℕ) → b ≤ s .top → (from : Option ℕ) (a : ℕ) → StatsMost 65_408 (statsOf s b from a)
 unfolding statsOf
-counts-fit s w l b h from a =
+countsAsStarted-fit s w l b h from a =
     stats-more (0 + length vs * 128) 65_408 (total s a vs none) (omega (arith, w .few, shown-length s b, keep-length picks (shown s b)))
     (total-most s w a vs 0 none few tt)
   where
-    picks : Seen → Bool
+    picks : InspectedRound → Bool
     picks v = hasStats s from a (v .round)
 
-    vs : List Seen
+    vs : List InspectedRound
     vs = keep picks (shown s b)
 
-    few : (v : Seen) → List·Memᴰ v vs → length (v .memory .entries) ≤ 128
+    few : (v : InspectedRound) → List·Memᴰ v vs → length (v .memory .entries) ≤ 128
     few v m =
         let (x, y, z) = shown-elim s b v (keep-in picks (shown s b) v .0 m .0) in
         subst (λ (m : Memory). length (m .entries) ≤ 128) (sym x) (before-keeps (λ m. length (m .entries) ≤ 128) s (v .round) l (data-few s w))
 
 -- the same for the bottom that a remove moves to
 pub remove-fits : (s : Store) → Wf s → length (s .memory .entries) ≤ 128 → (r : ℕ) (from : Option ℕ) (a : ℕ) → StatsMost 65_408 (statsOf s (newBottom s r) from a)
-remove-fits s w l r from a = counts-fit s w l (newBottom s r) (new-bottom s w r .1) from a
+remove-fits s w l r from a = countsAsStarted-fit s w l (newBottom s r) (new-bottom s w r .1) from a

@@ -10,7 +10,7 @@ use Rattle.laws.specs.Test.{both, and-l, and-r}
 use Rattle.laws.specs.Lists.{has-elim, has-intro, mem-map}
 use Rattle.spec.specs.Ids.{Id, Ref, Link, leads, linksOf, fits}
 use Rattle.spec.specs.Store.{Point, Store, resolved, links, linksTo, roundAt}
-use Rattle.spec.specs.Paths.{E}
+use Rattle.spec.specs.Paths.{LinkedTo}
 use Rattle.spec.specs.Graph.{Down}
 
 -- a link of p leads to q
@@ -57,7 +57,7 @@ pub resolved-named : (p : Point) → resolved p ≡ true → p .named ≡ true
 unfolding resolved
 resolved-named p h = and-l _ _ h
 
-pub source-named : (s : Store) (p q : ℕ) → E s p q → s .pt p .named ≡ true
+pub source-named : (s : Store) (p q : ℕ) → LinkedTo s p q → s .pt p .named ≡ true
 source-named s p q e = resolved-named (s .pt p) (linked _ _ e .resolved-is)
 
 -- includes lead one round down, witness two
@@ -68,5 +68,5 @@ dist-pos is ws l m = ⊎-elim (λ k. at _ is (omega arith) (omega arith) k) (λ 
     at : (d : ℕ) (rs : List Ref) → 0 < d → d ≤ 2 → List·Memᴰ l (map (leads d) rs) → (0 < l .dist) × (l .dist ≤ 2)
     at d rs a b k = let (r, n, e) = mem-map (leads d) rs l k in (omega (arith, ap (λ (x : Link). x .dist) e), omega (arith, ap (λ (x : Link). x .dist) e))
 
-pub down : (s : Store) → Down (E s) (roundAt s)
+pub down : (s : Store) → Down (LinkedTo s) (roundAt s)
 down s p q e = let l = linked (s .pt p) (s .pt q) e in omega (arith, dist-pos _ _ (l .by) (l .among), l .round)

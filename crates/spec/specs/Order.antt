@@ -15,9 +15,9 @@ use Rattle.spec.specs.Ids.{Id, byRound, rises, falls}
 use Rattle.spec.specs.Store.{Store, idAt}
 use Rattle.spec.specs.History.{Need, anchor, hand, needed, inHistory, history}
 use Rattle.spec.specs.Links.{linked}
-use Rattle.spec.specs.Level.{inside}
+use Rattle.spec.specs.HeightEquations.{inside}
 use Rattle.spec.specs.Sweep.{marked→need}
-use Rattle.spec.specs.Started.{Wf}
+use Rattle.spec.specs.WellFormed.{Wf}
 
 -- x comes before y: in a lower round, or in the same with a smaller digest
 abbrev pub Before : Id → Id → Type 0

@@ -17,21 +17,21 @@ use Rattle.laws.specs.Sort.{insert, sort, sort-mem, sort-rises}
 use Rattle.laws.specs.Bytes.{be, be-length, written, written-length}
 use Rattle.spec.specs.Ids.{Id, idBytes, falls}
 use Rattle.spec.specs.Store.{Store, idAt, roundAt, statusAt, resolved, linksTo}
-use Rattle.spec.specs.Paths.{E, height, certified, proved}
-use Rattle.spec.specs.Chain.{Refusal, number, conflict, Out, bad, good, then, refuse, usableInHistory, verdict, judged, Enqueued, anchorsOf}
-use Rattle.spec.specs.History.{limit, lowest, Need, anchor, hand, needed, inHistory, history, firstFault, faults, roundsMissing, isFlat, tested, isWaiting, testAnchor, recordBytes, isFirst, gapAfter, setCommitted, committedAt, Finished, commitAll, outlookBytes, outlookAll}
-use Rattle.spec.specs.Calls.{Answer, handed, refused, numberOf, Outcome, commitEnd, doCommit, doOutlook, act, commit, outlook, call}
+use Rattle.spec.specs.Paths.{LinkedTo, height, certified, proved}
+use Rattle.spec.specs.Chain.{Refusal, number, conflict, Out, bad, good, then, refuse, isCommittable, checkedAs, checked, EnqueuedAnchor, anchorsOf}
+use Rattle.spec.specs.History.{limit, lowest, Need, anchor, hand, needed, inHistory, history, firstFault, faults, roundsMissing, anyUncertified, tested, gapPending, testAnchor, recordBytes, isFirstExecutable, gapAfter, setCommitted, dequeued, Finished, commitAll, outlookBytes, outlookAll}
+use Rattle.spec.specs.Calls.{Answer, anchors, refused, numberOf, Outcome, commitEnd, doCommit, doOutlook, perform, commit, outlook, call}
 use Rattle.spec.specs.Links.{resolved-named}
-use Rattle.spec.specs.Level.{Sized, inside}
+use Rattle.spec.specs.HeightEquations.{Sized, inside}
 use Rattle.spec.specs.Sweep.{marked→need, needed-is}
 use Rattle.spec.specs.Changes.{mark-height}
-use Rattle.spec.specs.Started.{Wf}
+use Rattle.spec.specs.WellFormed.{Wf}
 use Rattle.spec.specs.Order.{need-named, falls-total, falls-trans}
 use Rattle.spec.specs.Refusals.{Sound, anchors-sound, outlook-sound}
 use Rattle.spec.specs.Walk.{not-good, then-good, refuse-back, Anchored, Rising, Tested, tested-good}
-use Rattle.spec.specs.Kept.{mark-kept, rising-mark, anchors-rising, call-act}
-use Rattle.spec.specs.Second.{commit-is}
-use Rattle.spec.specs.Late.{fits-in, test-back, commit-step}
+use Rattle.spec.specs.Preservation.{mark-kept, rising-mark, anchors-rising, call-perform}
+use Rattle.spec.specs.Demand3Second.{commit-is}
+use Rattle.spec.specs.Extension.{fits-in, test-back, commit-step}
 
 -- ---- lists put in order, and some of their elements left out
 
@@ -71,57 +71,57 @@ those-keep (suc n) f g h =
     (λ u. byTest (f n) (λ v. rw (u, v) (rw u (those-keep n f g (λ i l. h i (omega arith))))) (λ v. rw (u, v) (those-keep n f g (λ i l. h i (omega arith)))))
 
 -- points that pass can be left out
-first-keep : (s : Store) (g : ℕ → Bool) (l : List ℕ) → ((q : ℕ) → List·Memᴰ q l → g q ≡ false → judged s usableInHistory q ≡ good q) → firstFault s (keep g l) ≡ firstFault s l
+first-keep : (s : Store) (g : ℕ → Bool) (l : List ℕ) → ((q : ℕ) → List·Memᴰ q l → g q ≡ false → checked s isCommittable q ≡ good q) → firstFault s (keep g l) ≡ firstFault s l
 unfolding firstFault keep
 first-keep s g [] h = refl
 first-keep s g (x ∷ xs) h =
     byTest (g x)
-    (λ t. rw t (ap (then (judged s usableInHistory x)) (λ i y. first-keep s g xs (λ q m. h q (List·Memᴰ·tail m)) i)))
+    (λ t. rw t (ap (then (checked s isCommittable x)) (λ i y. first-keep s g xs (λ q m. h q (List·Memᴰ·tail m)) i)))
     (λ f. rw (f, h x (List·Memᴰ·head refl) f) (first-keep s g xs (λ q m. h q (List·Memᴰ·tail m))))
 
 -- ---- an older anchor's marks
 
-module _ (s : Store) (w : Wf s) (e : Enqueued) where
-  certified-mark : (q : ℕ) → certified (committedAt s e) q ≡ certified s q
+module _ (s : Store) (w : Wf s) (e : EnqueuedAnchor) where
+  certified-mark : (q : ℕ) → certified (dequeued s e) q ≡ certified s q
   unfolding certified
   certified-mark q = ap (ltb 0) (mark-height s (w .sized) e q)
 
-  judged-mark : (q : ℕ) → judged (committedAt s e) usableInHistory q ≡ judged s usableInHistory q
-  unfolding judged usableInHistory proved committedAt setCommitted resolved
-  judged-mark q = ap (λ c. verdict (resolved (s .pt q)) (eqb (statusAt s q) 1 || (eqb (statusAt s q) 2 && not (c && s .pt q .flags .top))) c (roundAt s q) q) (certified-mark q)
+  checked-mark : (q : ℕ) → checked (dequeued s e) isCommittable q ≡ checked s isCommittable q
+  unfolding checked isCommittable proved dequeued setCommitted resolved
+  checked-mark q = ap (λ c. checkedAs (resolved (s .pt q)) (eqb (statusAt s q) 1 || (eqb (statusAt s q) 2 && not (c && s .pt q .flags .top))) c (roundAt s q) q) (certified-mark q)
 
-  first-mark : (l : List ℕ) → firstFault (committedAt s e) l ≡ firstFault s l
+  first-mark : (l : List ℕ) → firstFault (dequeued s e) l ≡ firstFault s l
   unfolding firstFault
   first-mark [] = refl
-  first-mark (x ∷ xs) = λ i. then (judged-mark x i) (λ y. first-mark xs i)
+  first-mark (x ∷ xs) = λ i. then (checked-mark x i) (λ y. first-mark xs i)
 
-  link-mark : (p q : ℕ) → E s p q → E (committedAt s e) p q
-  unfolding committedAt setCommitted linksTo resolved
+  link-mark : (p q : ℕ) → LinkedTo s p q → LinkedTo (dequeued s e) p q
+  unfolding dequeued setCommitted linksTo resolved
   link-mark p q l = l
 
-  mark-link : (p q : ℕ) → E (committedAt s e) p q → E s p q
-  unfolding committedAt setCommitted linksTo resolved
+  mark-link : (p q : ℕ) → LinkedTo (dequeued s e) p q → LinkedTo s p q
+  unfolding dequeued setCommitted linksTo resolved
   mark-link p q l = l
 
   -- marked is what was committed, and the history
-  mark-committed : (q : ℕ) → committedAt s e .pt q .flags .committed ≡ (inHistory s (e .anchor) q || s .pt q .flags .committed)
-  unfolding committedAt setCommitted
+  mark-committed : (q : ℕ) → dequeued s e .pt q .flags .committed ≡ (inHistory s (e .anchor) q || s .pt q .flags .committed)
+  unfolding dequeued setCommitted
   mark-committed q = refl
 
-  mark-round : (q : ℕ) → roundAt (committedAt s e) q ≡ roundAt s q
-  unfolding committedAt setCommitted
+  mark-round : (q : ℕ) → roundAt (dequeued s e) q ≡ roundAt s q
+  unfolding dequeued setCommitted
   mark-round q = refl
 
-  mark-places : committedAt s e .places ≡ s .places
-  unfolding committedAt
+  mark-places : dequeued s e .places ≡ s .places
+  unfolding dequeued
   mark-places = refl
 
-  mark-lowest : (b : ℕ) → lowest (committedAt s e) b ≡ lowest s b
-  unfolding committedAt setCommitted
+  mark-lowest : (b : ℕ) → lowest (dequeued s e) b ≡ lowest s b
+  unfolding dequeued setCommitted
   mark-lowest b = refl
 
   -- with the marks fewer points are needed
-  need-less : (b q : ℕ) → Need (committedAt s e) b q → Need s b q
+  need-less : (b q : ℕ) → Need (dequeued s e) b q → Need s b q
   need-less b q anchor = anchor
   need-less b q (hand p x n d l) = hand p x (need-less b p n) (or-none (inHistory s (e .anchor) p) _ (sym (mark-committed p) ∙ d) .1) (mark-link p x l)
 
@@ -130,11 +130,11 @@ module _ (s : Store) (w : Wf s) (e : Enqueued) where
   history-need q h = marked→need s (e .anchor) q (and-l _ _ (and-l _ _ h))
 
   -- and the others were needed by the older anchor
-  need-split : (b q : ℕ) → Need s b q → Need (committedAt s e) b q ⊎ Need s (e .anchor) q
+  need-split : (b q : ℕ) → Need s b q → Need (dequeued s e) b q ⊎ Need s (e .anchor) q
   need-split b q anchor = inl anchor
   need-split b q (hand p x n d l) = ⊎-elim go (λ m. inr (hand p x m d l)) (need-split b p n)
     where
-      go : Need (committedAt s e) b p → Need (committedAt s e) b x ⊎ Need s (e .anchor) x
+      go : Need (dequeued s e) b p → Need (dequeued s e) b x ⊎ Need s (e .anchor) x
       go m =
           byTest (inHistory s (e .anchor) p)
           (λ t. inr (hand p x (history-need p t) d l))
@@ -147,93 +147,93 @@ module _ (s : Store) (w : Wf s) (e : Enqueued) where
     fit : lowest s b ≤ suc (roundAt s b)
     fit = fits-in s w b there
 
-    fit-mark : lowest (committedAt s e) b ≤ suc (roundAt (committedAt s e) b)
+    fit-mark : lowest (dequeued s e) b ≤ suc (roundAt (dequeued s e) b)
     fit-mark = subst₂ (λ m n. m ≤ suc n) (sym (mark-lowest b)) (sym (mark-round b)) fit
 
-    mark-sized : Sized (committedAt s e)
-    unfolding committedAt setCommitted
+    mark-sized : Sized (dequeued s e)
+    unfolding dequeued setCommitted
     mark-sized = w .sized
 
     lower : lowest s (e .anchor) ≤ lowest s b
     unfolding limit
     lower = omega (arith, above)
 
-    needed-less : (q : ℕ) → needed (committedAt s e) b q ≡ true → needed s b q ≡ true
-    needed-less q h = let (n, l) = needed-is (committedAt s e) mark-sized b q fit-mark .0 h in
+    needed-less : (q : ℕ) → needed (dequeued s e) b q ≡ true → needed s b q ≡ true
+    needed-less q h = let (n, l) = needed-is (dequeued s e) mark-sized b q fit-mark .0 h in
         needed-is s (w .sized) b q fit .1 (need-less b q n, subst₂ _≤_ (mark-lowest b) (mark-round q) l)
 
     -- a needed point that the marks leave out was needed by the older anchor
-    left-out : (q : ℕ) → needed s b q ≡ true → needed (committedAt s e) b q ≡ false → needed s (e .anchor) q ≡ true
+    left-out : (q : ℕ) → needed s b q ≡ true → needed (dequeued s e) b q ≡ false → needed s (e .anchor) q ≡ true
     left-out q h f = let (n, l) = needed-is s (w .sized) b q fit .0 h in
         ⊎-elim
-        (λ m. absurd (clash (needed-is (committedAt s e) mark-sized b q fit-mark .1 (m, subst₂ _≤_ (sym (mark-lowest b)) (sym (mark-round q)) l)) f))
+        (λ m. absurd (clash (needed-is (dequeued s e) mark-sized b q fit-mark .1 (m, subst₂ _≤_ (sym (mark-lowest b)) (sym (mark-round q)) l)) f))
         (λ m. needed-is s (w .sized) (e .anchor) q (fits-in s w (e .anchor) old-named) .1 (m, le-trans lower l))
         (need-split b q n)
 
-    judged-good : (q : ℕ) → needed s (e .anchor) q ≡ true → judged s usableInHistory q ≡ good q
-    unfolding judged verdict
-    judged-good q h = let (u, v) = c .ready q (inside s (w .sized) q (need-named s (e .anchor) q old-named (needed-is s (w .sized) (e .anchor) q (fits-in s w (e .anchor) old-named) .0 h .0))) h in rw (u, v) refl
+    checked-good : (q : ℕ) → needed s (e .anchor) q ≡ true → checked s isCommittable q ≡ good q
+    unfolding checked checkedAs
+    checked-good q h = let (u, v) = c .ready q (inside s (w .sized) q (need-named s (e .anchor) q old-named (needed-is s (w .sized) (e .anchor) q (fits-in s w (e .anchor) old-named) .0 h .0))) h in rw (u, v) refl
 
-    mark-faults : faults (committedAt s e) b ≡ firstFault (committedAt s e) (sort (λ p q. falls (idAt s p) (idAt s q)) (those (s .places) (needed (committedAt s e) b)))
-    unfolding faults committedAt setCommitted
+    mark-faults : faults (dequeued s e) b ≡ firstFault (dequeued s e) (sort (λ p q. falls (idAt s p) (idAt s q)) (those (s .places) (needed (dequeued s e) b)))
+    unfolding faults dequeued setCommitted
     mark-faults = refl
 
-    faults-mark : faults (committedAt s e) b ≡ faults s b
+    faults-mark : faults (dequeued s e) b ≡ faults s b
     unfolding faults
     faults-mark =
         mark-faults ∙ (first-mark _
         ∙ (ap (λ l. firstFault s (sort le l)) (those-keep (s .places) (needed s b) g (λ q l h. needed-less q h))
         ∙ (ap (firstFault s) (sort-keep le (λ p q. falls-total (idAt s p) (idAt s q)) (λ p q r. falls-trans (idAt s p) (idAt s q) (idAt s r)) g (those (s .places) (needed s b)))
-        ∙ first-keep s g _ (λ q m f. judged-good q (left-out q (those-elim _ _ q (sort-mem le q _ .0 m) .1) f)))))
+        ∙ first-keep s g _ (λ q m f. checked-good q (left-out q (those-elim _ _ q (sort-mem le q _ .0 m) .1) f)))))
       where
         le : ℕ → ℕ → Bool
         le p q = falls (idAt s p) (idAt s q)
 
         g : ℕ → Bool
-        g = needed (committedAt s e) b
+        g = needed (dequeued s e) b
 
-    history-mark : (q : ℕ) → inHistory (committedAt s e) b q ≡ true → inHistory s b q ≡ true
+    history-mark : (q : ℕ) → inHistory (dequeued s e) b q ≡ true → inHistory s b q ≡ true
     unfolding inHistory
-    history-mark q h = both (needed-less q (and-l _ _ h)) (ap not (or-none (inHistory s (e .anchor) q) _ (sym (mark-committed q) ∙ not-true _ (and-r (needed (committedAt s e) b q) _ h)) .1))
+    history-mark q h = both (needed-less q (and-l _ _ h)) (ap not (or-none (inHistory s (e .anchor) q) _ (sym (mark-committed q) ∙ not-true _ (and-r (needed (dequeued s e) b q) _ h)) .1))
 
     -- a point of height 0 is in no history that passed
     flat-old : (q : ℕ) → q < s .places → height s q ≡ 0 → inHistory s (e .anchor) q ≡ false
-    flat-old q l z = byTest (inHistory s (e .anchor) q) (λ t. absurd (omega (arith, c .tall q l t))) (λ f. f)
+    flat-old q l z = byTest (inHistory s (e .anchor) q) (λ t. absurd (omega (arith, c .heightsAre q l t))) (λ f. f)
 
-    mark-history : (q : ℕ) → q < s .places → height s q ≡ 0 → inHistory s b q ≡ true → inHistory (committedAt s e) b q ≡ true
+    mark-history : (q : ℕ) → q < s .places → height s q ≡ 0 → inHistory s b q ≡ true → inHistory (dequeued s e) b q ≡ true
     unfolding inHistory
     mark-history q l z h =
         both
-        (byTest (needed (committedAt s e) b q) (λ t. t) (λ f. absurd (clash (both (left-out q (and-l _ _ h) f) (and-r (needed s b q) _ h)) (flat-old q l z))))
+        (byTest (needed (dequeued s e) b q) (λ t. t) (λ f. absurd (clash (both (left-out q (and-l _ _ h) f) (and-r (needed s b q) _ h)) (flat-old q l z))))
         (ap not {y = false} (mark-committed q ∙ rw (flat-old q l z, not-true (s .pt q .flags .committed) (and-r (needed s b q) _ h)) refl))
 
-    flat-mark : isFlat (committedAt s e) b ≡ isFlat s b
-    unfolding isFlat
-    flat-mark = ap (λ n. any n (flat (committedAt s e))) mark-places ∙ any-same (s .places) (flat (committedAt s e)) (flat s) (λ q l. same-test _ _ (less q) (more q l))
+    flat-mark : anyUncertified (dequeued s e) b ≡ anyUncertified s b
+    unfolding anyUncertified
+    flat-mark = ap (λ n. any n (flat (dequeued s e))) mark-places ∙ any-same (s .places) (flat (dequeued s e)) (flat s) (λ q l. same-test _ _ (less q) (more q l))
       where
         flat : Store → ℕ → Bool
         flat u q = inHistory u b q && eqb (height u q) 0
 
-        less : (q : ℕ) → flat (committedAt s e) q ≡ true → flat s q ≡ true
-        less q h = both (history-mark q (and-l _ _ h)) (ap (λ n. eqb n 0) (sym (mark-height s (w .sized) e q)) ∙ and-r (inHistory (committedAt s e) b q) _ h)
+        less : (q : ℕ) → flat (dequeued s e) q ≡ true → flat s q ≡ true
+        less q h = both (history-mark q (and-l _ _ h)) (ap (λ n. eqb n 0) (sym (mark-height s (w .sized) e q)) ∙ and-r (inHistory (dequeued s e) b q) _ h)
 
-        more : (q : ℕ) → q < s .places → flat s q ≡ true → flat (committedAt s e) q ≡ true
+        more : (q : ℕ) → q < s .places → flat s q ≡ true → flat (dequeued s e) q ≡ true
         more q l h = both (mark-history q l (eqb-true _ _ (and-r (inHistory s b q) _ h)) (and-l _ _ h)) (ap (λ n. eqb n 0) (mark-height s (w .sized) e q) ∙ and-r (inHistory s b q) _ h)
 
     -- the younger anchor's tests come out as they did before the marks
-    pub tested-mark : tested (committedAt s e) b ≡ tested s b
-    unfolding tested roundsMissing committedAt setCommitted
+    pub tested-mark : tested (dequeued s e) b ≡ tested s b
+    unfolding tested roundsMissing dequeued setCommitted
     tested-mark = λ i. refuse (leb (roundAt s b) (s .conf .genesis)) 22 (then (faults-mark i) (λ x. refuse (roundsMissing s b) 17 (refuse (flat-mark i) 18 (good b))))
 
 -- ---- all anchors of a chain
 
 -- each anchor's tests in turn, the older ones committed
-unfoldable pub tests : Store → List Enqueued → Out ℕ
+unfoldable pub tests : Store → List EnqueuedAnchor → Out ℕ
 tests s [] = good 0
-tests s (e ∷ es) = then (tested s (e .anchor)) (λ x. tests (committedAt s e) es)
+tests s (e ∷ es) = then (tested s (e .anchor)) (λ x. tests (dequeued s e) es)
 
 -- each anchor's tests in turn, by the marks as they are
-unfoldable pub testsNow : Store → List Enqueued → Out ℕ
+unfoldable pub testsNow : Store → List EnqueuedAnchor → Out ℕ
 testsNow s [] = good 0
 testsNow s (e ∷ es) = then (tested s (e .anchor)) (λ x. testsNow s es)
 
@@ -241,18 +241,18 @@ then-same : {A B : Type 0} (o : Out A) (f g : A → Out B) → ((a : A) → o �
 then-same (bad r) f g h = refl
 then-same (good a) f g h = h a refl
 
-now-mark : (s : Store) → Wf s → (e : Enqueued) → Anchored s e → Tested s (e .anchor) → (low : ℕ) (es : List Enqueued) → roundAt s (e .anchor) ≤ low → Rising s low es → testsNow (committedAt s e) es ≡ testsNow s es
+now-mark : (s : Store) → Wf s → (e : EnqueuedAnchor) → Anchored s e → Tested s (e .anchor) → (low : ℕ) (es : List EnqueuedAnchor) → roundAt s (e .anchor) ≤ low → Rising s low es → testsNow (dequeued s e) es ≡ testsNow s es
 unfolding testsNow
 now-mark s w e x c low [] l r = refl
 now-mark s w e x c low (f ∷ es) l (u, y, r) = λ i. then (tested-mark s w e x c (f .anchor) (resolved-named _ (y .anchor-done)) (le-trans l u) i) (λ z. now-mark s w e x c (suc (roundAt s (f .anchor))) es (omega arith) r i)
 
 -- both come out the same
-pub tests-now : (s : Store) → Wf s → (low : ℕ) (es : List Enqueued) → Rising s low es → testsNow s es ≡ tests s es
+pub tests-now : (s : Store) → Wf s → (low : ℕ) (es : List EnqueuedAnchor) → Rising s low es → testsNow s es ≡ tests s es
 unfolding testsNow tests
 tests-now s w low [] r = refl
 tests-now s w low (e ∷ es) (u, x, r) = then-same (tested s (e .anchor)) _ _ (λ a h.
     let c : Tested s (e .anchor) = tested-good s (e .anchor) a h in
-    sym (now-mark s w e x c (suc (roundAt s (e .anchor))) es (omega arith) r) ∙ tests-now (committedAt s e) (mark-kept s w e x c) (suc (roundAt s (e .anchor))) es (rising-mark s e _ es r))
+    sym (now-mark s w e x c (suc (roundAt s (e .anchor))) es (omega arith) r) ∙ tests-now (dequeued s e) (mark-kept s w e x c) (suc (roundAt s (e .anchor))) es (rising-mark s e _ es r))
 
 -- ---- the outlook's tests
 
@@ -263,13 +263,13 @@ outlook-length s a =
     ∙ rw (length-append (be 4 (idAt s a .round)) (be 1 (idAt s a .author) ++ be 32 (idAt s a .digest)), length-append (be 1 (idAt s a .author)) (be 32 (idAt s a .digest)), be-length 4 (idAt s a .round), be-length 1 (idAt s a .author), be-length 32 (idAt s a .digest), be-length 4 (length (history s a))) refl
 
 -- with room for all anchors: refused as its tests say, else their bytes
-pub outlook-is : (s : Store) (left : ℕ) (es : List Enqueued) → length es * 41 ≤ left → outlookAll s left es ≡ then (testsNow s es) (λ x. good (joined (λ (e : Enqueued). outlookBytes s (e .anchor)) es))
+pub outlook-is : (s : Store) (left : ℕ) (es : List EnqueuedAnchor) → length es * 41 ≤ left → outlookAll s left es ≡ then (testsNow s es) (λ x. good (joined (λ (e : EnqueuedAnchor). outlookBytes s (e .anchor)) es))
 unfolding outlookAll testsNow joined
 outlook-is s left [] l = refl
 outlook-is s left (e ∷ es) l = go (tested s (e .anchor)) (outlook-is s (left - length (outlookBytes s (e .anchor))) es (rw (outlook-length s (e .anchor)) (omega arith)))
   where
     all : List ℕ
-    all = joined (λ (f : Enqueued). outlookBytes s (f .anchor)) es
+    all = joined (λ (f : EnqueuedAnchor). outlookBytes s (f .anchor)) es
 
     last : (o : Out ℕ) → then (then o (λ x. good all)) (λ rest. good (outlookBytes s (e .anchor) ++ rest)) ≡ then o (λ x. good (outlookBytes s (e .anchor) ++ all))
     last (bad r) = refl
@@ -300,7 +300,7 @@ unfolding numberOf
 other-number n r f e = f (ap numberOf (sym e))
 
 -- with any room: but for 21, refused as its tests say
-pub outlook-bad : (s : Store) (left : ℕ) (es : List Enqueued) (r : Refusal) → numberOf r ≢ 21 → outlookAll s left es ≡ bad r → testsNow s es ≡ bad r
+pub outlook-bad : (s : Store) (left : ℕ) (es : List EnqueuedAnchor) (r : Refusal) → numberOf r ≢ 21 → outlookAll s left es ≡ bad r → testsNow s es ≡ bad r
 unfolding outlookAll testsNow
 outlook-bad s left [] r n h = absurd (not-good r _ (sym h))
 outlook-bad s left (e ∷ es) r n h =
@@ -314,35 +314,35 @@ outlook-bad s left (e ∷ es) r n h =
 -- ---- the commit's tests
 
 -- the bytes of a chain's records
-unfoldable pub roomFor : Store → List Enqueued → ℕ
+unfoldable pub roomFor : Store → List EnqueuedAnchor → ℕ
 roomFor s [] = 0
-roomFor s (e ∷ es) = length (recordBytes s e) + roomFor (committedAt s e) es
+roomFor s (e ∷ es) = length (recordBytes s e) + roomFor (dequeued s e) es
 
 test-bad : (s : Store) (left size a : ℕ) (r : Refusal) → tested s a ≡ bad r → testAnchor s left size a ≡ bad r
 unfolding testAnchor
 test-bad s left size a r h = rw h refl
 
 -- the first anchor is refused
-commit-stop : (s : Store) (b : List ℕ) (at n : ℕ) (e : Enqueued) (es : List Enqueued) (r : Refusal) → testAnchor s (length b - at) (length (recordBytes s e)) (e .anchor) ≡ bad r → commitAll s b at n (e ∷ es) .stopped ≡ some r
+commit-stop : (s : Store) (b : List ℕ) (at n : ℕ) (e : EnqueuedAnchor) (es : List EnqueuedAnchor) (r : Refusal) → testAnchor s (length b - at) (length (recordBytes s e)) (e .anchor) ≡ bad r → commitAll s b at n (e ∷ es) .stopped ≡ some r
 unfolding commitAll
 commit-stop s b at n e es r h = rw (h, commitAll) refl
 
 -- once put, the gap question stays put
-still-put : (s : Store) (e : Enqueued) → isWaiting (s .progress .gap) ≡ false → isWaiting (committedAt s e .progress .gap) ≡ false
-unfolding committedAt gapAfter isWaiting
-still-put s e g = byTest (isFirst s (e .anchor)) (λ t. rw t refl) (λ f. rw f g)
+still-put : (s : Store) (e : EnqueuedAnchor) → gapPending (s .progress .gap) ≡ false → gapPending (dequeued s e .progress .gap) ≡ false
+unfolding dequeued gapAfter gapPending
+still-put s e g = byTest (isFirstExecutable s (e .anchor)) (λ t. rw t refl) (λ f. rw f g)
 
 abbrev stop : Out ℕ → Option Refusal
 stop (bad r) = some r
 stop (good x) = none
 
-commit-ends : (s : Store) (es : List Enqueued) → isWaiting (s .progress .gap) ≡ false → (b : List ℕ) (at n : ℕ) → at + roomFor s es ≤ length b → commitAll s b at n es .stopped ≡ stop (tests s es)
+commit-ends : (s : Store) (es : List EnqueuedAnchor) → gapPending (s .progress .gap) ≡ false → (b : List ℕ) (at n : ℕ) → at + roomFor s es ≤ length b → commitAll s b at n es .stopped ≡ stop (tests s es)
 unfolding commitAll tests roomFor
 commit-ends s [] g b at n l = refl
-commit-ends s (e ∷ es) g b at n l = go (tested s (e .anchor)) refl (commit-ends (committedAt s e) es (still-put s e g) (written b at (recordBytes s e)) (at + length (recordBytes s e)) (suc n) (rw (written-length b at (recordBytes s e)) (omega arith)))
+commit-ends s (e ∷ es) g b at n l = go (tested s (e .anchor)) refl (commit-ends (dequeued s e) es (still-put s e g) (written b at (recordBytes s e)) (at + length (recordBytes s e)) (suc n) (rw (written-length b at (recordBytes s e)) (omega arith)))
   where
-    go : (o : Out ℕ) → tested s (e .anchor) ≡ o → commitAll (committedAt s e) (written b at (recordBytes s e)) (at + length (recordBytes s e)) (suc n) es .stopped ≡ stop (tests (committedAt s e) es)
-        → commitAll s b at n (e ∷ es) .stopped ≡ stop (then o (λ x. tests (committedAt s e) es))
+    go : (o : Out ℕ) → tested s (e .anchor) ≡ o → commitAll (dequeued s e) (written b at (recordBytes s e)) (at + length (recordBytes s e)) (suc n) es .stopped ≡ stop (tests (dequeued s e) es)
+        → commitAll s b at n (e ∷ es) .stopped ≡ stop (then o (λ x. tests (dequeued s e) es))
     go (bad r) h i = commit-stop s b at n e es r (test-bad s (length b - at) (length (recordBytes s e)) (e .anchor) r h)
     go (good a) h i = ap (λ f. f .stopped) (commit-step s b at n e es (e .anchor) (test-back s (length b - at) (length (recordBytes s e)) (e .anchor) (tested-good s (e .anchor) a h) g (omega arith))) ∙ i
 
@@ -351,60 +351,60 @@ none-some x h = let z : _≡_ {A = ℕ} 0 1 = cc in omega arith
 
 test-cases : (s : Store) (left size a : ℕ) (r : Refusal) → numberOf r ≢ 20 → numberOf r ≢ 21 → testAnchor s left size a ≡ bad r → tested s a ≡ bad r
 unfolding testAnchor
-test-cases s left size a r f g h = ⊎-elim (λ u. u) (λ (x, u, k). ⊎-elim (λ m. absurd (other-number 20 r f m)) (λ j. ⊎-elim (λ m. absurd (other-number 21 r g m)) (λ i. absurd (not-good r a (sym i))) (refuse-bad (ltb left size) 21 (good a) r j)) (refuse-bad (isWaiting (s .progress .gap)) 20 _ r k)) (then-bad (tested s a) _ r h)
+test-cases s left size a r f g h = ⊎-elim (λ u. u) (λ (x, u, k). ⊎-elim (λ m. absurd (other-number 20 r f m)) (λ j. ⊎-elim (λ m. absurd (other-number 21 r g m)) (λ i. absurd (not-good r a (sym i))) (refuse-bad (ltb left size) 21 (good a) r j)) (refuse-bad (gapPending (s .progress .gap)) 20 _ r k)) (then-bad (tested s a) _ r h)
 
-commit-stopped : (s : Store) (es : List Enqueued) (b : List ℕ) (at n : ℕ) (r : Refusal) → numberOf r ≢ 20 → numberOf r ≢ 21 → commitAll s b at n es .stopped ≡ some r → tests s es ≡ bad r
+commit-stopped : (s : Store) (es : List EnqueuedAnchor) (b : List ℕ) (at n : ℕ) (r : Refusal) → numberOf r ≢ 20 → numberOf r ≢ 21 → commitAll s b at n es .stopped ≡ some r → tests s es ≡ bad r
 unfolding commitAll tests
 commit-stopped s [] b at n r f g h = absurd (none-some r h)
-commit-stopped s (e ∷ es) b at n r f g h = go (testAnchor s (length b - at) (length (recordBytes s e)) (e .anchor)) refl h (commit-stopped (committedAt s e) es (written b at (recordBytes s e)) (at + length (recordBytes s e)) (suc n) r f g)
+commit-stopped s (e ∷ es) b at n r f g h = go (testAnchor s (length b - at) (length (recordBytes s e)) (e .anchor)) refl h (commit-stopped (dequeued s e) es (written b at (recordBytes s e)) (at + length (recordBytes s e)) (suc n) r f g)
   where
     res : Out ℕ → Finished
     res o = elim o [
       | bad m ↦ record { store = s; buffer = b; anchors = n; stopped = some m }
-      | good z ↦ commitAll (committedAt s e) (written b at (recordBytes s e)) (at + length (recordBytes s e)) (suc n) es
+      | good z ↦ commitAll (dequeued s e) (written b at (recordBytes s e)) (at + length (recordBytes s e)) (suc n) es
     ]
 
-    go : (o : Out ℕ) → testAnchor s (length b - at) (length (recordBytes s e)) (e .anchor) ≡ o → res o .stopped ≡ some r → (res (good 0) .stopped ≡ some r → tests (committedAt s e) es ≡ bad r)
-        → then (tested s (e .anchor)) (λ x. tests (committedAt s e) es) ≡ bad r
+    go : (o : Out ℕ) → testAnchor s (length b - at) (length (recordBytes s e)) (e .anchor) ≡ o → res o .stopped ≡ some r → (res (good 0) .stopped ≡ some r → tests (dequeued s e) es ≡ bad r)
+        → then (tested s (e .anchor)) (λ x. tests (dequeued s e) es) ≡ bad r
     go (bad m) c k i = rw (test-cases s _ _ (e .anchor) r f g (c ∙ ap bad (Option·some-injective m r k))) refl
-    go (good a) c k i = let (x, u, j) = then-good (tested s (e .anchor)) (λ x. refuse (isWaiting (s .progress .gap)) 20 (refuse (ltb (length b - at) (length (recordBytes s e))) 21 (good (e .anchor)))) a (unfold testAnchor in c) in rw u (i k)
+    go (good a) c k i = let (x, u, j) = then-good (tested s (e .anchor)) (λ x. refuse (gapPending (s .progress .gap)) 20 (refuse (ltb (length b - at) (length (recordBytes s e))) 21 (good (e .anchor)))) a (unfold testAnchor in c) in rw u (i k)
 
 -- ---- the calls
 
 -- room for all records that a commit of this trigger writes
 abbrev pub Holds : Store → Id → List ℕ → Type 0
-Holds s i b = (es : List Enqueued) → anchorsOf s i ≡ good es → roomFor s es ≤ length b
+Holds s i b = (es : List EnqueuedAnchor) → anchorsOf s i ≡ good es → roomFor s es ≤ length b
 
 -- room for all that an outlook of this trigger writes: 41 bytes an anchor
 abbrev pub Shows : Store → Id → List ℕ → Type 0
-Shows s i b = (es : List Enqueued) → anchorsOf s i ≡ good es → length es * 41 ≤ length b
+Shows s i b = (es : List EnqueuedAnchor) → anchorsOf s i ≡ good es → length es * 41 ≤ length b
 
 same-refused : (r q : Refusal) (m n : ℕ) → refused r m ≡ refused q n → r ≡ q
 same-refused r q m n h = cc
 
-not-refused : (r : Refusal) (m n : ℕ) → handed m ≡ refused r n → ⊥
+not-refused : (r : Refusal) (m n : ℕ) → anchors m ≡ refused r n → ⊥
 not-refused r m n h = let z : _≡_ {A = ℕ} 0 1 = cc in omega arith
 
 -- refused by the walk, or after it by r
-abbrev Refuses : Store → Id → (List Enqueued → Type 0) → Refusal → Type 0
-Refuses s i P r = (anchorsOf s i ≡ bad r) ⊎ ((es : List Enqueued) × (anchorsOf s i ≡ good es) × P es)
+abbrev Refuses : Store → Id → (List EnqueuedAnchor → Type 0) → Refusal → Type 0
+Refuses s i P r = (anchorsOf s i ≡ bad r) ⊎ ((es : List EnqueuedAnchor) × (anchorsOf s i ≡ good es) × P es)
 
 -- an outlook that is refused
 outlook-was : (s : Store) (i : Id) (b : List ℕ) (r : Refusal) (n : ℕ) → doOutlook s i b .answer ≡ refused r n → Refuses s i (λ es. outlookAll s (length b) es ≡ bad r) r
 unfolding doOutlook
 outlook-was s i b r n h = go (anchorsOf s i) refl h
   where
-    shown : List Enqueued → Out (List ℕ) → Outcome
-    shown es o = elim o [ bad q ↦ record { answer = refused q 0; store = s; buffer = b } | good bytes ↦ record { answer = handed (length es); store = s; buffer = written b 0 bytes } ]
+    shown : List EnqueuedAnchor → Out (List ℕ) → Outcome
+    shown es o = elim o [ bad q ↦ record { answer = refused q 0; store = s; buffer = b } | good bytes ↦ record { answer = anchors (length es); store = s; buffer = written b 0 bytes } ]
 
-    does : Out (List Enqueued) → Outcome
+    does : Out (List EnqueuedAnchor) → Outcome
     does o = elim o [ bad q ↦ record { answer = refused q 0; store = s; buffer = b } | good es ↦ shown es (outlookAll s (length b) es) ]
 
-    on : (es : List Enqueued) → anchorsOf s i ≡ good es → (o : Out (List ℕ)) → outlookAll s (length b) es ≡ o → shown es o .answer ≡ refused r n → Refuses s i (λ es. outlookAll s (length b) es ≡ bad r) r
+    on : (es : List EnqueuedAnchor) → anchorsOf s i ≡ good es → (o : Out (List ℕ)) → outlookAll s (length b) es ≡ o → shown es o .answer ≡ refused r n → Refuses s i (λ es. outlookAll s (length b) es ≡ bad r) r
     on es u (bad q) v k = inr (es, u, v ∙ ap bad (same-refused q r 0 n k))
     on es u (good bytes) v k = absurd (not-refused r (length es) n k)
 
-    go : (o : Out (List Enqueued)) → anchorsOf s i ≡ o → does o .answer ≡ refused r n → Refuses s i (λ es. outlookAll s (length b) es ≡ bad r) r
+    go : (o : Out (List EnqueuedAnchor)) → anchorsOf s i ≡ o → does o .answer ≡ refused r n → Refuses s i (λ es. outlookAll s (length b) es ≡ bad r) r
     go (bad q) u k = inl (u ∙ ap bad (same-refused q r 0 n k))
     go (good es) u k = on es u (outlookAll s (length b) es) refl k
 
@@ -418,7 +418,7 @@ unfolding commitEnd
 refused-end f r n h = go (f .stopped) refl h
   where
     ends : Option Refusal → Answer
-    ends none = handed (f .anchors)
+    ends none = anchors (f .anchors)
     ends (some q) = refused q (f .anchors)
 
     go : (o : Option Refusal) → f .stopped ≡ o → ends o ≡ refused r n → f .stopped ≡ some r
@@ -430,10 +430,10 @@ commit-was : (s : Store) (i : Id) (b : List ℕ) (r : Refusal) (n : ℕ) → doC
 unfolding doCommit
 commit-was s i b r n h = go (anchorsOf s i) refl h
   where
-    does : Out (List Enqueued) → Outcome
+    does : Out (List EnqueuedAnchor) → Outcome
     does o = elim o [ bad q ↦ record { answer = refused q 0; store = s; buffer = b } | good es ↦ commitEnd (commitAll s b 0 0 es) ]
 
-    go : (o : Out (List Enqueued)) → anchorsOf s i ≡ o → does o .answer ≡ refused r n → Refuses s i (λ es. commitAll s b 0 0 es .stopped ≡ some r) r
+    go : (o : Out (List EnqueuedAnchor)) → anchorsOf s i ≡ o → does o .answer ≡ refused r n → Refuses s i (λ es. commitAll s b 0 0 es .stopped ≡ some r) r
     go (bad q) u k = inl (u ∙ ap bad (same-refused q r 0 n k))
     go (good es) u k = inr (es, u, refused-end (commitAll s b 0 0 es) r n k)
 
@@ -447,15 +447,15 @@ stop-bad (bad q) r h = ap bad (Option·some-injective q r h)
 stop-bad (good x) r h = absurd (none-some r h)
 
 -- the same anchors, tested by the marks now and as a commit goes on
-same-tests : (s : Store) → Wf s → (i : Id) (es : List Enqueued) → anchorsOf s i ≡ good es → testsNow s es ≡ tests s es
+same-tests : (s : Store) → Wf s → (i : Id) (es : List EnqueuedAnchor) → anchorsOf s i ≡ good es → testsNow s es ≡ tests s es
 same-tests s w i es u = tests-now s w _ es (anchors-rising s w i es u)
 
 outlook-call : (s : Store) → Wf s → (i : Id) (b : List ℕ) → call s (outlook i b) ≡ doOutlook s i b
-unfolding act
-outlook-call s w i b = call-act s w (outlook i b)
+unfolding perform
+outlook-call s w i b = call-perform s w (outlook i b)
 
 -- an outlook refused by another number than 21: so is the commit, once the gap question is put, into a buffer that holds its records
-pub outlook→commit : (s : Store) → Wf s → (i : Id) (b c : List ℕ) → isWaiting (s .progress .gap) ≡ false → Holds s i c → (r : Refusal) (n : ℕ) → numberOf r ≢ 21
+pub outlook→commit : (s : Store) → Wf s → (i : Id) (b c : List ℕ) → gapPending (s .progress .gap) ≡ false → Holds s i c → (r : Refusal) (n : ℕ) → numberOf r ≢ 21
     → call s (outlook i b) .answer ≡ refused r n → (m : ℕ) × (call s (commit i c) .answer ≡ refused r m)
 outlook→commit s w i b c g room r n f h =
     subst (λ (o : Outcome). (m : ℕ) × (o .answer ≡ refused r m)) (sym (commit-is s w i c)) (commit-now s i c r
@@ -471,7 +471,7 @@ commit→outlook s w i b c room r m f g h =
     (commit-was s i c r m (ap (λ (o : Outcome). o .answer) (sym (commit-is s w i c)) ∙ h)))
 
 -- with room for both answers and the gap question put: the outlook is refused exactly as the commit is
-pub outlook-exact : (s : Store) → Wf s → (i : Id) (b c : List ℕ) → Shows s i b → isWaiting (s .progress .gap) ≡ false → Holds s i c
+pub outlook-exact : (s : Store) → Wf s → (i : Id) (b c : List ℕ) → Shows s i b → gapPending (s .progress .gap) ≡ false → Holds s i c
     → (r : Refusal) → (call s (outlook i b) .answer ≡ refused r 0) ↔ ((m : ℕ) × (call s (commit i c) .answer ≡ refused r m))
 outlook-exact s w i b c shows g holds r = (there, back)
   where

@@ -12,8 +12,8 @@ use Rattle.laws.specs.Lists.{joined}
 use Rattle.laws.specs.Bytes.{be, be-length, value, value-be-fits, written, written-length, written-is}
 use Rattle.spec.specs.Ids.{Id, idBytes}
 use Rattle.spec.specs.Store.{Store, idAt}
-use Rattle.spec.specs.Chain.{Out, bad, good, Enqueued}
-use Rattle.spec.specs.History.{history, isExecutable, prevAnchor, recordBytes, testAnchor, committedAt, Finished, commitAll}
+use Rattle.spec.specs.Chain.{Out, bad, good, EnqueuedAnchor}
+use Rattle.spec.specs.History.{history, isExecutable, prevAnchor, recordBytes, testAnchor, dequeued, Finished, commitAll}
 use Rattle.spec.specs.Demand.{readId, readIds, History, readRecords}
 use Rattle.spec.specs.Walk.{test-good}
 
@@ -79,10 +79,10 @@ read-ids (x ∷ xs) f rest =
 -- ---- records
 
 -- before the number of points
-headBytes : Store → Enqueued → List ℕ
+headBytes : Store → EnqueuedAnchor → List ℕ
 headBytes s e = idBytes (idAt s (e .anchor)) ++ (idBytes (idAt s (e .proof)) ++ (be 1 (cond (isExecutable s (e .anchor)) 1 0) ++ be 4 (prevAnchor s e)))
 
-head-length : (s : Store) (e : Enqueued) → length (headBytes s e) ≡ 79
+head-length : (s : Store) (e : EnqueuedAnchor) → length (headBytes s e) ≡ 79
 unfolding headBytes
 head-length s e =
     length-append (idBytes (idAt s (e .anchor))) _
@@ -92,7 +92,7 @@ five-parts : (a b c d e : List ℕ) → a ++ (b ++ (c ++ (d ++ e))) ≡ (a ++ (b
 five-parts a b c d e =
     ap (λ (l : List ℕ). a ++ (b ++ l)) (sym (append-assoc c d e)) ∙ (ap (λ (l : List ℕ). a ++ l) (sym (append-assoc b (c ++ d) e)) ∙ sym (append-assoc a (b ++ (c ++ d)) e))
 
-record-shape : (s : Store) (e : Enqueued) (rest : List ℕ) → recordBytes s e ++ rest ≡ headBytes s e ++ (be 4 (length (history s (e .anchor))) ++ (joined idBytes (history s (e .anchor)) ++ rest))
+record-shape : (s : Store) (e : EnqueuedAnchor) (rest : List ℕ) → recordBytes s e ++ rest ≡ headBytes s e ++ (be 4 (length (history s (e .anchor))) ++ (joined idBytes (history s (e .anchor)) ++ rest))
 unfolding recordBytes headBytes
 record-shape s e rest =
     ap (λ (l : List ℕ). l ++ rest) (five-parts (idBytes (idAt s (e .anchor))) (idBytes (idAt s (e .proof))) (be 1 (cond (isExecutable s (e .anchor)) 1 0)) (be 4 (prevAnchor s e)) (be 4 (length (history s (e .anchor))) ++ joined idBytes (history s (e .anchor))))
@@ -100,15 +100,15 @@ record-shape s e rest =
     ∙ ap (λ (l : List ℕ). headBytes s e ++ l) (append-assoc (be 4 (length (history s (e .anchor)))) (joined idBytes (history s (e .anchor))) rest))
 
 -- the record begins with the anchor's id
-record-anchor : (s : Store) (e : Enqueued) (rest : List ℕ) → (l : List ℕ) × (recordBytes s e ++ rest ≡ idBytes (idAt s (e .anchor)) ++ l)
+record-anchor : (s : Store) (e : EnqueuedAnchor) (rest : List ℕ) → (l : List ℕ) × (recordBytes s e ++ rest ≡ idBytes (idAt s (e .anchor)) ++ l)
 unfolding recordBytes
 record-anchor s e rest = (_, append-assoc (idBytes (idAt s (e .anchor))) _ rest)
 
 -- what is read back: the anchor and the history
-abbrev pub readAs : Store → Store → Enqueued → History
+abbrev pub readAs : Store → Store → EnqueuedAnchor → History
 readAs at s e = record { at = at; anchor = idAt s (e .anchor); ids = history s (e .anchor) }
 
-pub read-record : (at s : Store) (e : Enqueued) (n : ℕ) (rest : List ℕ) → Fits (idAt s (e .anchor)) → ((x : Id) → List·Memᴰ x (history s (e .anchor)) → Fits x) → length (history s (e .anchor)) < 256 ^ 4
+pub read-record : (at s : Store) (e : EnqueuedAnchor) (n : ℕ) (rest : List ℕ) → Fits (idAt s (e .anchor)) → ((x : Id) → List·Memᴰ x (history s (e .anchor)) → Fits x) → length (history s (e .anchor)) < 256 ^ 4
     → readRecords at (suc n) (recordBytes s e ++ rest) ≡ readAs at s e ∷ readRecords at n rest
 unfolding readRecords
 read-record at s e n rest fa fs few = λ i. record { at = at; anchor = who i; ids = ids i } ∷ readRecords at n (tail i)
@@ -145,14 +145,14 @@ read-record at s e n rest fa fs few = λ i. record { at = at; anchor = who i; id
 -- an anchor that was finished, with the store that it was committed from
 pub record Event : Type 0 where
   pub from : Store
-  pub enq : Enqueued
+  pub enq : EnqueuedAnchor
 
 -- the anchors of a chain that pass their tests, with this many bytes of the buffer left
-unfoldable pub passed : Store → ℕ → List Enqueued → List Event
+unfoldable pub passed : Store → ℕ → List EnqueuedAnchor → List Event
 passed s left [] = []
 passed s left (e ∷ es) = elim (testAnchor s left (length (recordBytes s e)) (e .anchor)) [
   | bad r ↦ []
-  | good a ↦ record { from = s; enq = e } ∷ passed (committedAt s e) (left - length (recordBytes s e)) es
+  | good a ↦ record { from = s; enq = e } ∷ passed (dequeued s e) (left - length (recordBytes s e)) es
 ]
 
 abbrev pub bytesOf : Event → List ℕ
@@ -168,11 +168,11 @@ pub room-left : (b at n size : ℕ) → n ≡ b → b - at - size ≡ n - (at + 
 room-left b at n size e = omega arith
 
 -- the buffer after a commit: what stood before `at`, the records of the finished anchors, and a rest; and how many were finished
-pub commit-buffer : (s : Store) (b : List ℕ) (at n : ℕ) (es : List Enqueued) → at ≤ length b
+pub commit-buffer : (s : Store) (b : List ℕ) (at n : ℕ) (es : List EnqueuedAnchor) → at ≤ length b
     → (rest : List ℕ) × (commitAll s b at n es .buffer ≡ take at b ++ (joined bytesOf (passed s (length b - at) es) ++ rest)) × (commitAll s b at n es .anchors ≡ n + length (passed s (length b - at) es))
 unfolding commitAll passed joined
 commit-buffer s b at n [] l = (drop at b, sym (take-append-drop at b), sym (add-zero n))
-commit-buffer s b at n (e ∷ es) l = go (testAnchor s (length b - at) (length (recordBytes s e)) (e .anchor)) refl (λ b at n. commit-buffer (committedAt s e) b at n es)
+commit-buffer s b at n (e ∷ es) l = go (testAnchor s (length b - at) (length (recordBytes s e)) (e .anchor)) refl (λ b at n. commit-buffer (dequeued s e) b at n es)
   where
     vs : List ℕ
     vs = recordBytes s e
@@ -180,15 +180,15 @@ commit-buffer s b at n (e ∷ es) l = go (testAnchor s (length b - at) (length (
     fin : Out ℕ → Finished
     fin o = elim o [
       | bad r ↦ record { store = s; buffer = b; anchors = n; stopped = some r }
-      | good a ↦ commitAll (committedAt s e) (written b at vs) (at + length vs) (suc n) es
+      | good a ↦ commitAll (dequeued s e) (written b at vs) (at + length vs) (suc n) es
     ]
 
     evs : Out ℕ → List Event
-    evs o = elim o [ bad r ↦ [] | good a ↦ record { from = s; enq = e } ∷ passed (committedAt s e) (length b - at - length vs) es ]
+    evs o = elim o [ bad r ↦ [] | good a ↦ record { from = s; enq = e } ∷ passed (dequeued s e) (length b - at - length vs) es ]
 
     go : (o : Out ℕ) → testAnchor s (length b - at) (length vs) (e .anchor) ≡ o
         → ((b : List ℕ) (at n : ℕ) → at ≤ length b
-        → (rest : List ℕ) × (commitAll (committedAt s e) b at n es .buffer ≡ take at b ++ (joined bytesOf (passed (committedAt s e) (length b - at) es) ++ rest)) × (commitAll (committedAt s e) b at n es .anchors ≡ n + length (passed (committedAt s e) (length b - at) es)))
+        → (rest : List ℕ) × (commitAll (dequeued s e) b at n es .buffer ≡ take at b ++ (joined bytesOf (passed (dequeued s e) (length b - at) es) ++ rest)) × (commitAll (dequeued s e) b at n es .anchors ≡ n + length (passed (dequeued s e) (length b - at) es)))
         → (rest : List ℕ) × (fin o .buffer ≡ take at b ++ (joined bytesOf (evs o) ++ rest)) × (fin o .anchors ≡ n + length (evs o))
     go (bad r) h i = (drop at b, sym (take-append-drop at b), sym (add-zero n))
     go (good a) h i = (rest, buf, count)
@@ -199,22 +199,22 @@ commit-buffer s b at n (e ∷ es) l = go (testAnchor s (length b - at) (length (
         same : length b - at - length vs ≡ length (written b at vs) - (at + length vs)
         same = room-left (length b) at (length (written b at vs)) (length vs) (written-length b at vs)
 
-        ih : (rest : List ℕ) × (commitAll (committedAt s e) (written b at vs) (at + length vs) (suc n) es .buffer ≡ take (at + length vs) (written b at vs) ++ (joined bytesOf (passed (committedAt s e) (length (written b at vs) - (at + length vs)) es) ++ rest))
-            × (commitAll (committedAt s e) (written b at vs) (at + length vs) (suc n) es .anchors ≡ suc n + length (passed (committedAt s e) (length (written b at vs) - (at + length vs)) es))
+        ih : (rest : List ℕ) × (commitAll (dequeued s e) (written b at vs) (at + length vs) (suc n) es .buffer ≡ take (at + length vs) (written b at vs) ++ (joined bytesOf (passed (dequeued s e) (length (written b at vs) - (at + length vs)) es) ++ rest))
+            × (commitAll (dequeued s e) (written b at vs) (at + length vs) (suc n) es .anchors ≡ suc n + length (passed (dequeued s e) (length (written b at vs) - (at + length vs)) es))
         ih = i (written b at vs) (at + length vs) (suc n) (subst (λ k. at + length vs ≤ k) (sym (written-length b at vs)) fit)
 
         rest : List ℕ
         rest = ih .0
 
         tailEvents : List Event
-        tailEvents = passed (committedAt s e) (length b - at - length vs) es
+        tailEvents = passed (dequeued s e) (length b - at - length vs) es
 
-        buf : commitAll (committedAt s e) (written b at vs) (at + length vs) (suc n) es .buffer ≡ take at b ++ ((vs ++ joined bytesOf tailEvents) ++ rest)
-        buf = ih .1 ∙ (ap₂ _++_ (take-more b at vs fit) (ap (λ k. joined bytesOf (passed (committedAt s e) k es) ++ rest) (sym same))
+        buf : commitAll (dequeued s e) (written b at vs) (at + length vs) (suc n) es .buffer ≡ take at b ++ ((vs ++ joined bytesOf tailEvents) ++ rest)
+        buf = ih .1 ∙ (ap₂ _++_ (take-more b at vs fit) (ap (λ k. joined bytesOf (passed (dequeued s e) k es) ++ rest) (sym same))
             ∙ (append-assoc (take at b) vs (joined bytesOf tailEvents ++ rest) ∙ ap (λ (l : List ℕ). take at b ++ l) (sym (append-assoc vs (joined bytesOf tailEvents) rest))))
 
-        count : commitAll (committedAt s e) (written b at vs) (at + length vs) (suc n) es .anchors ≡ n + suc (length tailEvents)
-        count = ih .2 ∙ (ap (λ k. suc n + length (passed (committedAt s e) k es)) (sym same) ∙ shift n (length tailEvents))
+        count : commitAll (dequeued s e) (written b at vs) (at + length vs) (suc n) es .anchors ≡ n + suc (length tailEvents)
+        count = ih .2 ∙ (ap (λ k. suc n + length (passed (dequeued s e) k es)) (sym same) ∙ shift n (length tailEvents))
           where
             shift : (n m : ℕ) → suc n + m ≡ n + suc m
             shift n m = omega arith

@@ -12,8 +12,8 @@ use Rattle.spec.specs.Ids.{Id}
 use Rattle.spec.specs.Store.{Store, roundAt, statusAt, previous, find, resolved}
 use Rattle.spec.specs.Paths.{certified}
 use Rattle.spec.specs.Rules.{isPeer}
-use Rattle.spec.specs.Chain.{Refusal, number, conflict, Out, bad, good, then, refuse, usableInWalk, usableInHistory, verdict, judged, needInWalk, Enqueued, Onward, enqueue, toAnchor, toPrevious, atProof, atUsed, visit, walk, unlinked, lowestWalked, emptyWalk, checkOldest, chainFrom, chain, triggerConflict, triggered, placeOf, anchorsOf}
-use Rattle.spec.specs.History.{tested, isFlat, roundsMissing, firstFault, faults, outlookBytes, outlookAll}
+use Rattle.spec.specs.Chain.{Refusal, number, conflict, Out, bad, good, then, refuse, usableInWalk, isCommittable, checkedAs, checked, readyValidPoint, EnqueuedAnchor, Onward, enqueue, toAnchor, toPrevious, atProof, atUsed, visit, walk, unlinked, lowestWalked, emptyWalk, checkOldest, chainFrom, chain, triggerConflict, filtered, placeOf, anchorsOf}
+use Rattle.spec.specs.History.{tested, anyUncertified, roundsMissing, firstFault, faults, outlookBytes, outlookAll}
 use Rattle.spec.specs.Calls.{round}
 use Rattle.spec.specs.Walk.{find-some}
 
@@ -66,25 +66,25 @@ module _ (F : Refusal → Type 0) (fine : (n : ℕ) → n ≢ 2 → n ≢ 20 →
       weaker (bad r) h = h
       weaker (good q) h = tt
 
-  verdict-sound : (a u c : Bool) (r q : ℕ) → Sound F (verdict a u c r q)
-  unfolding verdict
-  verdict-sound false u c r q = (fine 14 (omega arith) (omega arith))
-  verdict-sound true true c r q = tt
-  verdict-sound true false true r q = fine-conflict r
-  verdict-sound true false false r q = (fine 15 (omega arith) (omega arith))
+  checkedAs-sound : (a u c : Bool) (r q : ℕ) → Sound F (checkedAs a u c r q)
+  unfolding checkedAs
+  checkedAs-sound false u c r q = (fine 14 (omega arith) (omega arith))
+  checkedAs-sound true true c r q = tt
+  checkedAs-sound true false true r q = fine-conflict r
+  checkedAs-sound true false false r q = (fine 15 (omega arith) (omega arith))
 
-  need-sound : (s : Store) (i : Id) → Sound F (needInWalk s i)
-  unfolding needInWalk judged
+  need-sound : (s : Store) (i : Id) → Sound F (readyValidPoint s i)
+  unfolding readyValidPoint checked
   need-sound s i = go (find s i)
     where
-      go : (o : Option ℕ) → Sound F {A = ℕ} (elim o [ none ↦ bad (number 14) | some q ↦ judged s usableInWalk q ])
+      go : (o : Option ℕ) → Sound F {A = ℕ} (elim o [ none ↦ bad (number 14) | some q ↦ checked s usableInWalk q ])
       go none = (fine 14 (omega arith) (omega arith))
-      go (some q) = verdict-sound _ _ _ _ q
+      go (some q) = checkedAs-sound _ _ _ _ q
 
-  module _ (s : Store) (x : ℕ) (low : Bool) (below : Onward) (on : (i : Id) (acc : List Enqueued) → Sound F (below i acc)) (acc : List Enqueued) where
+  module _ (s : Store) (x : ℕ) (low : Bool) (below : Onward) (on : (i : Id) (acc : List EnqueuedAnchor) → Sound F (below i acc)) (acc : List EnqueuedAnchor) where
     anchor-sound : (p d : ℕ) → Sound F (toAnchor s x low below acc p d)
     unfolding toAnchor enqueue
-    anchor-sound p d = if-sound F low (good acc) _ tt (then-sound F (needInWalk s _) (enqueue s below acc p) (need-sound s _) (λ a. on _ _))
+    anchor-sound p d = if-sound F low (good acc) _ tt (then-sound F (readyValidPoint s _) (enqueue s below acc p) (need-sound s _) (λ a. on _ _))
 
     previous-sound : (p : ℕ) (o : Option ℕ) → Sound F (toPrevious s x low below acc p o)
     unfolding toPrevious
@@ -93,18 +93,18 @@ module _ (F : Refusal → Type 0) (fine : (n : ℕ) → n ≢ 2 → n ≢ 20 →
 
     proof-sound : (p : ℕ) → Sound F (atProof s x low below acc p)
     unfolding atProof
-    proof-sound p = if-sound F (s .pt p .told .proof) (toPrevious s x low below acc p (previous (s .pt p))) (bad (number 16)) (previous-sound p _) (fine 16 (omega arith) (omega arith))
+    proof-sound p = if-sound F (s .pt p .resolution .proof) (toPrevious s x low below acc p (previous (s .pt p))) (bad (number 16)) (previous-sound p _) (fine 16 (omega arith) (omega arith))
 
     used-sound : (i : Id) (o : Option ℕ) → Sound F (atUsed s x low below acc i o)
     unfolding atUsed
-    used-sound i none = then-sound F (needInWalk s i) (atProof s x low below acc) (need-sound s i) proof-sound
+    used-sound i none = then-sound F (readyValidPoint s i) (atProof s x low below acc) (need-sound s i) proof-sound
     used-sound i (some a) = if-sound F (eqb a (i .author)) (good acc) (bad (number 16)) tt (fine 16 (omega arith) (omega arith))
 
     visit-sound : (i : Id) → Sound F (visit s x low below i acc)
     unfolding visit
     visit-sound i = if-sound F (ltb (i .round) x) (below i acc) _ (on i acc) (if-sound F (ltb x (i .round)) (bad (number 16)) (atUsed s x low below acc i (s .rounds x .used)) (fine 16 (omega arith) (omega arith)) (used-sound i _))
 
-  walk-sound : (s : Store) (low k : ℕ) (i : Id) (acc : List Enqueued) → Sound F (walk s low k i acc)
+  walk-sound : (s : Store) (low k : ℕ) (i : Id) (acc : List EnqueuedAnchor) → Sound F (walk s low k i acc)
   unfolding walk
   walk-sound s low zero i acc = visit-sound s low true (λ i acc. good acc) (λ i acc. tt) acc i
   walk-sound s low (suc k) i acc = visit-sound s (low + suc k) false (walk s low k) (walk-sound s low k) acc i
@@ -116,31 +116,31 @@ module _ (F : Refusal → Type 0) (fine : (n : ℕ) → n ≢ 2 → n ≢ 20 →
       let low = lowestWalked s in
       then-sound F (walk s low _ _ []) (checkOldest low) (walk-sound s low _ _ []) (λ es. refuse-sound F (unlinked low es) 19 (good es) (fine 19 (omega arith) (omega arith)) tt)
 
-  triggered-sound : (s : Store) (t : ℕ) → Sound F (triggered s t)
-  unfolding triggered chain
-  triggered-sound s t =
+  filtered-sound : (s : Store) (t : ℕ) → Sound F (filtered s t)
+  unfolding filtered chain
+  filtered-sound s t =
       refuse-sound F (not (resolved (s .pt t))) 9 _ (fine 9 (omega arith) (omega arith)) (if-sound F (eqb (statusAt s t) 1) (chain s t) _
-      (if-sound F (not (s .pt t .told .trigger) || (eqb (roundAt s t) (s .conf .genesis) || emptyWalk s t)) (good []) (chainFrom s t (previous (s .pt t))) tt (chain-sound s t _))
+      (if-sound F (not (s .pt t .resolution .trigger) || (eqb (roundAt s t) (s .conf .genesis) || emptyWalk s t)) (good []) (chainFrom s t (previous (s .pt t))) tt (chain-sound s t _))
       (if-sound F (triggerConflict s t) (bad (conflict (roundAt s t))) _ (fine-conflict (roundAt s t)) (refuse-sound F (not (certified s t)) 15 (good []) (fine 15 (omega arith) (omega arith)) tt)))
 
   pub anchors-sound : (s : Store) (i : Id) → Sound F (anchorsOf s i)
   unfolding anchorsOf
   anchors-sound s i =
       refuse-sound F (leb 32 (i .author)) 5 _ (fine 5 (omega arith) (omega arith)) (if-sound F (ltb (i .round) (s .bottom)) (good []) _ tt
-      (refuse-sound F (ltb (s .top) (i .round)) 6 _ (fine 6 (omega arith) (omega arith)) (refuse-sound F (not (isPeer s i)) 5 _ (fine 5 (omega arith) (omega arith)) (then-sound F (placeOf s i) (triggered s) (place-sound s i) (triggered-sound s)))))
+      (refuse-sound F (ltb (s .top) (i .round)) 6 _ (fine 6 (omega arith) (omega arith)) (refuse-sound F (not (isPeer s i)) 5 _ (fine 5 (omega arith) (omega arith)) (then-sound F (placeOf s i) (filtered s) (place-sound s i) (filtered-sound s)))))
 
   first-sound : (s : Store) (l : List ℕ) → Sound F (firstFault s l)
-  unfolding firstFault judged
+  unfolding firstFault checked
   first-sound s [] = tt
-  first-sound s (q ∷ qs) = then-sound F (judged s usableInHistory q) (λ x. firstFault s qs) (verdict-sound _ _ _ _ q) (λ x. first-sound s qs)
+  first-sound s (q ∷ qs) = then-sound F (checked s isCommittable q) (λ x. firstFault s qs) (checkedAs-sound _ _ _ _ q) (λ x. first-sound s qs)
 
   pub tested-sound : (s : Store) (a : ℕ) → Sound F (tested s a)
   unfolding tested faults
   tested-sound s a =
       refuse-sound F (leb (roundAt s a) (s .conf .genesis)) 22 _ (fine 22 (omega arith) (omega arith)) (then-sound F (faults s a) _ (first-sound s _)
-      (λ x. refuse-sound F (roundsMissing s a) 17 _ (fine 17 (omega arith) (omega arith)) (refuse-sound F (isFlat s a) 18 (good a) (fine 18 (omega arith) (omega arith)) tt)))
+      (λ x. refuse-sound F (roundsMissing s a) 17 _ (fine 17 (omega arith) (omega arith)) (refuse-sound F (anyUncertified s a) 18 (good a) (fine 18 (omega arith) (omega arith)) tt)))
 
-  pub outlook-sound : (s : Store) (left : ℕ) (es : List Enqueued) → Sound F (outlookAll s left es)
+  pub outlook-sound : (s : Store) (left : ℕ) (es : List EnqueuedAnchor) → Sound F (outlookAll s left es)
   unfolding outlookAll
   outlook-sound s left [] = tt
   outlook-sound s left (e ∷ es) =

@@ -11,7 +11,7 @@ use Rattle.spec.specs.Ids.{Id, Ref, Link, sameId, linksOf, fits}
 -- 01, parts.rs: "Resolving gives a status (1 valid, 2 trans-invalid, 3 invalid, 4 ill-formed, 5 not found), marks (proof,
 -- trigger, cause has a DAG round), the id of its top anchor proof, evidence as a peer set, and includes and witness".
 -- Status 0: named and not resolved.
-pub record Told : Type 0 where
+pub record Resolution : Type 0 where
   pub status : ℕ
   pub proof : Bool
   pub trigger : Bool
@@ -32,7 +32,7 @@ pub record Flags : Type 0 where
 pub record Point : Type 0 where
   pub named : Bool
   pub id : Id
-  pub told : Told
+  pub resolution : Resolution
   pub flags : Flags
 
 -- a retained round: its peers and the author of its used mark
@@ -46,7 +46,7 @@ pub record Entry : Type 0 where
   pub author : ℕ
   pub digest : ℕ
   pub previous : Option ℕ
-  pub owing : ℕ → Bool
+  pub unreferencedBy : ℕ → Bool
 
 pub record Memory : Type 0 where
   pub last : ℕ
@@ -92,7 +92,7 @@ pub record Store : Type 0 where
 abbrev pub noId : Id
 noId = record { round = 0; author = 0; digest = 0 }
 
-abbrev pub unresolved : Told
+abbrev pub unresolved : Resolution
 unresolved = record { status = 0; proof = false; trigger = false; cause = false; topProof = noId; evidence = 0; includes = []; witness = [] }
 
 abbrev pub noFlags : Flags
@@ -100,7 +100,7 @@ noFlags = record { top = false; started = false; completed = false; committed = 
 
 -- a free place
 abbrev pub free : Point
-free = record { named = false; id = noId; told = unresolved; flags = noFlags }
+free = record { named = false; id = noId; resolution = unresolved; flags = noFlags }
 
 abbrev pub noRound : Round
 noRound = record { peers = 0; used = none }
@@ -117,15 +117,15 @@ abbrev pub roundAt : Store → ℕ → ℕ
 roundAt s q = s .pt q .id .round
 
 abbrev pub statusAt : Store → ℕ → ℕ
-statusAt s q = s .pt q .told .status
+statusAt s q = s .pt q .resolution .status
 
 -- 01, 'Forms': "A future is a point *named* and later *resolved* once."
 unfoldable pub resolved : Point → Bool
-resolved p = p .named && ltb 0 (p .told .status)
+resolved p = p .named && ltb 0 (p .resolution .status)
 
 -- the links of a point, with their distances
 abbrev pub links : Point → List Link
-links p = linksOf (p .told .includes) (p .told .witness)
+links p = linksOf (p .resolution .includes) (p .resolution .witness)
 
 -- p is resolved, q is named, and a link of p leads to q
 unfoldable pub linksTo : Point → Point → Bool
@@ -148,7 +148,7 @@ under a [] = none
 under a (r ∷ rs) = elim (eqb (r .peer) a) [ true ↦ some (r .digest) | false ↦ under a rs ]
 
 abbrev pub previous : Point → Option ℕ
-previous p = under (p .id .author) (p .told .includes)
+previous p = under (p .id .author) (p .resolution .includes)
 
 -- 01, 'Forms': "the certificate word keeps its 16 bits: top 8000, started 4000, completed 2000, committed 1000 (hexadecimal), height
 -- in the low 12"

@@ -10,17 +10,17 @@ use native.Mathlib.Decide.{ℕ-discrete}
 use Rattle.laws.specs.Test.{byTest, both, and-l, and-r}
 use Rattle.laws.specs.Scan.{any-intro, any-elim}
 use Rattle.spec.specs.Store.{Store, roundAt, linksTo}
-use Rattle.spec.specs.Paths.{E}
+use Rattle.spec.specs.Paths.{LinkedTo}
 use Rattle.spec.specs.History.{limit, lowest, Need, anchor, hand, hands, pass, sweep, marks, needed}
 use Rattle.spec.specs.Links.{down, source-named}
-use Rattle.spec.specs.Level.{Sized, inside}
+use Rattle.spec.specs.HeightEquations.{Sized, inside}
 
 -- p of round r is marked, isn't committed, and links to q
 pub record Hands (s : Store) (m : ℕ → Bool) (r q p : ℕ) : Type 0 where
   pub at-round : roundAt s p ≡ r
   pub marked : m p ≡ true
   pub fresh : s .pt p .flags .committed ≡ false
-  pub link : E s p q
+  pub link : LinkedTo s p q
 
 hands-and : (s : Store) (m : ℕ → Bool) (r q p : ℕ) → hands s m r q p ≡ (eqb (roundAt s p) r && (m p && (not (s .pt p .flags .committed) && linksTo (s .pt p) (s .pt q))))
 unfolding hands
@@ -75,7 +75,7 @@ sweep-grows s (suc k) m r q h = sweep-grows s k (pass s m r) (r - 1) q (pass-kee
 
 -- all marked points from round r up have handed on their links
 abbrev Closed : Store → (ℕ → Bool) → ℕ → Type 0
-Closed s m r = (p q : ℕ) → m p ≡ true → s .pt p .flags .committed ≡ false → E s p q → r ≤ roundAt s p → m q ≡ true
+Closed s m r = (p q : ℕ) → m p ≡ true → s .pt p .flags .committed ≡ false → LinkedTo s p q → r ≤ roundAt s p → m q ≡ true
 
 pass-closed : (s : Store) → Sized s → (m : ℕ → Bool) (r : ℕ) → Closed s m (suc r) → Closed s (pass s m r) r
 pass-closed s z m r c p q u d e l = go (pass-cases s m r p u) (ℕ-discrete (roundAt s p) r)

@@ -14,8 +14,8 @@ use Rattle.laws.specs.Sort.{sort-mem}
 use Rattle.spec.specs.Ids.{Id, sameId, falls, prev}
 use Rattle.spec.specs.Store.{Store, idAt, roundAt, statusAt, resolved, isNamed, find, previous}
 use Rattle.spec.specs.Paths.{height}
-use Rattle.spec.specs.Chain.{Refusal, number, conflict, Out, bad, good, then, refuse, usableInWalk, usableInHistory, verdict, judged, needInWalk, Enqueued, Onward, enqueue, toAnchor, toPrevious, atProof, atUsed, visit, walk}
-use Rattle.spec.specs.History.{needed, inHistory, firstFault, faults, roundsMissing, isFlat, tested, isWaiting, testAnchor}
+use Rattle.spec.specs.Chain.{Refusal, number, conflict, Out, bad, good, then, refuse, usableInWalk, isCommittable, checkedAs, checked, readyValidPoint, EnqueuedAnchor, Onward, enqueue, toAnchor, toPrevious, atProof, atUsed, visit, walk}
+use Rattle.spec.specs.History.{needed, inHistory, firstFault, faults, roundsMissing, anyUncertified, tested, gapPending, testAnchor}
 
 -- ---- tests that came out well
 
@@ -69,54 +69,54 @@ pub record Valid (s : Store) (i : Id) (q : ℕ) : Type 0 where
   pub done : resolved (s .pt q) ≡ true
   pub is-valid : statusAt s q ≡ 1
 
-pub verdict-good : (a u c : Bool) (r q x : ℕ) → verdict a u c r q ≡ good x → (a ≡ true) × (u ≡ true) × (q ≡ x)
-unfolding verdict
-verdict-good false u c r q x h = absurd (not-good (number 14) x h)
-verdict-good true true c r q x h = (refl, refl, cc)
-verdict-good true false true r q x h = absurd (not-good (conflict r) x h)
-verdict-good true false false r q x h = absurd (not-good (number 15) x h)
+pub checkedAs-good : (a u c : Bool) (r q x : ℕ) → checkedAs a u c r q ≡ good x → (a ≡ true) × (u ≡ true) × (q ≡ x)
+unfolding checkedAs
+checkedAs-good false u c r q x h = absurd (not-good (number 14) x h)
+checkedAs-good true true c r q x h = (refl, refl, cc)
+checkedAs-good true false true r q x h = absurd (not-good (conflict r) x h)
+checkedAs-good true false false r q x h = absurd (not-good (number 15) x h)
 
-pub need-good : (s : Store) (i : Id) (q : ℕ) → needInWalk s i ≡ good q → Valid s i q
-unfolding needInWalk judged usableInWalk
+pub need-good : (s : Store) (i : Id) (q : ℕ) → readyValidPoint s i ≡ good q → Valid s i q
+unfolding readyValidPoint checked usableInWalk
 need-good s i q h = go (find s i) refl h
   where
-    go : (o : Option ℕ) → find s i ≡ o → _≡_ {A = Out ℕ} (elim o [ none ↦ bad (number 14) | some x ↦ judged s usableInWalk x ]) (good q) → Valid s i q
+    go : (o : Option ℕ) → find s i ≡ o → _≡_ {A = Out ℕ} (elim o [ none ↦ bad (number 14) | some x ↦ checked s usableInWalk x ]) (good q) → Valid s i q
     go none e k = absurd (not-good (number 14) q k)
-    go (some x) e k = let (a, u, m) = verdict-good _ _ _ _ x q k in
+    go (some x) e k = let (a, u, m) = checkedAs-good _ _ _ _ x q k in
         record { found = e ∙ ap some m; done = subst (λ z. resolved (s .pt z) ≡ true) m a; is-valid = subst (λ z. statusAt s z ≡ 1) m (eqb-true _ _ u) }
 
-pub need-back : (s : Store) (i : Id) (q : ℕ) → Valid s i q → needInWalk s i ≡ good q
-unfolding needInWalk judged usableInWalk verdict
-need-back s i q v = rw (v .found, needInWalk) (rw (v .done, v .is-valid) refl)
+pub need-back : (s : Store) (i : Id) (q : ℕ) → Valid s i q → readyValidPoint s i ≡ good q
+unfolding readyValidPoint checked usableInWalk checkedAs
+need-back s i q v = rw (v .found, readyValidPoint) (rw (v .done, v .is-valid) refl)
 
 -- ---- the walk
 
 -- the ways in which the round x comes out well
-pub data Visited (s : Store) (x : ℕ) (low : Bool) (below : Onward) (i : Id) (acc l : List Enqueued) : Type 0 where
+pub data Visited (s : Store) (x : ℕ) (low : Bool) (below : Onward) (i : Id) (acc l : List EnqueuedAnchor) : Type 0 where
   over : i .round < x → below i acc ≡ good l → Visited s x low below i acc l
   used-up : i .round ≡ x → s .rounds x .used ≡ some (i .author) → acc ≡ l → Visited s x low below i acc l
-  ends : i .round ≡ x → s .rounds x .used ≡ none → (p d : ℕ) → Valid s i p → s .pt p .told .proof ≡ true → previous (s .pt p) ≡ some d → low ≡ true → acc ≡ l → Visited s x low below i acc l
-  goes : i .round ≡ x → s .rounds x .used ≡ none → (p d a : ℕ) → Valid s i p → s .pt p .told .proof ≡ true → previous (s .pt p) ≡ some d → low ≡ false
+  ends : i .round ≡ x → s .rounds x .used ≡ none → (p d : ℕ) → Valid s i p → s .pt p .resolution .proof ≡ true → previous (s .pt p) ≡ some d → low ≡ true → acc ≡ l → Visited s x low below i acc l
+  goes : i .round ≡ x → s .rounds x .used ≡ none → (p d a : ℕ) → Valid s i p → s .pt p .resolution .proof ≡ true → previous (s .pt p) ≡ some d → low ≡ false
       → Valid s (record { round = prev x; author = idAt s p .author; digest = d }) a → enqueue s below acc p a ≡ good l → Visited s x low below i acc l
 
-module _ (s : Store) (x : ℕ) (low : Bool) (below : Onward) (i : Id) (acc l : List Enqueued) where
-  anchor-good : i .round ≡ x → s .rounds x .used ≡ none → (p d : ℕ) → Valid s i p → s .pt p .told .proof ≡ true → previous (s .pt p) ≡ some d → toAnchor s x low below acc p d ≡ good l → Visited s x low below i acc l
+module _ (s : Store) (x : ℕ) (low : Bool) (below : Onward) (i : Id) (acc l : List EnqueuedAnchor) where
+  anchor-good : i .round ≡ x → s .rounds x .used ≡ none → (p d : ℕ) → Valid s i p → s .pt p .resolution .proof ≡ true → previous (s .pt p) ≡ some d → toAnchor s x low below acc p d ≡ good l → Visited s x low below i acc l
   unfolding toAnchor
-  anchor-good m u p d v t k h = go (if-good low (good acc) (then (needInWalk s (record { round = prev x; author = idAt s p .author; digest = d })) (enqueue s below acc p)) l h)
+  anchor-good m u p d v t k h = go (if-good low (good acc) (then (readyValidPoint s (record { round = prev x; author = idAt s p .author; digest = d })) (enqueue s below acc p)) l h)
     where
-      go : ((low ≡ true) × (good acc ≡ good l)) ⊎ ((low ≡ false) × (then (needInWalk s (record { round = prev x; author = idAt s p .author; digest = d })) (enqueue s below acc p) ≡ good l)) → Visited s x low below i acc l
+      go : ((low ≡ true) × (good acc ≡ good l)) ⊎ ((low ≡ false) × (then (readyValidPoint s (record { round = prev x; author = idAt s p .author; digest = d })) (enqueue s below acc p) ≡ good l)) → Visited s x low below i acc l
       go (inl (b, f)) = ends m u p d v t k b (cc)
       go (inr (b, f)) = let (a, w, g) = then-good _ _ l f in goes m u p d a v t k b (need-good _ _ a w) g
 
   proof-good : i .round ≡ x → s .rounds x .used ≡ none → (p : ℕ) → Valid s i p → atProof s x low below acc p ≡ good l → Visited s x low below i acc l
   unfolding atProof toPrevious
-  proof-good m u p v h = go (if-good (s .pt p .told .proof) (toPrevious s x low below acc p (previous (s .pt p))) (bad (number 16)) l h)
+  proof-good m u p v h = go (if-good (s .pt p .resolution .proof) (toPrevious s x low below acc p (previous (s .pt p))) (bad (number 16)) l h)
     where
-      look : s .pt p .told .proof ≡ true → (o : Option ℕ) → previous (s .pt p) ≡ o → toPrevious s x low below acc p o ≡ good l → Visited s x low below i acc l
+      look : s .pt p .resolution .proof ≡ true → (o : Option ℕ) → previous (s .pt p) ≡ o → toPrevious s x low below acc p o ≡ good l → Visited s x low below i acc l
       look t none e f = absurd (not-good (number 16) l f)
       look t (some d) k f = anchor-good m u p d v t k f
 
-      go : ((s .pt p .told .proof ≡ true) × (toPrevious s x low below acc p (previous (s .pt p)) ≡ good l)) ⊎ ((s .pt p .told .proof ≡ false) × (bad (number 16) ≡ good l)) → Visited s x low below i acc l
+      go : ((s .pt p .resolution .proof ≡ true) × (toPrevious s x low below acc p (previous (s .pt p)) ≡ good l)) ⊎ ((s .pt p .resolution .proof ≡ false) × (bad (number 16) ≡ good l)) → Visited s x low below i acc l
       go (inl (t, f)) = look t _ refl f
       go (inr (t, f)) = absurd (not-good (number 16) l f)
 
@@ -137,7 +137,7 @@ module _ (s : Store) (x : ℕ) (low : Bool) (below : Onward) (i : Id) (acc l : L
       on t (inl (u, f)) = absurd (not-good (number 16) l f)
       on t (inr (u, f)) = used-good (omega (arith, ltb-false (i .round) x t, ltb-false x (i .round) u)) _ refl f
 
-      go : ((ltb (i .round) x ≡ true) × (below i acc ≡ good l)) ⊎ ((ltb (i .round) x ≡ false) × (_≡_ {A = Out (List Enqueued)} (elim (ltb x (i .round)) [ true ↦ bad (number 16) | false ↦ atUsed s x low below acc i (s .rounds x .used) ]) (good l))) → Visited s x low below i acc l
+      go : ((ltb (i .round) x ≡ true) × (below i acc ≡ good l)) ⊎ ((ltb (i .round) x ≡ false) × (_≡_ {A = Out (List EnqueuedAnchor)} (elim (ltb x (i .round)) [ true ↦ bad (number 16) | false ↦ atUsed s x low below acc i (s .rounds x .used) ]) (good l))) → Visited s x low below i acc l
       go (inl (t, f)) = over (ltb-true (i .round) x t) f
       go (inr (t, f)) = on t (if-good (ltb x (i .round)) (bad (number 16)) (atUsed s x low below acc i (s .rounds x .used)) l f)
 
@@ -154,7 +154,7 @@ module _ (s : Store) (x : ℕ) (low : Bool) (below : Onward) (i : Id) (acc l : L
   visit-back (goes m u p d a v t k b y f) = at-round m (rw u (rw (need-back s i p v) (rw (t, atProof) (rw k (rw (b, toAnchor) (rw (need-back s _ a y) f))))))
 
 -- an anchor of a chain: valid, its proof valid and one round above it
-pub record Anchored (s : Store) (e : Enqueued) : Type 0 where
+pub record Anchored (s : Store) (e : EnqueuedAnchor) : Type 0 where
   pub anchor-done : resolved (s .pt (e .anchor)) ≡ true
   pub anchor-valid : statusAt s (e .anchor) ≡ 1
   pub proof-done : resolved (s .pt (e .proof)) ≡ true
@@ -162,18 +162,18 @@ pub record Anchored (s : Store) (e : Enqueued) : Type 0 where
   pub above : roundAt s (e .proof) ≡ suc (roundAt s (e .anchor))
 
 -- the anchors of a chain rise, from round b on
-abbrev pub Rising : Store → ℕ → List Enqueued → Type 0
+abbrev pub Rising : Store → ℕ → List EnqueuedAnchor → Type 0
 Rising s b [] = Unit {0}
 Rising s b (e ∷ es) = (b ≤ roundAt s (e .anchor)) × Anchored s e × Rising s (suc (roundAt s (e .anchor))) es
 
-pub rising-less : (s : Store) (b c : ℕ) (l : List Enqueued) → b ≤ c → Rising s c l → Rising s b l
+pub rising-less : (s : Store) (b c : ℕ) (l : List EnqueuedAnchor) → b ≤ c → Rising s c l → Rising s b l
 rising-less s b c [] h r = tt
 rising-less s b c (e ∷ es) h (x, y, z) = (omega arith, y, z)
 
 one-below : (w k r : ℕ) → r ≡ w + suc k - 1 → (w + k ≤ r) × (w ≤ r) × (w + suc k ≡ suc r)
 one-below w k r e = (omega arith, omega arith, omega arith)
 
-pub walk-rising : (s : Store) (w k : ℕ) (i : Id) (acc l : List Enqueued) → Rising s (w + k) acc → walk s w k i acc ≡ good l → Rising s w l
+pub walk-rising : (s : Store) (w k : ℕ) (i : Id) (acc l : List EnqueuedAnchor) → Rising s (w + k) acc → walk s w k i acc ≡ good l → Rising s w l
 unfolding walk enqueue
 walk-rising s w zero i acc l h e = go (visit-good s w true (λ i acc. good acc) i acc l e)
   where
@@ -190,11 +190,11 @@ walk-rising s w (suc k) i acc l h e = go (visit-good s (w + suc k) false (walk s
     same : acc ≡ l → Rising s w l
     same m = subst (Rising s w) m (rising-less s w (w + suc k) acc (omega arith) h)
 
-    go : Visited s (w + suc k) false (walk s w k) i acc l → ((i : Id) (acc l : List Enqueued) → Rising s (w + k) acc → walk s w k i acc ≡ good l → Rising s w l) → Rising s w l
+    go : Visited s (w + suc k) false (walk s w k) i acc l → ((i : Id) (acc l : List EnqueuedAnchor) → Rising s (w + k) acc → walk s w k i acc ≡ good l → Rising s w l) → Rising s w l
     go (over m f) r = r i acc l (rising-less s (w + k) (w + suc k) acc (omega arith) h) f
     go (used-up m u f) r = same f
     go (ends m u p d v t j b f) r = absurd (false≢true b)
-    go (goes m u p d a v t j b y f) r = r (s .pt a .told .topProof) _ l (
+    go (goes m u p d a v t j b y f) r = r (s .pt a .resolution .topProof) _ l (
       at .0,
       record {
         anchor-done = y .done;
@@ -213,49 +213,49 @@ walk-rising s w (suc k) i acc l h e = go (visit-good s (w + suc k) false (walk s
 
 pub record Tested (s : Store) (a : ℕ) : Type 0 where
   pub young : s .conf .genesis < roundAt s a
-  pub ready : (q : ℕ) → q < s .places → needed s a q ≡ true → (resolved (s .pt q) ≡ true) × (usableInHistory s q ≡ true)
+  pub ready : (q : ℕ) → q < s .places → needed s a q ≡ true → (resolved (s .pt q) ≡ true) × (isCommittable s q ≡ true)
   pub whole : roundsMissing s a ≡ false
-  pub tall : (q : ℕ) → q < s .places → inHistory s a q ≡ true → 0 < height s q
+  pub heightsAre : (q : ℕ) → q < s .places → inHistory s a q ≡ true → 0 < height s q
 
-first-good : (s : Store) (l : List ℕ) (x : ℕ) → firstFault s l ≡ good x → (q : ℕ) → List·Memᴰ q l → (resolved (s .pt q) ≡ true) × (usableInHistory s q ≡ true)
-unfolding firstFault judged
+first-good : (s : Store) (l : List ℕ) (x : ℕ) → firstFault s l ≡ good x → (q : ℕ) → List·Memᴰ q l → (resolved (s .pt q) ≡ true) × (isCommittable s q ≡ true)
+unfolding firstFault checked
 first-good s [] x h q m = absurd (List·Memᴰ·not-nil m)
-first-good s (p ∷ ps) x h q m = go (then-good (judged s usableInHistory p) (λ x. firstFault s ps) x h) (List·Memᴰ·cases-cons m) (first-good s ps x)
+first-good s (p ∷ ps) x h q m = go (then-good (checked s isCommittable p) (λ x. firstFault s ps) x h) (List·Memᴰ·cases-cons m) (first-good s ps x)
   where
-    go : (y : ℕ) × (judged s usableInHistory p ≡ good y) × (firstFault s ps ≡ good x) → (q ≡ p) ⊎ List·Memᴰ q ps
-        → (firstFault s ps ≡ good x → (q : ℕ) → List·Memᴰ q ps → (resolved (s .pt q) ≡ true) × (usableInHistory s q ≡ true)) → (resolved (s .pt q) ≡ true) × (usableInHistory s q ≡ true)
-    go (y, e, f) (inl k) r = let (a, u, n) = verdict-good _ _ _ _ p y e in (subst (λ z. resolved (s .pt z) ≡ true) (sym k) a, subst (λ z. usableInHistory s z ≡ true) (sym k) u)
+    go : (y : ℕ) × (checked s isCommittable p ≡ good y) × (firstFault s ps ≡ good x) → (q ≡ p) ⊎ List·Memᴰ q ps
+        → (firstFault s ps ≡ good x → (q : ℕ) → List·Memᴰ q ps → (resolved (s .pt q) ≡ true) × (isCommittable s q ≡ true)) → (resolved (s .pt q) ≡ true) × (isCommittable s q ≡ true)
+    go (y, e, f) (inl k) r = let (a, u, n) = checkedAs-good _ _ _ _ p y e in (subst (λ z. resolved (s .pt z) ≡ true) (sym k) a, subst (λ z. isCommittable s z ≡ true) (sym k) u)
     go (y, e, f) (inr k) r = r f q k
 
-first-back : (s : Store) (l : List ℕ) → ((q : ℕ) → List·Memᴰ q l → (resolved (s .pt q) ≡ true) × (usableInHistory s q ≡ true)) → firstFault s l ≡ good 0
-unfolding firstFault judged verdict
+first-back : (s : Store) (l : List ℕ) → ((q : ℕ) → List·Memᴰ q l → (resolved (s .pt q) ≡ true) × (isCommittable s q ≡ true)) → firstFault s l ≡ good 0
+unfolding firstFault checked checkedAs
 first-back s [] h = refl
 first-back s (p ∷ ps) h = let (a, u) = h p (List·Memᴰ·head refl) in rw (a, u) (first-back s ps (λ q m. h q (List·Memᴰ·tail m)))
 
-pub faults-good : (s : Store) (a x : ℕ) → faults s a ≡ good x → (q : ℕ) → q < s .places → needed s a q ≡ true → (resolved (s .pt q) ≡ true) × (usableInHistory s q ≡ true)
+pub faults-good : (s : Store) (a x : ℕ) → faults s a ≡ good x → (q : ℕ) → q < s .places → needed s a q ≡ true → (resolved (s .pt q) ≡ true) × (isCommittable s q ≡ true)
 unfolding faults
 faults-good s a x h q l t = first-good s _ x h q (sort-mem (λ p q. falls (idAt s p) (idAt s q)) q _ .1 (those-intro _ _ q l t))
 
-pub faults-back : (s : Store) (a : ℕ) → ((q : ℕ) → q < s .places → needed s a q ≡ true → (resolved (s .pt q) ≡ true) × (usableInHistory s q ≡ true)) → faults s a ≡ good 0
+pub faults-back : (s : Store) (a : ℕ) → ((q : ℕ) → q < s .places → needed s a q ≡ true → (resolved (s .pt q) ≡ true) × (isCommittable s q ≡ true)) → faults s a ≡ good 0
 unfolding faults
 faults-back s a h = first-back s _ (λ q m. let (l, t) = those-elim _ _ q (sort-mem (λ p q. falls (idAt s p) (idAt s q)) q _ .0 m) in h q l t)
 
 pub tested-good : (s : Store) (a b : ℕ) → tested s a ≡ good b → Tested s a
-unfolding tested isFlat
+unfolding tested anyUncertified
 tested-good s a b h = go (refuse-good _ 22 _ b h)
   where
-    tall : isFlat s a ≡ false → (q : ℕ) → q < s .places → inHistory s a q ≡ true → 0 < height s q
-    tall f q l t = byTest (eqb (height s q) 0) (λ z. absurd (any-none (s .places) (λ q. inHistory s a q && eqb (height s q) 0) f q l (both t z))) (λ n. let m : height s q ≡ 0 → ⊥ = eqb-false (height s q) 0 n in omega arith)
+    heightsAre : anyUncertified s a ≡ false → (q : ℕ) → q < s .places → inHistory s a q ≡ true → 0 < height s q
+    heightsAre f q l t = byTest (eqb (height s q) 0) (λ z. absurd (any-none (s .places) (λ q. inHistory s a q && eqb (height s q) 0) f q l (both t z))) (λ n. let m : height s q ≡ 0 → ⊥ = eqb-false (height s q) 0 n in omega arith)
 
-    go : (leb (roundAt s a) (s .conf .genesis) ≡ false) × (then (faults s a) (λ x. refuse (roundsMissing s a) 17 (refuse (isFlat s a) 18 (good a))) ≡ good b) → Tested s a
+    go : (leb (roundAt s a) (s .conf .genesis) ≡ false) × (then (faults s a) (λ x. refuse (roundsMissing s a) 17 (refuse (anyUncertified s a) 18 (good a))) ≡ good b) → Tested s a
     go (y, k) =
         let (x, f, r) = then-good (faults s a) _ b k in
         let (w, j) = refuse-good _ 17 _ b r in
         let (t, i) = refuse-good _ 18 _ b j in
-        record { young = leb-false _ _ y; ready = faults-good s a x f; whole = w; tall = tall t }
+        record { young = leb-false _ _ y; ready = faults-good s a x f; whole = w; heightsAre = heightsAre t }
 
-flat-none : (s : Store) (a : ℕ) → ((q : ℕ) → q < s .places → inHistory s a q ≡ true → 0 < height s q) → isFlat s a ≡ false
-unfolding isFlat
+flat-none : (s : Store) (a : ℕ) → ((q : ℕ) → q < s .places → inHistory s a q ≡ true → 0 < height s q) → anyUncertified s a ≡ false
+unfolding anyUncertified
 flat-none s a f =
     byTest (any (s .places) (λ q. inHistory s a q && eqb (height s q) 0))
     (λ t. let (q, l, u) = any-elim (s .places) (λ q. inHistory s a q && eqb (height s q) 0) t in absurd (omega (arith, f q l (and-l _ _ u), eqb-true (height s q) 0 (and-r (inHistory s a q) _ u))))
@@ -265,10 +265,10 @@ pub tested-back : (s : Store) (a : ℕ) → Tested s a → tested s a ≡ good a
 unfolding tested
 tested-back s a c =
     refuse-back (leb (roundAt s a) (s .conf .genesis)) 22 _ (lt-leb (roundAt s a) (s .conf .genesis) (c .young))
-    ∙ (rw (faults-back s a (c .ready)) (refuse-back (roundsMissing s a) 17 _ (c .whole) ∙ refuse-back (isFlat s a) 18 _ (flat-none s a (c .tall))))
+    ∙ (rw (faults-back s a (c .ready)) (refuse-back (roundsMissing s a) 17 _ (c .whole) ∙ refuse-back (anyUncertified s a) 18 _ (flat-none s a (c .heightsAre))))
 
 -- an anchor that a commit takes: tested, the gap question put, its record fits what is left of the buffer
-pub test-good : (s : Store) (left size a x : ℕ) → testAnchor s left size a ≡ good x → Tested s a × (isWaiting (s .progress .gap) ≡ false) × (size ≤ left)
+pub test-good : (s : Store) (left size a x : ℕ) → testAnchor s left size a ≡ good x → Tested s a × (gapPending (s .progress .gap) ≡ false) × (size ≤ left)
 unfolding testAnchor
 test-good s left size a x h =
     let (y, t, k) = then-good (tested s a) _ x h in

@@ -8,8 +8,8 @@ use lib.Dec.{eqb}
 use borrow.Author.Tests.{ne-eqb}
 use lib.ListN.{getD}
 use Rattle.spec.specs.Ids.{Ref}
-use Rattle.spec.specs.Store.{Told}
-use Rattle.spec.specs.Calls.{Call, Beginning, start, resetAll, round, name, resolve, certify, ask, commit, outlook, remove, drop}
+use Rattle.spec.specs.Store.{Resolution}
+use Rattle.spec.specs.Calls.{Call, StartArgs, start, resetAll, round, name, resolve, certify, gapQuestion, commit, outlook, remove, drop}
 use Rattle.trace.specs.Numbers.{numberAt, idAt}
 use Rattle.trace.specs.declared.head.Kind.{Kind}
 use Rattle.trace.specs.declared.head.Kind.the-variants as kind
@@ -25,7 +25,7 @@ unfoldable pub usedIn : ℕ → Option ℕ
 usedIn b = cond (eqb b 255) none (some b)
 
 -- "Start: genesis, H, deduplicate rounds, bottom, its peers (4 each), after gap (flag), used author"
-unfoldable pub startIn : List ℕ → Beginning
+unfoldable pub startIn : List ℕ → StartArgs
 startIn f = record {
   conf = record { genesis = numberAt f 0 4; historyRounds = numberAt f 4 4; deduplicateRounds = numberAt f 8 4 };
   bottom = numberAt f 12 4;
@@ -53,7 +53,7 @@ linksFrom f p zero = []
 linksFrom f p (suc m) = linkIn f p ∷ linksFrom f (p + 33) m
 
 -- "Resolve: id, status, marks (bits 0 to 2), top proof's id, evidence (4), number of includes, of witness (1 each), their links (33 each)"
-unfoldable pub toldIn : List ℕ → Told
+unfoldable pub toldIn : List ℕ → Resolution
 toldIn f = record {
   status = getD f 37 0;
   proof = eqb (getD f 38 0 % 2) 1;
@@ -75,10 +75,10 @@ callBy kind.Certify f b = certify (idAt f 0)
 callBy kind.Commit f b = commit (idAt f 0) b
 callBy kind.Remove f b = remove (numberAt f 0 4) (sinceIn f) b
 callBy kind.Drop f b = drop (numberAt f 0 4)
-callBy kind.Gap f b = ask
+callBy kind.Gap f b = gapQuestion
 callBy kind.Reset f b = resetAll
 callBy kind.Outlook f b = outlook (idAt f 0) b
-callBy kind.Broken f b = ask
+callBy kind.Broken f b = gapQuestion
 
 -- ---- laws
 
@@ -95,7 +95,7 @@ module _ (f : List ℕ) where
   -- from their parts
   pub start-is : (g h d b q x y : ℕ) (u : Option ℕ) → g ≡ numberAt f 0 4 → h ≡ numberAt f 4 4 → d ≡ numberAt f 8 4 → b ≡ numberAt f 12 4
       → q ≡ numberAt f 16 4 → x ≡ getD f 20 0 → y ≡ getD f 21 0 → u ≡ usedIn y
-      → _≡_ {A = Beginning} (record { conf = record { genesis = g; historyRounds = h; deduplicateRounds = d }; bottom = b; peers = q; afterGap = not (eqb x 0); used = u }) (startIn f)
+      → _≡_ {A = StartArgs} (record { conf = record { genesis = g; historyRounds = h; deduplicateRounds = d }; bottom = b; peers = q; afterGap = not (eqb x 0); used = u }) (startIn f)
   unfolding startIn
   start-is g h d b q x y u i j k l m n o v = rw (v, i, j, k, l, m, n, o) refl
 

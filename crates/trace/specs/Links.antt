@@ -12,7 +12,7 @@ use borrow.Author.Tests.{eq-eqb}
 use Rattle.laws.specs.Test.{sameOr, cond-yes}
 use Rattle.laws.specs.Bytes.{number, written, written-length, written-append, written-is}
 use Rattle.spec.specs.Ids.{Id, Ref}
-use Rattle.spec.specs.Store.{Told}
+use Rattle.spec.specs.Store.{Resolution}
 use Rattle.models.specs.declared.parts.PointId.{PointId}
 use Rattle.models.specs.declared.info.PointInfo.{PointInfo}
 use Rattle.models.specs.Digest.{words, digestAt}
@@ -112,7 +112,7 @@ refs-are f n j (suc m) l =
 -- ---- what a resolution tells
 
 -- with another top proof and other links
-abbrev telling : List ℕ → Id → List Ref → List Ref → Told
+abbrev telling : List ℕ → Id → List Ref → List Ref → Resolution
 telling f t is ws = record {
   status = getD f 37 0;
   proof = eqb (getD f 38 0 % 2) 1;
@@ -142,9 +142,9 @@ module _ (f : List ℕ) where
   links-are i w hi hw = rw (hi, hw) refl
 
   -- what is told, with the links as they stand in a slice: the words of all links from its start on
-  pub told-is : (i : PointInfo) (b r : List ℕ) → infoOf i (linksWords f (linksIn f)) ≡ toldIn f → i .includes + i .witness ≡ linksIn f → linksIn f * 5 ≤ length b
+  pub resolution-is : (i : PointInfo) (b r : List ℕ) → infoOf i (linksWords f (linksIn f)) ≡ toldIn f → i .includes + i .witness ≡ linksIn f → linksIn f * 5 ≤ length b
       → r ≡ written b 0 (linksWords f (linksIn f)) → infoOf i (take ((i .includes + i .witness) * 5) r) ≡ toldIn f
-  told-is i b r h n l e =
+  resolution-is i b r h n l e =
       let q : length (linksWords f (linksIn f)) ≡ (i .includes + i .witness) * 5 = links-length f (linksIn f) ∙ ap (λ (m : ℕ). m * 5) (sym n) in
       ap (λ (x : List ℕ). infoOf i (take ((i .includes + i .witness) * 5) x)) (e ∙ written-is b 0 (linksWords f (linksIn f)) (omega (arith, q, l, n)))
       ∙ (ap (infoOf i) (take-at (linksWords f (linksIn f)) _ ((i .includes + i .witness) * 5) q) ∙ h)

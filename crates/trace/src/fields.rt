@@ -3,8 +3,8 @@ ghost use mathlib.Core.Path.{_≡_};
 ghost use Prim.Native.Nat.{_+_, _*_, _≤_};
 ghost use lib.ListN.{length};
 ghost use Rattle.laws.specs.Bytes.{written};
-ghost use Rattle.dag_state.specs.Back.{usedOf};
-ghost use Rattle.dag_state.specs.Reads.{beginningOf};
+ghost use Rattle.commit_state.specs.Back.{usedOf};
+ghost use Rattle.commit_state.specs.Reads.{startArgsOf};
 ghost use Rattle.models.specs.Info.{infoOf};
 ghost use Rattle.trace.specs.Numbers.{numberAt};
 ghost use Rattle.trace.specs.Head.{linksIn};
@@ -14,8 +14,8 @@ use crate::bytes::byte_of;
 use crate::bytes::digest_words;
 use crate::bytes::id_of;
 use crate::bytes::number_of;
-use dag_state::back::Beginning;
-use dag_state::back::UsedAuthor;
+use commit_state::back::StartArgs;
+use commit_state::back::UsedAuthor;
 use models::info::PointInfo;
 use models::parts::Round;
 
@@ -48,20 +48,20 @@ fn used_of(byte: u32) -> UsedAuthor
 }
 
 // The fields of a start.
-pub fn start_of(f: &[u8]) -> Beginning
+pub fn start_of(f: &[u8]) -> StartArgs
     requires { ⌜ 22 ≤ length (now f) ⌝ }
-    ensures { λ r. ⌜ beginningOf r ≡ startIn (now (f .entry)) ⌝ }
+    ensures { λ r. ⌜ startArgsOf r ≡ startIn (now (f .entry)) ⌝ }
 {
     let genesis = number_of(f, 0);
-    let history_rounds = number_of(f, 4);
+    let commit_history_rounds = number_of(f, 4);
     let deduplicate_rounds = number_of(f, 8);
     let bottom = number_of(f, 12);
     let peers = number_of(f, 16);
     let gap = byte_of(f, 20);
     let used = used_of(byte_of(f, 21));
-    Beginning {
+    StartArgs {
         genesis: Round(genesis),
-        history_rounds,
+        commit_history_rounds,
         deduplicate_rounds,
         bottom: Round(bottom),
         peers,
@@ -106,7 +106,7 @@ pub fn remove_of(f: &[u8]) -> RemoveFields
 // The fields of a resolution, but for its id and links.
 pub fn info_of(f: &[u8]) -> PointInfo
     requires { ⌜ 82 ≤ length (now f) ⌝ }
-    ensures told { λ r. ⌜ infoOf r (linksWords (now (f .entry)) (linksIn (now (f .entry)))) ≡ toldIn (now (f .entry)) ⌝ }
+    ensures resolution { λ r. ⌜ infoOf r (linksWords (now (f .entry)) (linksIn (now (f .entry)))) ≡ toldIn (now (f .entry)) ⌝ }
     ensures links { λ r. ⌜ r .includes + r .witness ≡ linksIn (now (f .entry)) ⌝ }
 {
     let status = byte_of(f, 37);

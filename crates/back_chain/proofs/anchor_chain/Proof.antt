@@ -5,9 +5,9 @@ use Rattle.back_chain.specs.declared.Chain.{Chain}
 use mathlib.Core.List.{[]}
 use native.Mathlib.Omega.{arith}
 use lib.ListN.{length, length-set}
-use Rattle.back_walk.specs.Step.{topped, found-used}
+use Rattle.back_walk.specs.Model.{topped, found-used}
 use Rattle.back_chain.specs.Chain.{chainOf, chain-more}
-use Rattle.back_chain.specs.Walked.{walked, walked-pass, walked-end, walked-bad, walked-found, walked-none, walked-start}
+use Rattle.back_chain.specs.RefinesWalk.{walked, walked-pass, walked-end, walked-bad, walked-found, walked-none, walked-start}
 use Rattle.back_chain.proofs.anchor_chain.Statement.{statement}
 use Rattle.back_chain.proofs.anchor_chain.Tie as tie
 

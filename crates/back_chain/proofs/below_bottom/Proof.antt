@@ -1,4 +1,4 @@
-use Rattle.back_chain.specs.Trigger.{below-author, below-round}
+use Rattle.back_chain.specs.Model.{below-author, below-round}
 use Rattle.back_chain.proofs.below_bottom.Statement.{statement}
 use Rattle.back_chain.proofs.below_bottom.Tie as tie
 

@@ -1,6 +1,6 @@
-use Rattle.back_walk.specs.Step.{placed}
-use Rattle.back_chain.specs.Trigger.{from-none, from-walk}
-use Rattle.back_chain.specs.Anchors.{none-few}
+use Rattle.back_walk.specs.Model.{placed}
+use Rattle.back_chain.specs.Model.{from-none, from-walk}
+use Rattle.back_chain.specs.Refines.{none-few}
 use borrow.Author.Needs.{needs}
 use Rattle.back_chain.proofs.chain_from.Statement.{statement}
 use Rattle.back_chain.proofs.chain_from.Tie as tie

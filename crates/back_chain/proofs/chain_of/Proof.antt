@@ -1,9 +1,9 @@
 use mathlib.Core.Path.{sym, _∙_}
 use Rattle.models.specs.Digest.{Fit}
-use Rattle.dag_name.specs.Tests.{ready}
-use Rattle.dag_name.specs.Words.{id-fit}
-use Rattle.back_walk.specs.Visit.{walkable, linked}
-use Rattle.back_chain.specs.Anchors.{none-few, trigger-in, of-below, of-refused, of-trigger, of-none, of-chain, of-ready}
+use Rattle.dag_round_points.specs.Tests.{ready}
+use Rattle.dag_round_points.specs.Words.{id-fit}
+use Rattle.back_walk.specs.Refines.{walkable, linked}
+use Rattle.back_chain.specs.Refines.{none-few, trigger-in, of-below, of-refused, of-trigger, of-none, of-chain, of-ready}
 use borrow.Author.Needs.{needs}
 use Rattle.back_chain.proofs.chain_of.Statement.{statement}
 use Rattle.back_chain.proofs.chain_of.Tie as tie
@@ -45,8 +45,8 @@ point-place-requires c κs =
     let fl : Fit (a .links .now) = λ p. c .before .before .before .before .before .before .before .shared-slice-known2 .given p .fits in
     (ready (a .s) (a .keys .now) (a .links .now) (a .certs .now) (a .order .now) fk fl (c .before .before .before .before .before .before .before .before .before .pre), sym (c .before .point-code .ensures) ∙ c .if2 .left)
 
-trigger-code-requires : tie.Need-trigger-code-requires
-trigger-code-requires c κs =
+filter-requires : tie.Need-filter-requires
+filter-requires c κs =
     let a = c .before .before .before .before .before .before .before .before .before .before .args in
     let fk : Fit (a .keys .now) = λ p. c .before .before .before .before .before .before .before .before .before .shared-slice-known .given p .fits in
     let fl : Fit (a .links .now) = λ p. c .before .before .before .before .before .before .before .before .shared-slice-known2 .given p .fits in
@@ -63,7 +63,7 @@ returns-3 c =
     let a = c .before .before .before .before .before .before .before .before .before .before .before .before .before .before .before .args in
     let fk : Fit (a .keys .now) = λ p. c .before .before .before .before .before .before .before .before .before .before .before .before .before .before .shared-slice-known .given p .fits in
     let fl : Fit (a .links .now) = λ p. c .before .before .before .before .before .before .before .before .before .before .before .before .before .shared-slice-known2 .given p .fits in
-    (of-trigger (a .s) (a .keys .now) (a .links .now) (a .certs .now) (a .order .now) fk fl (c .before .before .before .before .before .before .before .before .before .before .before .before .before .before .before .pre) (a .id) (id-fit _ _ (c .before .before .before .before .before .before .before .before .before .before .before .before .before .before .before .good .1 .1 .1 .1 .1 .0)) _ (c .before .before .before .before .before .before .before .before .before .below-bottom .ensures) (c .before .before .before .before .before .before .before .before .if1 .left) _ (c .before .before .before .before .before .before .before .point-code .ensures) (c .before .before .before .before .before .before .if2 .left) _ (c .before .before .before .before .before .point-place .ensures) _ (c .before .before .before .before .trigger-code .ensures) _ (c .before .before .check .given .1) _ (c .no-anchors3 .ensures), none-few _ _ (c .no-anchors3 .ensures))
+    (of-trigger (a .s) (a .keys .now) (a .links .now) (a .certs .now) (a .order .now) fk fl (c .before .before .before .before .before .before .before .before .before .before .before .before .before .before .before .pre) (a .id) (id-fit _ _ (c .before .before .before .before .before .before .before .before .before .before .before .before .before .before .before .good .1 .1 .1 .1 .1 .0)) _ (c .before .before .before .before .before .before .before .before .before .below-bottom .ensures) (c .before .before .before .before .before .before .before .before .if1 .left) _ (c .before .before .before .before .before .before .before .point-code .ensures) (c .before .before .before .before .before .before .if2 .left) _ (c .before .before .before .before .before .point-place .ensures) _ (c .before .before .before .before .filter .ensures) _ (c .before .before .check .given .1) _ (c .no-anchors3 .ensures), none-few _ _ (c .no-anchors3 .ensures))
 
 enum-told : tie.Need-enum-told
 enum-told c = search needs
@@ -86,14 +86,14 @@ returns-4 c =
     let a = c .before .before .before .before .before .before .before .before .before .before .before .before .before .before .before .before .before .args in
     let fk : Fit (a .keys .now) = λ p. c .before .before .before .before .before .before .before .before .before .before .before .before .before .before .before .before .shared-slice-known .given p .fits in
     let fl : Fit (a .links .now) = λ p. c .before .before .before .before .before .before .before .before .before .before .before .before .before .before .before .shared-slice-known2 .given p .fits in
-    (of-none (a .s) (a .keys .now) (a .links .now) (a .certs .now) (a .order .now) fk fl (c .before .before .before .before .before .before .before .before .before .before .before .before .before .before .before .before .before .pre) (a .id) (id-fit _ _ (c .before .before .before .before .before .before .before .before .before .before .before .before .before .before .before .before .before .good .1 .1 .1 .1 .1 .0)) _ (c .before .before .before .before .before .before .before .before .before .before .before .below-bottom .ensures) (c .before .before .before .before .before .before .before .before .before .before .if1 .left) _ (c .before .before .before .before .before .before .before .before .before .point-code .ensures) (c .before .before .before .before .before .before .before .before .if2 .left) _ (c .before .before .before .before .before .before .before .point-place .ensures) _ (c .before .before .before .before .before .before .trigger-code .ensures) (c .before .before .before .before .enum-told .given .1) _ (c .before .before .before .lowest-walked .ensures) _ (c .before .before .has-walk .ensures) (c .before .if3 .taken) _ (c .no-anchors4 .ensures), none-few _ _ (c .no-anchors4 .ensures))
+    (of-none (a .s) (a .keys .now) (a .links .now) (a .certs .now) (a .order .now) fk fl (c .before .before .before .before .before .before .before .before .before .before .before .before .before .before .before .before .before .pre) (a .id) (id-fit _ _ (c .before .before .before .before .before .before .before .before .before .before .before .before .before .before .before .before .before .good .1 .1 .1 .1 .1 .0)) _ (c .before .before .before .before .before .before .before .before .before .before .before .below-bottom .ensures) (c .before .before .before .before .before .before .before .before .before .before .if1 .left) _ (c .before .before .before .before .before .before .before .before .before .point-code .ensures) (c .before .before .before .before .before .before .before .before .if2 .left) _ (c .before .before .before .before .before .before .before .point-place .ensures) _ (c .before .before .before .before .before .before .filter .ensures) (c .before .before .before .before .enum-told .given .1) _ (c .before .before .before .lowest-walked .ensures) _ (c .before .before .has-walk .ensures) (c .before .if3 .taken) _ (c .no-anchors4 .ensures), none-few _ _ (c .no-anchors4 .ensures))
 
 chain-from-requires : tie.Need-chain-from-requires
 chain-from-requires c κs =
     let a = c .before .before .before .before .before .before .before .before .before .before .before .before .before .before .before .before .args in
     let fk : Fit (a .keys .now) = λ p. c .before .before .before .before .before .before .before .before .before .before .before .before .before .before .before .shared-slice-known .given p .fits in
     let fl : Fit (a .links .now) = λ p. c .before .before .before .before .before .before .before .before .before .before .before .before .before .before .shared-slice-known2 .given p .fits in
-    let w = of-ready (a .s) (a .keys .now) (a .links .now) (a .certs .now) (a .order .now) fk fl (c .before .before .before .before .before .before .before .before .before .before .before .before .before .before .before .before .pre) (a .id) (id-fit _ _ (c .before .before .before .before .before .before .before .before .before .before .before .before .before .before .before .before .good .1 .1 .1 .1 .1 .0)) _ (c .before .before .before .before .before .before .before .before .before .before .below-bottom .ensures) (c .before .before .before .before .before .before .before .before .before .if1 .left) _ (c .before .before .before .before .before .before .before .before .point-code .ensures) (c .before .before .before .before .before .before .before .if2 .left) _ (c .before .before .before .before .before .before .point-place .ensures) _ (c .before .before .before .before .before .trigger-code .ensures) (c .before .before .before .enum-told .given .1) _ (c .before .before .lowest-walked .ensures) _ (c .before .has-walk .ensures) (c .if3 .left) in
+    let w = of-ready (a .s) (a .keys .now) (a .links .now) (a .certs .now) (a .order .now) fk fl (c .before .before .before .before .before .before .before .before .before .before .before .before .before .before .before .before .pre) (a .id) (id-fit _ _ (c .before .before .before .before .before .before .before .before .before .before .before .before .before .before .before .before .good .1 .1 .1 .1 .1 .0)) _ (c .before .before .before .before .before .before .before .before .before .before .below-bottom .ensures) (c .before .before .before .before .before .before .before .before .before .if1 .left) _ (c .before .before .before .before .before .before .before .before .point-code .ensures) (c .before .before .before .before .before .before .before .if2 .left) _ (c .before .before .before .before .before .before .point-place .ensures) _ (c .before .before .before .before .before .filter .ensures) (c .before .before .before .enum-told .given .1) _ (c .before .before .lowest-walked .ensures) _ (c .before .has-walk .ensures) (c .if3 .left) in
     (walkable (a .s) (a .keys .now) (a .links .now) (a .certs .now) (a .order .now) fk fl (c .before .before .before .before .before .before .before .before .before .before .before .before .before .before .before .before .pre), (linked (a .s) (a .keys .now) (a .links .now) (a .certs .now) (a .order .now) fk fl (c .before .before .before .before .before .before .before .before .before .before .before .before .before .before .before .before .pre), (w .0, w .1)))
 
 returns-5 : tie.Need-returns-5
@@ -101,7 +101,7 @@ returns-5 c =
     let a = c .before .before .before .before .before .before .before .before .before .before .before .before .before .before .before .before .before .args in
     let fk : Fit (a .keys .now) = λ p. c .before .before .before .before .before .before .before .before .before .before .before .before .before .before .before .before .shared-slice-known .given p .fits in
     let fl : Fit (a .links .now) = λ p. c .before .before .before .before .before .before .before .before .before .before .before .before .before .before .before .shared-slice-known2 .given p .fits in
-    (of-chain (a .s) (a .keys .now) (a .links .now) (a .certs .now) (a .order .now) fk fl (c .before .before .before .before .before .before .before .before .before .before .before .before .before .before .before .before .before .pre) (a .id) (id-fit _ _ (c .before .before .before .before .before .before .before .before .before .before .before .before .before .before .before .before .before .good .1 .1 .1 .1 .1 .0)) _ (c .before .before .before .before .before .before .before .before .before .before .before .below-bottom .ensures) (c .before .before .before .before .before .before .before .before .before .before .if1 .left) _ (c .before .before .before .before .before .before .before .before .before .point-code .ensures) (c .before .before .before .before .before .before .before .before .if2 .left) _ (c .before .before .before .before .before .before .before .point-place .ensures) _ (c .before .before .before .before .before .before .trigger-code .ensures) (c .before .before .before .before .enum-told .given .1) _ (c .before .before .before .lowest-walked .ensures) _ (c .before .before .has-walk .ensures) (c .before .if3 .left) _ (c .chain-from .ensures .0), c .chain-from .ensures .1)
+    (of-chain (a .s) (a .keys .now) (a .links .now) (a .certs .now) (a .order .now) fk fl (c .before .before .before .before .before .before .before .before .before .before .before .before .before .before .before .before .before .pre) (a .id) (id-fit _ _ (c .before .before .before .before .before .before .before .before .before .before .before .before .before .before .before .before .before .good .1 .1 .1 .1 .1 .0)) _ (c .before .before .before .before .before .before .before .before .before .before .before .below-bottom .ensures) (c .before .before .before .before .before .before .before .before .before .before .if1 .left) _ (c .before .before .before .before .before .before .before .before .before .point-code .ensures) (c .before .before .before .before .before .before .before .before .if2 .left) _ (c .before .before .before .before .before .before .before .point-place .ensures) _ (c .before .before .before .before .before .before .filter .ensures) (c .before .before .before .before .enum-told .given .1) _ (c .before .before .before .lowest-walked .ensures) _ (c .before .before .has-walk .ensures) (c .before .if3 .left) _ (c .chain-from .ensures .0), c .chain-from .ensures .1)
 
 pub chain-of-spec : {M : Type 1} → statement M
 chain-of-spec =
@@ -114,7 +114,7 @@ chain-of-spec =
     no-anchors-requires-2
     returns-2
     point-place-requires
-    trigger-code-requires
+    filter-requires
     enum-known-check
     no-anchors-requires-3
     returns-3

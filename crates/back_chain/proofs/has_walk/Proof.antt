@@ -1,4 +1,4 @@
-use Rattle.back_chain.specs.Trigger.{walks-invalid, walks-unmarked, walks-genesis, walks-by}
+use Rattle.back_chain.specs.Model.{walks-invalid, walks-unmarked, walks-genesis, walks-by}
 use borrow.Author.Needs.{needs}
 use Rattle.back_chain.proofs.has_walk.Statement.{statement}
 use Rattle.back_chain.proofs.has_walk.Tie as tie

@@ -1,4 +1,4 @@
-use Rattle.back_chain.specs.Trigger.{low-none, low-last, low-bottom}
+use Rattle.back_chain.specs.Model.{low-none, low-last, low-bottom}
 use borrow.Author.Needs.{needs}
 use Rattle.back_chain.proofs.lowest_walked.Statement.{statement}
 use Rattle.back_chain.proofs.lowest_walked.Tie as tie

@@ -5,12 +5,12 @@ use mathlib.Core.Logic.{⊎-elim}
 use native.Mathlib.Omega.{arith}
 use lib.ListN.{length}
 use Rattle.laws.specs.Scan.{those}
-use Rattle.back_history.specs.Picked.{wantsAt, count-hit, count-miss, count-end}
+use Rattle.back_history.specs.Picked.{uncommittedAt, count-hit, count-miss, count-end}
 use Rattle.back_history.proofs.count_points.Statement.{statement}
 use Rattle.back_history.proofs.count_points.Tie as tie
 
 abbrev Inv-loop : tie.InvT-loop
-Inv-loop marks certs order low high n₀ k₀ n k = (k ≤ high - low) × (n ≤ k) × (n ≡ length (those k (wantsAt certs order marks low)))
+Inv-loop marks certs order low high n₀ k₀ n k = (k ≤ high - low) × (n ≤ k) × (n ≡ length (those k (uncommittedAt certs order marks low)))
 
 abbrev μ-loop : tie.MeasureT-loop
 μ-loop marks certs order low high n₀ k₀ n k = high - low - k
@@ -28,8 +28,8 @@ add-place c = search needs
 place-requires : tie.Need-place-requires Inv-loop μ-loop
 place-requires c κs = (search needs, c .before .before .before .before .pre .4)
 
-is-wanted-requires : tie.Need-is-wanted-requires Inv-loop μ-loop
-is-wanted-requires c κs = search needs
+is-uncommitted-requires : tie.Need-is-uncommitted-requires Inv-loop μ-loop
+is-uncommitted-requires c κs = search needs
 
 add-n : tie.Need-add-n Inv-loop μ-loop
 add-n c = search needs
@@ -43,8 +43,8 @@ loop-less c = search needs
 loop-again : tie.Need-loop-again Inv-loop μ-loop
 loop-again c =
     ⊎-elim
-    (λ w. (search needs, search needs, count-hit _ _ _ _ _ _ _ _ _ (c .before .before .before .before .loop .inv .2) (c .before .before .place .ensures .0) (c .before .is-wanted .ensures) (w .0 .taken) (w .1)))
-    (λ w. (search needs, search needs, count-miss _ _ _ _ _ _ _ _ _ (c .before .before .before .before .loop .inv .2) (c .before .before .place .ensures .0) (c .before .is-wanted .ensures) (w .0 .left) (w .1)))
+    (λ w. (search needs, search needs, count-hit _ _ _ _ _ _ _ _ _ (c .before .before .before .before .loop .inv .2) (c .before .before .place .ensures .0) (c .before .is-uncommitted .ensures) (w .0 .taken) (w .1)))
+    (λ w. (search needs, search needs, count-miss _ _ _ _ _ _ _ _ _ (c .before .before .before .before .loop .inv .2) (c .before .before .place .ensures .0) (c .before .is-uncommitted .ensures) (w .0 .left) (w .1)))
     (c .if1 .came)
 
 returns : tie.Need-returns Inv-loop μ-loop
@@ -60,7 +60,7 @@ count-points-spec =
     sub-loop
     add-place
     place-requires
-    is-wanted-requires
+    is-uncommitted-requires
     add-n
     add-k
     loop-less

@@ -1,4 +1,4 @@
-use Rattle.back_history.specs.Sweep.{limitOf}
+use Rattle.back_history.specs.Model.{limitOf}
 use borrow.Author.Needs.{needs}
 use Rattle.back_history.proofs.history_limit.Statement.{statement}
 use Rattle.back_history.proofs.history_limit.Tie as tie

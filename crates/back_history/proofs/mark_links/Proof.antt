@@ -2,7 +2,7 @@ use borrow.Author.Needs.{needs}
 use Prim.Native.Nat.{_≤_, _-_}
 use mathlib.Core.Path.{_≡_, refl}
 use native.Mathlib.Omega.{arith}
-use Rattle.back_history.specs.Sweep.{marked, marked-more, marked-end}
+use Rattle.back_history.specs.Model.{marked, marked-more, marked-end}
 use Rattle.back_history.proofs.mark_links.Statement.{statement}
 use Rattle.back_history.proofs.mark_links.Tie as tie
 

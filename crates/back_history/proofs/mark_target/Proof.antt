@@ -1,4 +1,4 @@
-use Rattle.back_history.specs.Sweep.{put-none, put-place, put-out}
+use Rattle.back_history.specs.Model.{put-none, put-place, put-out}
 use borrow.Author.Needs.{needs}
 use Rattle.back_history.proofs.mark_target.Statement.{statement}
 use Rattle.back_history.proofs.mark_target.Tie as tie

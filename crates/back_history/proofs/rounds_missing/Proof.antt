@@ -1,4 +1,4 @@
-use Rattle.back_history.specs.Sweep.{missing-not, missing-by}
+use Rattle.back_history.specs.Model.{missing-not, missing-by}
 use Rattle.back_history.proofs.rounds_missing.Statement.{statement}
 use Rattle.back_history.proofs.rounds_missing.Tie as tie
 

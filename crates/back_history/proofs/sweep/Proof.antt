@@ -3,7 +3,7 @@ use Prim.Native.Nat.{_≤_, _-_}
 use mathlib.Core.Path.{_≡_}
 use native.Mathlib.Omega.{arith}
 use Rattle.back_history.specs.Down.{down-none, down-end}
-use Rattle.back_history.specs.Sweep.{swept, swept-hit, swept-miss}
+use Rattle.back_history.specs.Model.{swept, swept-hit, swept-miss}
 use Rattle.back_history.proofs.sweep.Statement.{statement}
 use Rattle.back_history.proofs.sweep.Tie as tie
 
@@ -23,11 +23,11 @@ sub-p c = search needs
 place-requires : tie.Need-place-requires Inv-loop μ-loop
 place-requires c κs = (search needs, c .before .before .before .before .before .before .pre .0 .4)
 
-is-wanted-requires : tie.Need-is-wanted-requires Inv-loop μ-loop
-is-wanted-requires c κs = search needs
+is-uncommitted-requires : tie.Need-is-uncommitted-requires Inv-loop μ-loop
+is-uncommitted-requires c κs = search needs
 
-live-requires : tie.Need-live-requires Inv-loop μ-loop
-live-requires c κs = search needs
+live-links-requires : tie.Need-live-links-requires Inv-loop μ-loop
+live-links-requires c κs = search needs
 
 mark-links-requires : tie.Need-mark-links-requires Inv-loop μ-loop
 mark-links-requires c κs = search needs
@@ -36,13 +36,13 @@ loop-less : tie.Need-loop-less Inv-loop μ-loop
 loop-less c = search needs
 
 loop-again : tie.Need-loop-again Inv-loop μ-loop
-loop-again c = (search needs, search needs, swept-hit _ _ _ _ _ _ _ _ _ _ _ _ _ (c .before .before .before .before .before .before .before .before .loop .inv .2) (omega arith) (omega arith) (c .before .before .before .before .before .before .place .ensures .0) (c .before .before .before .before .is-wanted .ensures) (c .before .before .before .if1 .taken) (c .before .live .ensures .0) (c .mark-links .ensures))
+loop-again c = (search needs, search needs, swept-hit _ _ _ _ _ _ _ _ _ _ _ _ _ (c .before .before .before .before .before .before .before .before .loop .inv .2) (omega arith) (omega arith) (c .before .before .before .before .before .before .place .ensures .0) (c .before .before .before .before .is-uncommitted .ensures) (c .before .before .before .if1 .taken) (c .before .live-links .ensures .0) (c .mark-links .ensures))
 
 loop-less-2 : tie.Need-loop-less-2 Inv-loop μ-loop
 loop-less-2 c = search needs
 
 loop-again-2 : tie.Need-loop-again-2 Inv-loop μ-loop
-loop-again-2 c = (search needs, search needs, swept-miss _ _ _ _ _ _ _ _ _ _ _ (c .before .before .before .before .before .loop .inv .2) (omega arith) (omega arith) (c .before .before .before .place .ensures .0) (c .before .is-wanted .ensures) (c .if1 .left))
+loop-again-2 c = (search needs, search needs, swept-miss _ _ _ _ _ _ _ _ _ _ _ (c .before .before .before .before .before .loop .inv .2) (omega arith) (omega arith) (c .before .before .before .place .ensures .0) (c .before .is-uncommitted .ensures) (c .if1 .left))
 
 returns : tie.Need-returns Inv-loop μ-loop
 unfolding swept
@@ -57,8 +57,8 @@ sweep-spec =
     loop-holds
     sub-p
     place-requires
-    is-wanted-requires
-    live-requires
+    is-uncommitted-requires
+    live-links-requires
     mark-links-requires
     loop-less
     loop-again

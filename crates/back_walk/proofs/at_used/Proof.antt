@@ -1,4 +1,4 @@
-use Rattle.back_walk.specs.Step.{used-end, used-other}
+use Rattle.back_walk.specs.Model.{used-end, used-other}
 use Rattle.back_walk.proofs.at_used.Statement.{statement}
 use Rattle.back_walk.proofs.at_used.Tie as tie
 

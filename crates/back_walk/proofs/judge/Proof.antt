@@ -1,5 +1,5 @@
 use mathlib.Core.Path.{refl}
-use Rattle.back_walk.specs.Step.{judgeOf, judge-by, judge-case}
+use Rattle.back_walk.specs.Model.{judgeOf, judge-by, judge-case}
 use borrow.Author.Needs.{needs}
 use Rattle.back_walk.proofs.judge.Statement.{statement}
 use Rattle.back_walk.proofs.judge.Tie as tie

@@ -4,7 +4,7 @@ use Rattle.commit_rounds.specs.Drop.{drop-did, given, dropped-is}
 use borrow.Author.Needs.{needs}
 use native.Mathlib.Omega.{arith}
 use Rattle.models.specs.Digest.{Fit}
-use Rattle.dag_drain.specs.Cut.{below-le}
+use Rattle.back_drain.specs.Model.{below-le}
 use Rattle.commit_rounds.proofs.drop_upto.Statement.{statement}
 use Rattle.commit_rounds.proofs.drop_upto.Tie as tie
 
@@ -52,14 +52,14 @@ drain-upto-requires c κs =
     let l = below-le (a .keys .now) (a .order .now) (a .s .count) (c .before .before .before .before .before .before .before .max .result .0) in
     ((omega (arith, l, c .before .before .before .before .cut .ensures), g .room, g .keys, g .links, g .certs), g .inside)
 
-sub-dropped : tie.Need-sub-dropped
-sub-dropped c =
+sub-drop-state : tie.Need-sub-drop-state
+sub-drop-state c =
     let a = c .before .before .before .before .before .before .before .before .before .before .before .before .before .before .before .before .before .before .before .before .before .before .before .before .before .before .before .before .before .before .args in
     let l = below-le (a .keys .now) (a .order .now) (a .s .count) (c .before .before .before .before .before .before .before .before .before .before .before .before .before .before .before .before .max .result .0) in
     omega (arith, l, c .before .before .before .before .before .before .before .before .before .before .before .before .before .cut .ensures)
 
-dropped-requires : tie.Need-dropped-requires
-dropped-requires c κs =
+drop-state-requires : tie.Need-drop-state-requires
+drop-state-requires c κs =
     let a = c .before .before .before .before .before .before .before .before .before .before .before .before .before .before .before .before .before .before .before .before .before .before .before .before .before .before .before .before .before .before .args in
     let fk : Fit (a .keys .now) = λ p. c .before .before .before .before .before .before .before .before .before .before .before .before .before .before .before .before .before .before .before .before .before .before .before .before .before .before .before .before .before .slice-known .given p .fits in
     let fl : Fit (a .links .now) = λ p. c .before .before .before .before .before .before .before .before .before .before .before .before .before .before .before .before .before .before .before .before .before .before .before .before .before .before .before .before .slice-known2 .given p .fits in
@@ -81,7 +81,7 @@ same-length-8 c = search needs
 returns-2 : tie.Need-returns-2
 returns-2 c =
     let k = c .before .before .before .before .before .before .before .before .before .before .before .drain-upto .ensures in
-    drop-did _ _ (λ p. c .before .before .before .before .before .before .before .before .before .before .before .before .before .before .before .before .before .before .before .before .before .before .before .before .before .before .before .before .before .before .before .before .slice-known .given p .fits) (λ p. c .before .before .before .before .before .before .before .before .before .before .before .before .before .before .before .before .before .before .before .before .before .before .before .before .before .before .before .before .before .before .before .slice-known2 .given p .fits) _ (left-done _ _ _ (tested-by _ _ _ (c .before .before .before .before .before .before .before .before .before .before .before .before .before .before .before .before .before .before .before .before .before .before .before .before .counts-as-started .ensures) (c .before .before .before .before .before .before .before .before .before .before .before .before .before .before .before .before .before .before .before .before .before .before .before .if1 .left) _ refl) _ (dropped-is _ _ _ _ _ (c .before .before .before .before .before .before .before .before .before .before .before .before .before .before .before .before .before .before .before .before .min .ensures) (c .before .before .before .before .before .before .before .before .before .before .before .before .before .before .before .before .before .before .before .max .ensures) (c .before .before .before .before .before .before .before .before .before .before .before .before .before .before .before .before .cut .ensures) _ (c .before .before .dropped .ensures) (k .0) (k .1 .0) (k .1 .1 .0) (k .1 .1 .1)))
+    drop-did _ _ (λ p. c .before .before .before .before .before .before .before .before .before .before .before .before .before .before .before .before .before .before .before .before .before .before .before .before .before .before .before .before .before .before .before .before .slice-known .given p .fits) (λ p. c .before .before .before .before .before .before .before .before .before .before .before .before .before .before .before .before .before .before .before .before .before .before .before .before .before .before .before .before .before .before .before .slice-known2 .given p .fits) _ (left-done _ _ _ (tested-by _ _ _ (c .before .before .before .before .before .before .before .before .before .before .before .before .before .before .before .before .before .before .before .before .before .before .before .before .counts-as-started .ensures) (c .before .before .before .before .before .before .before .before .before .before .before .before .before .before .before .before .before .before .before .before .before .before .before .if1 .left) _ refl) _ (dropped-is _ _ _ _ _ (c .before .before .before .before .before .before .before .before .before .before .before .before .before .before .before .before .before .before .before .before .min .ensures) (c .before .before .before .before .before .before .before .before .before .before .before .before .before .before .before .before .before .before .before .max .ensures) (c .before .before .before .before .before .before .before .before .before .before .before .before .before .before .before .before .cut .ensures) _ (c .before .before .drop-state .ensures) (k .0) (k .1 .0) (k .1 .1 .0) (k .1 .1 .1)))
 
 pub drop-upto-spec : {M : Type 1} → statement M
 drop-upto-spec =
@@ -98,8 +98,8 @@ drop-upto-spec =
     max-requires
     cut-requires
     drain-upto-requires
-    sub-dropped
-    dropped-requires
+    sub-drop-state
+    drop-state-requires
     same-length-5
     same-length-6
     same-length-7

@@ -1,5 +1,5 @@
 use borrow.Author.Needs.{needs}
-use Rattle.dag_test.specs.View.{view}
+use Rattle.tables_test.specs.View.{view}
 use Rattle.commit_start.specs.Start.{places-view, start-range, start-twice, start-passed}
 use Rattle.commit_start.proofs.check_start.Statement.{statement}
 use Rattle.commit_start.proofs.check_start.Tie as tie

@@ -1,5 +1,5 @@
 use mathlib.Core.Path.{refl, sym, ap, _∙_}
-use Rattle.dag_state.specs.Back.{begunState}
+use Rattle.commit_state.specs.Back.{begunState}
 use Rattle.commit_answer.specs.Answer.{left-same, left-refused, left-done}
 use Rattle.commit_start.specs.Start.{start-did, start-ranges}
 use borrow.Author.Needs.{needs}
@@ -39,8 +39,8 @@ kept-memory-requires c κs = search needs
 clear-requires : tie.Need-clear-requires
 clear-requires c κs = search needs
 
-begun-requires : tie.Need-begun-requires
-begun-requires c κs = start-ranges _ _ _ _ _ _ (sym (c .before .before .before .before .before .before .before .before .before .before .before .before .before .before .before .before .check-start .ensures) ∙ c .before .before .before .before .before .before .before .before .before .before .before .before .before .before .enum-told .given .1)
+init-state-requires : tie.Need-init-state-requires
+init-state-requires c κs = start-ranges _ _ _ _ _ _ (sym (c .before .before .before .before .before .before .before .before .before .before .before .before .before .before .before .before .check-start .ensures) ∙ c .before .before .before .before .before .before .before .before .before .before .before .before .before .before .enum-told .given .1)
 
 same-length-5 : tie.Need-same-length-5
 same-length-5 c = search needs
@@ -58,7 +58,7 @@ returns-2 : tie.Need-returns-2
 returns-2 c =
     let a = c .before .before .before .before .before .before .before .before .before .before .before .before .before .before .before .before .before .before .before .before .before .before .before .before .before .before .args in
     let k = c .before .before .before .before .before .before .before .before .before .clear .ensures in
-    start-did _ _ _ (left-done _ _ _ (sym (c .before .before .before .before .before .before .before .before .before .before .before .before .before .before .before .before .before .check-start .ensures) ∙ c .before .before .before .before .before .before .before .before .before .before .before .before .before .before .before .enum-told .given .1) _ (left-same refl (c .begun .ensures ∙ ap (λ m. begunState m (a .with)) (c .before .before .before .before .before .before .before .before .before .before .before .before .before .before .kept-memory .ensures)) (k .0) (k .1 .0) (k .1 .1 .0) (k .1 .1 .1) refl))
+    start-did _ _ _ (left-done _ _ _ (sym (c .before .before .before .before .before .before .before .before .before .before .before .before .before .before .before .before .before .check-start .ensures) ∙ c .before .before .before .before .before .before .before .before .before .before .before .before .before .before .before .enum-told .given .1) _ (left-same refl (c .init-state .ensures ∙ ap (λ m. begunState m (a .with)) (c .before .before .before .before .before .before .before .before .before .before .before .before .before .before .kept-memory .ensures)) (k .0) (k .1 .0) (k .1 .1 .0) (k .1 .1 .1) refl))
 
 pub init-spec : {M : Type 1} → statement M
 init-spec =
@@ -75,7 +75,7 @@ init-spec =
     enum-told
     kept-memory-requires
     clear-requires
-    begun-requires
+    init-state-requires
     same-length-5
     same-length-6
     same-length-7

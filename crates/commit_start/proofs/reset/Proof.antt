@@ -29,8 +29,8 @@ returns c = reset-did _ _ (left-refused _ _ _ _ (tested-no _ _ _ (c .before .bef
 clear-requires : tie.Need-clear-requires
 clear-requires c κs = search needs
 
-cleared-requires : tie.Need-cleared-requires
-cleared-requires c κs = search needs
+reset-state-requires : tie.Need-reset-state-requires
+reset-state-requires c κs = search needs
 
 same-length-5 : tie.Need-same-length-5
 same-length-5 c = search needs
@@ -47,7 +47,7 @@ same-length-8 c = search needs
 returns-2 : tie.Need-returns-2
 returns-2 c =
     let k = c .before .before .before .before .before .before .before .before .before .clear .ensures in
-    reset-did _ _ (left-done _ _ _ (tested-by _ _ _ (c .before .before .before .before .before .before .before .before .before .before .before .before .before .before .before .counts-as-started .ensures) (c .before .before .before .before .before .before .before .before .before .before .before .before .before .before .if1 .left) _ refl) _ (left-same refl (c .cleared .ensures) (k .0) (k .1 .0) (k .1 .1 .0) (k .1 .1 .1) refl))
+    reset-did _ _ (left-done _ _ _ (tested-by _ _ _ (c .before .before .before .before .before .before .before .before .before .before .before .before .before .before .before .counts-as-started .ensures) (c .before .before .before .before .before .before .before .before .before .before .before .before .before .before .if1 .left) _ refl) _ (left-same refl (c .reset-state .ensures) (k .0) (k .1 .0) (k .1 .1 .0) (k .1 .1 .1) refl))
 
 pub reset-spec : {M : Type 1} → statement M
 reset-spec =
@@ -61,7 +61,7 @@ reset-spec =
     same-length-4
     returns
     clear-requires
-    cleared-requires
+    reset-state-requires
     same-length-5
     same-length-6
     same-length-7

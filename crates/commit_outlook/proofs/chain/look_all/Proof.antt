@@ -1,7 +1,7 @@
 use mathlib.Core.Path.{refl}
 use native.Mathlib.Omega.{arith}
 use Rattle.models.specs.Digest.{Fit}
-use Rattle.dag_test.specs.View.{view}
+use Rattle.tables_test.specs.View.{view}
 use Rattle.commit_outlook.specs.Look.{look-room}
 use Rattle.commit_outlook.specs.Chain.{Looking, looking-first, looking-taken, looking-anchored, looked-refused, looked-all}
 use borrow.Author.Needs.{needs}
@@ -9,10 +9,10 @@ use Rattle.commit_outlook.proofs.chain.look_all.Statement.{statement}
 use Rattle.commit_outlook.proofs.chain.look_all.Tie as tie
 
 abbrev Inv-loop : tie.InvT-loop
-Inv-loop s keys links certs order count room list counts₀ left₀ k₀ counts left k = Looking (view s keys links certs order) list count room counts left k
+Inv-loop s keys links certs order count room list numbers₀ left₀ k₀ numbers left k = Looking (view s keys links certs order) list count room numbers left k
 
 abbrev μ-loop : tie.MeasureT-loop
-μ-loop s keys links certs order count room list counts₀ left₀ k₀ counts left k = k
+μ-loop s keys links certs order count room list numbers₀ left₀ k₀ numbers left k = k
 
 loop-holds : tie.Need-loop-holds Inv-loop μ-loop
 loop-holds c = let a = c .before .before .before .before .args in looking-first (view (a .s) (a .keys .now) (a .links .now) (a .certs .now) (a .order .now)) _ (a .count) (a .room) _ refl
@@ -33,7 +33,7 @@ look-one-requires c κs =
     let l = c .before .before .loop in
     let fk : Fit (a .keys .now) = λ q. c .before .before .before .before .before .before .shared-slice-known .given q .fits in
     let fl : Fit (a .links .now) = λ q. c .before .before .before .before .before .shared-slice-known2 .given q .fits in
-    (p .0, looking-anchored (a .s) (a .keys .now) (a .links .now) (a .certs .now) (a .order .now) fk fl (p .0) _ (a .count) (p .1 .0) (a .room) (l .counts) (l .left) (l .k) (l .inv) (c .before .loop-test .taken))
+    (p .0, looking-anchored (a .s) (a .keys .now) (a .links .now) (a .certs .now) (a .order .now) fk fl (p .0) _ (a .count) (p .1 .0) (a .room) (l .numbers) (l .left) (l .k) (l .inv) (c .before .loop-test .taken))
 
 enum-known-check : tie.Need-enum-known-check Inv-loop μ-loop
 enum-known-check c = search needs
@@ -45,16 +45,16 @@ returns c =
     let l = c .before .before .before .before .before .before .loop in
     let fk : Fit (a .keys .now) = λ q. c .before .before .before .before .before .before .before .before .before .before .shared-slice-known .given q .fits in
     let fl : Fit (a .links .now) = λ q. c .before .before .before .before .before .before .before .before .before .shared-slice-known2 .given q .fits in
-    looked-refused (a .s) (a .keys .now) (a .links .now) (a .certs .now) (a .order .now) fk fl (p .0) _ (a .count) (p .1 .0) (a .room) (l .counts) (l .left) (l .k) (l .inv) (c .before .before .before .before .before .loop-test .taken) _ (c .before .before .before .look-one .ensures .0) _ (c .before .check .given .1)
+    looked-refused (a .s) (a .keys .now) (a .links .now) (a .certs .now) (a .order .now) fk fl (p .0) _ (a .count) (p .1 .0) (a .room) (l .numbers) (l .left) (l .k) (l .inv) (c .before .before .before .before .before .loop-test .taken) _ (c .before .before .before .look-one .ensures .0) _ (c .before .check .given .1)
 
 enum-told : tie.Need-enum-told Inv-loop μ-loop
 enum-told c = search needs
 
-mul-counts : tie.Need-mul-counts Inv-loop μ-loop
-mul-counts c = search needs
+mul-numbers : tie.Need-mul-numbers Inv-loop μ-loop
+mul-numbers c = search needs
 
-array-write-counts : tie.Need-array-write-counts Inv-loop μ-loop
-array-write-counts c =
+array-write-numbers : tie.Need-array-write-numbers Inv-loop μ-loop
+array-write-numbers c =
     let h = c .before .before .before .before .before .loop .inv .most in
     let m = c .before .before .before .before .before .before .before .before .before .before .pre .1 .1 in
     search needs
@@ -74,7 +74,7 @@ loop-again c =
     let a = c .before .before .before .before .before .before .before .before .before .before .args in
     let p = c .before .before .before .before .before .before .before .before .before .before .pre in
     let l = c .before .before .before .before .before .loop in
-    looking-taken (view (a .s) (a .keys .now) (a .links .now) (a .certs .now) (a .order .now)) _ (a .count) (a .room) (l .counts) (l .left) (l .k) (l .inv) (c .before .before .before .before .loop-test .taken) _ (c .before .before .look-one .ensures .0) (c .enum-told .given .1) (p .1 .1) _ (c .before .before .look-one .ensures .1)
+    looking-taken (view (a .s) (a .keys .now) (a .links .now) (a .certs .now) (a .order .now)) _ (a .count) (a .room) (l .numbers) (l .left) (l .k) (l .inv) (c .before .before .before .before .loop-test .taken) _ (c .before .before .look-one .ensures .0) (c .enum-told .given .1) (p .1 .1) _ (c .before .before .look-one .ensures .1)
 
 returns-2 : tie.Need-returns-2 Inv-loop μ-loop
 returns-2 c =
@@ -83,7 +83,7 @@ returns-2 c =
     let l = c .before .loop in
     let fk : Fit (a .keys .now) = λ q. c .before .before .before .before .before .shared-slice-known .given q .fits in
     let fl : Fit (a .links .now) = λ q. c .before .before .before .before .shared-slice-known2 .given q .fits in
-    looked-all (a .s) (a .keys .now) (a .links .now) (a .certs .now) (a .order .now) fk fl (p .0) _ (a .count) (p .1 .0) (a .room) (l .counts) (l .left) (l .k) (l .inv) (omega (arith, c .loop-test .left))
+    looked-all (a .s) (a .keys .now) (a .links .now) (a .certs .now) (a .order .now) fk fl (p .0) _ (a .count) (p .1 .0) (a .room) (l .numbers) (l .left) (l .k) (l .inv) (omega (arith, c .loop-test .left))
 
 pub look-all-spec : {M : Type 1} → statement M
 look-all-spec =
@@ -99,8 +99,8 @@ look-all-spec =
     enum-known-check
     returns
     enum-told
-    mul-counts
-    array-write-counts
+    mul-numbers
+    array-write-numbers
     sub-left
     loop-less
     loop-again

@@ -1,6 +1,6 @@
 use Rattle.models.specs.Digest.{Fit}
-use Rattle.dag_test.specs.View.{view}
-use Rattle.commit_outlook.specs.Chain.{looks-placed, told-refused, told-all}
+use Rattle.tables_test.specs.View.{view}
+use Rattle.commit_outlook.specs.Chain.{looks-placed, resolution-refused, resolution-all}
 use borrow.Author.Needs.{needs}
 use Rattle.commit_outlook.proofs.chain.look_chain.Statement.{statement}
 use Rattle.commit_outlook.proofs.chain.look_chain.Tie as tie
@@ -14,7 +14,7 @@ enum-known-check c = search needs
 returns : tie.Need-returns
 returns c =
     let a = c .before .before .before .before .before .before .before .before .before .args in
-    told-refused (view (a .s) (a .keys .now) (a .links .now) (a .certs .now) (a .order .now)) (a .keys .now) (a .b .now) _ (a .count) _ _ (c .before .before .before .look-all .ensures) _ (c .before .check .given .1)
+    resolution-refused (view (a .s) (a .keys .now) (a .links .now) (a .certs .now) (a .order .now)) (a .keys .now) (a .b .now) _ (a .count) _ _ (c .before .before .before .look-all .ensures) _ (c .before .check .given .1)
 
 enum-told : tie.Need-enum-told
 enum-told c = search needs
@@ -33,7 +33,7 @@ same-length c = search needs
 returns-2 : tie.Need-returns-2
 returns-2 c =
     let a = c .before .before .before .before .before .before .before .before .before .before .before .before .before .args in
-    told-all (view (a .s) (a .keys .now) (a .links .now) (a .certs .now) (a .order .now)) (a .keys .now) (a .b .now) _ (a .count) _ _ (c .before .before .before .before .before .before .before .look-all .ensures) (c .before .before .before .before .before .enum-told .given .1) _ (c .before .before .put-looks .ensures)
+    resolution-all (view (a .s) (a .keys .now) (a .links .now) (a .certs .now) (a .order .now)) (a .keys .now) (a .b .now) _ (a .count) _ _ (c .before .before .before .before .before .before .before .look-all .ensures) (c .before .before .before .before .before .enum-told .given .1) _ (c .before .before .put-looks .ensures)
 
 pub look-chain-spec : {M : Type 1} → statement M
 look-chain-spec =

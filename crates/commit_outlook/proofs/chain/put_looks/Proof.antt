@@ -7,10 +7,10 @@ use Rattle.commit_outlook.proofs.chain.put_looks.Statement.{statement}
 use Rattle.commit_outlook.proofs.chain.put_looks.Tie as tie
 
 abbrev Inv-loop : tie.InvT-loop
-Inv-loop keys b₀ count list counts at₀ k₀ b at k = Putting keys list counts count b₀ b at k
+Inv-loop keys b₀ count list numbers at₀ k₀ b at k = Putting keys list numbers count b₀ b at k
 
 abbrev μ-loop : tie.MeasureT-loop
-μ-loop keys b₀ count list counts at₀ k₀ b at k = k
+μ-loop keys b₀ count list numbers at₀ k₀ b at k = k
 
 loop-holds : tie.Need-loop-holds Inv-loop μ-loop
 loop-holds c = let a = c .before .before .args in putting-first (a .keys .now) _ _ (a .count) (a .b .now)

@@ -1,8 +1,8 @@
 use Prim.Native.Nat.{_≤_}
 use Rattle.models.specs.Digest.{Fit}
-use Rattle.dag_test.specs.View.{view}
-use Rattle.back_walk.specs.Visit.{enqueuedOf}
-use Rattle.commit_anchor.specs.Says.{held, anchor-used}
+use Rattle.tables_test.specs.View.{view}
+use Rattle.back_walk.specs.Refines.{enqueuedOf}
+use Rattle.commit_dequeue.specs.Refines.{held, anchor-used}
 use Rattle.commit_outlook.specs.Look.{look-tested, look-full, look-pass, look-points}
 use borrow.Author.Needs.{needs}
 use Rattle.commit_outlook.proofs.look.look_one.Statement.{statement}

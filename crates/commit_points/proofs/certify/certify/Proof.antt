@@ -1,8 +1,8 @@
 use mathlib.Core.Path.{refl, sym, ap, _∙_}
-use Rattle.dag_name.specs.Codes.{number-refused, number-passed}
-use Rattle.dag_name.specs.Words.{id-fit}
-use Rattle.dag_settle.specs.Certs.{certifiedCerts}
-use Rattle.commit_answer.specs.Answer.{board, left-same, tested-no, tested-by, left-refused, left-done}
+use Rattle.dag_round_points.specs.Codes.{number-refused, number-passed}
+use Rattle.dag_round_points.specs.Words.{id-fit}
+use Rattle.cert_certify.specs.ModelCertify.{certifiedCerts}
+use Rattle.commit_answer.specs.Answer.{tables, left-same, tested-no, tested-by, left-refused, left-done}
 use Rattle.commit_points.specs.Name.{name-ready}
 use Rattle.commit_points.specs.Certify.{certify-did, certify-ready}
 use borrow.Author.Needs.{needs}
@@ -24,7 +24,7 @@ returns c = certify-did _ _ (λ p. c .before .before .before .before .before .be
 point-code-requires : tie.Need-point-code-requires
 point-code-requires c κs =
     let a = c .before .before .before .before .before .before .before .args in
-    name-ready (board (a .s) (a .keys .now) (a .links .now) (a .certs .now) (a .order .now)) (λ p. c .before .before .before .before .before .before .shared-slice-known .given p .fits) (λ p. c .before .before .before .before .before .shared-slice-known2 .given p .fits) _ (c .before .counts-as-started .ensures) (c .if1 .left)
+    name-ready (tables (a .s) (a .keys .now) (a .links .now) (a .certs .now) (a .order .now)) (λ p. c .before .before .before .before .before .before .shared-slice-known .given p .fits) (λ p. c .before .before .before .before .before .shared-slice-known2 .given p .fits) _ (c .before .counts-as-started .ensures) (c .if1 .left)
 
 refused-requires-2 : tie.Need-refused-requires-2
 refused-requires-2 c κs = search needs
@@ -38,12 +38,12 @@ returns-2 c = certify-did _ _ (λ p. c .before .before .before .before .before .
 point-place-requires : tie.Need-point-place-requires
 point-place-requires c κs =
     let a = c .before .before .before .before .before .before .before .before .before .args in
-    (name-ready (board (a .s) (a .keys .now) (a .links .now) (a .certs .now) (a .order .now)) (λ p. c .before .before .before .before .before .before .before .before .shared-slice-known .given p .fits) (λ p. c .before .before .before .before .before .before .before .shared-slice-known2 .given p .fits) _ (c .before .before .before .counts-as-started .ensures) (c .before .before .if1 .left), sym (c .before .point-code .ensures) ∙ c .if2 .left)
+    (name-ready (tables (a .s) (a .keys .now) (a .links .now) (a .certs .now) (a .order .now)) (λ p. c .before .before .before .before .before .before .before .before .shared-slice-known .given p .fits) (λ p. c .before .before .before .before .before .before .before .shared-slice-known2 .given p .fits) _ (c .before .before .before .counts-as-started .ensures) (c .before .before .if1 .left), sym (c .before .point-code .ensures) ∙ c .if2 .left)
 
 certify-at-requires : tie.Need-certify-at-requires
 certify-at-requires c κs =
     let a = c .before .before .before .before .before .before .before .before .before .before .before .args in
-    certify-ready (a .id) (board (a .s) (a .keys .now) (a .links .now) (a .certs .now) (a .order .now)) (λ p. c .before .before .before .before .before .before .before .before .before .before .shared-slice-known .given p .fits) (λ p. c .before .before .before .before .before .before .before .before .before .shared-slice-known2 .given p .fits) _ (c .before .before .before .before .before .counts-as-started .ensures) (c .before .before .before .before .if1 .left) _ _ (c .before .before .before .point-code .ensures) (c .before .before .if2 .left) (c .before .point-place .ensures)
+    certify-ready (a .id) (tables (a .s) (a .keys .now) (a .links .now) (a .certs .now) (a .order .now)) (λ p. c .before .before .before .before .before .before .before .before .before .before .shared-slice-known .given p .fits) (λ p. c .before .before .before .before .before .before .before .before .before .shared-slice-known2 .given p .fits) _ (c .before .before .before .before .before .counts-as-started .ensures) (c .before .before .before .before .if1 .left) _ _ (c .before .before .before .point-code .ensures) (c .before .before .if2 .left) (c .before .point-place .ensures)
 
 same-length-3 : tie.Need-same-length-3
 same-length-3 c = search needs

@@ -1,7 +1,7 @@
 use mathlib.Core.Path.{refl, sym, _∙_}
 use Rattle.models.specs.Refusal.{numbered-passed}
-use Rattle.dag_name.specs.Words.{id-fit}
-use Rattle.commit_answer.specs.Answer.{board, left-same, tested-no, tested-by, left-refused, left-done}
+use Rattle.dag_round_points.specs.Words.{id-fit}
+use Rattle.commit_answer.specs.Answer.{tables, left-same, tested-no, tested-by, left-refused, left-done}
 use Rattle.commit_points.specs.Name.{name-did, name-ready, name-long}
 use borrow.Author.Needs.{needs}
 use Rattle.commit_points.proofs.name.add_dependency.Statement.{statement}
@@ -28,7 +28,7 @@ returns c = name-did _ _ (λ p. c .before .before .before .before .before .befor
 check-name-requires : tie.Need-check-name-requires
 check-name-requires c κs =
     let a = c .before .before .before .before .before .before .before .before .before .before .before .args in
-    name-ready (board (a .s) (a .keys .now) (a .links .now) (a .certs .now) (a .order .now)) (λ p. c .before .before .before .before .before .before .before .before .before .before .slice-known .given p .fits) (λ p. c .before .before .before .before .before .before .before .before .before .shared-slice-known .given p .fits) _ (c .before .before .before .counts-as-started .ensures) (c .before .before .if1 .left)
+    name-ready (tables (a .s) (a .keys .now) (a .links .now) (a .certs .now) (a .order .now)) (λ p. c .before .before .before .before .before .before .before .before .before .before .slice-known .given p .fits) (λ p. c .before .before .before .before .before .before .before .before .before .shared-slice-known .given p .fits) _ (c .before .before .before .counts-as-started .ensures) (c .before .before .if1 .left)
 
 enum-known-check : tie.Need-enum-known-check
 enum-known-check c = search needs
@@ -54,7 +54,7 @@ enum-told c = search needs
 name-point-requires : tie.Need-name-point-requires
 name-point-requires c κs =
     let a = c .before .before .before .before .before .before .before .before .before .before .before .before .before .before .before .before .before .args in
-    let d = board (a .s) (a .keys .now) (a .links .now) (a .certs .now) (a .order .now) in
+    let d = tables (a .s) (a .keys .now) (a .links .now) (a .certs .now) (a .order .now) in
     (name-ready d (λ p. c .before .before .before .before .before .before .before .before .before .before .before .before .before .before .before .before .slice-known .given p .fits) (λ p. c .before .before .before .before .before .before .before .before .before .before .before .before .before .before .before .shared-slice-known .given p .fits) _ (c .before .before .before .before .before .before .before .before .before .counts-as-started .ensures) (c .before .before .before .before .before .before .before .before .if1 .left), (name-long d (λ p. c .before .before .before .before .before .before .before .before .before .before .before .before .before .before .before .before .slice-known .given p .fits) (λ p. c .before .before .before .before .before .before .before .before .before .before .before .before .before .before .before .shared-slice-known .given p .fits) _ (c .before .before .before .before .before .before .before .before .before .counts-as-started .ensures) (c .before .before .before .before .before .before .before .before .if1 .left), numbered-passed _ (sym (c .before .before .before .before .before .check-name .ensures) ∙ c .before .before .before .enum-told .given .1)))
 
 same-length-7 : tie.Need-same-length-7

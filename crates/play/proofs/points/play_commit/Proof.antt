@@ -2,8 +2,8 @@ use mathlib.Core.Path.{refl}
 use Rattle.spec.specs.Calls as calls
 use Rattle.trace.specs.Fields.{callBy}
 use Rattle.trace.specs.declared.head.Kind.the-variants as kind
-use Rattle.play.specs.Made.{made-two}
-use Rattle.play.specs.Plays.{plays-lent}
+use Rattle.play.specs.Steps.{made-two}
+use Rattle.play.specs.Plays.{plays-bufferOf}
 use borrow.Author.Needs.{needs}
 use Rattle.play.proofs.points.play_commit.Statement.{statement}
 use Rattle.play.proofs.points.play_commit.Tie as tie
@@ -25,7 +25,7 @@ same-length-2 c = search needs
 
 returns : tie.Need-returns
 unfolding callBy
-returns c = plays-lent kind.Commit _ _ _ _ _ _ _ _ (c .step-of .result) refl (c .step-of .ensures) _ _ refl (made-two _ _ _ calls.commit _ _ _ _ (c .before .before .before .before .before .commit .ensures) (c .before .before .before .before .before .before .before .before .id-of .ensures) refl)
+returns c = plays-bufferOf kind.Commit _ _ _ _ _ _ _ _ (c .step-of .result) refl (c .step-of .ensures) _ _ refl (made-two _ _ _ calls.commit _ _ _ _ (c .before .before .before .before .before .commit .ensures) (c .before .before .before .before .before .before .before .before .id-of .ensures) refl)
 
 pub play-commit-spec : {M : Type 1} → statement M
 play-commit-spec =

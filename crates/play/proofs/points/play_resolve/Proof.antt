@@ -2,7 +2,7 @@ use mathlib.Core.Path.{refl}
 use Rattle.spec.specs.Calls as calls
 use Rattle.trace.specs.Fields.{callBy}
 use Rattle.trace.specs.declared.head.Kind.the-variants as kind
-use Rattle.play.specs.Made.{made-two, refs-count, refs-told}
+use Rattle.play.specs.Steps.{made-two, refs-count, refs-resolution}
 use Rattle.play.specs.Plays.{plays-plain}
 use borrow.Author.Needs.{needs}
 use Rattle.play.proofs.points.play_resolve.Statement.{statement}
@@ -49,7 +49,7 @@ same-length-3 c = search needs
 
 returns : tie.Need-returns
 unfolding callBy
-returns c w = plays-plain kind.Resolve _ _ _ _ _ _ _ _ (c .step-of .result) refl (c .step-of .ensures) w _ refl (made-two _ _ _ calls.resolve _ _ _ _ (c .before .before .before .before .before .before .before .resolve .ensures) (c .before .before .before .before .before .before .before .before .before .before .before .before .before .before .before .before .before .id-of .ensures) (refs-told _ _ _ (c .before .before .before .before .before .before .before .before .before .before .before .before .before .before .before .before .info-of .result) (c .before .before .before .before .before .before .before .before .before .before .before .before .before .refs-of .ensures) refl (c .before .before .before .before .before .before .before .before .before .before .before .before .before .before .before .before .info-of .ensures .1) (c .before .before .before .before .before .before .before .before .before .before .before .before .before .before .before .before .before .before .before .before .before .before .before .pre .1) (c .before .before .before .before .before .before .before .before .before .before .before .before .before .before .before .before .info-of .ensures .0)))
+returns c w = plays-plain kind.Resolve _ _ _ _ _ _ _ _ (c .step-of .result) refl (c .step-of .ensures) w _ refl (made-two _ _ _ calls.resolve _ _ _ _ (c .before .before .before .before .before .before .before .resolve .ensures) (c .before .before .before .before .before .before .before .before .before .before .before .before .before .before .before .before .before .id-of .ensures) (refs-resolution _ _ _ (c .before .before .before .before .before .before .before .before .before .before .before .before .before .before .before .before .info-of .result) (c .before .before .before .before .before .before .before .before .before .before .before .before .before .refs-of .ensures) refl (c .before .before .before .before .before .before .before .before .before .before .before .before .before .before .before .before .info-of .ensures .1) (c .before .before .before .before .before .before .before .before .before .before .before .before .before .before .before .before .before .before .before .before .before .before .before .pre .1) (c .before .before .before .before .before .before .before .before .before .before .before .before .before .before .before .before .info-of .ensures .0)))
 
 pub play-resolve-spec : {M : Type 1} → statement M
 play-resolve-spec =

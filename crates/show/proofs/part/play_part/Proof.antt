@@ -3,7 +3,7 @@ use mathlib.Core.Path.{_≡_, refl, _∙_}
 use mathlib.Core.Bool.{false}
 use native.Mathlib.Omega.{arith}
 use lib.ListN.{length}
-use Rattle.commit_answer.specs.Answer.{board}
+use Rattle.commit_answer.specs.Answer.{tables}
 use Rattle.show.specs.Runs.{Runs, none-yet, leastLeft, runs-more, runs-stays, ends-broken, ends-short}
 use borrow.Author.Needs.{needs}
 use Rattle.show.proofs.part.play_part.Statement.{statement}
@@ -24,7 +24,7 @@ abbrev Inv-loop : tie.InvT-loop
 Inv-loop keys₀ links₀ certs₀ order₀ b₀ bytes base last now₀ at₀ broken₀ n least keys links certs order b now at broken =
     (n ≡ length bytes) × (at ≤ n) × (broken ≡ false) × (least ≡ leastLeft last)
     × (length keys ≡ length keys₀) × (length links ≡ length links₀) × (length certs ≡ length certs₀) × (length order ≡ length order₀) × (length b ≡ length b₀)
-    × Runs bytes (board now₀ keys₀ links₀ certs₀ order₀) b₀ at (board now keys links certs order) b
+    × Runs bytes (tables now₀ keys₀ links₀ certs₀ order₀) b₀ at (tables now keys links certs order) b
 
 abbrev μ-loop : tie.MeasureT-loop
 μ-loop keys₀ links₀ certs₀ order₀ b₀ bytes base last now₀ at₀ broken₀ n least keys links certs order b now at broken = n - at

@@ -1,4 +1,4 @@
-use Rattle.dag_state.specs.Back.{usedOf}
+use Rattle.commit_state.specs.Back.{usedOf}
 use Rattle.trace.specs.Fields.{used-none, used-some}
 use Rattle.trace.proofs.fields.used_of.Statement.{statement}
 use Rattle.trace.proofs.fields.used_of.Tie as tie

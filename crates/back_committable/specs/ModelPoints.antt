@@ -1,0 +1,122 @@
+-- What a point of a history is refused with, and the first point that is (01: 'Refusals' 13 to 15).
+use Prim.Native.Nat.{ℕ, _-_, _<_, _≤_}
+use mathlib.Core.Path.{_≡_, refl, sym, ap, subst, _∙_}
+use mathlib.Core.List.{List}
+use mathlib.Core.Bool.{Bool, true, false, _&&_, cond}
+use native.Mathlib.Omega.{arith}
+use lib.Dec.{ltb}
+use lib.ListN.{getD}
+use borrow.Author.Tests.{le-ltb, lt-ltb}
+use Rattle.laws.specs.Test.{and-no}
+use Rattle.models.specs.Cert.{hasProof}
+use Rattle.models.specs.Tables.{roundAt, statusAt, placeAt}
+use Rattle.models.specs.DagPoint.{caseOf}
+use Rattle.models.specs.Refusal.{failed, conflicting, notValid, isFailed}
+use Rattle.models.specs.declared.dag_point.DagPoint.{DagPoint}
+use Rattle.models.specs.declared.dag_point.DagPoint.the-variants.{Valid, TransInvalid, Invalid, IllFormed, NotFound}
+use Rattle.models.specs.declared.dag_point.Resolved.{Resolved}
+use Rattle.models.specs.declared.dag_point.Resolved.the-variants.{Case, Nothing}
+use Rattle.models.specs.declared.refusal.Check.{Check}
+use Rattle.models.specs.declared.refusal.Check.the-variants.{Passed, Failed}
+use Rattle.back_committable.specs.Scan.{scanned}
+
+-- what a point of a history is refused with, by its case, its certificate word and its round
+unfoldable pub committableOf : DagPoint → ℕ → ℕ → Check
+committableOf Valid c r = Passed
+committableOf TransInvalid c r = cond (hasProof c) (conflicting r) Passed
+committableOf Invalid c r = notValid c r
+committableOf IllFormed c r = notValid c r
+committableOf NotFound c r = notValid c r
+
+-- 14 if it isn't resolved
+unfoldable pub faultOf : Resolved → ℕ → ℕ → Check
+faultOf Nothing c r = failed 14
+faultOf (Case p) c r = committableOf p c r
+
+-- the same of place q
+unfoldable pub faultAt : List ℕ → List ℕ → ℕ → Check
+faultAt ks cs q = faultOf (caseOf (statusAt ks q)) (getD cs q 0) (roundAt ks q)
+
+-- place q is marked, and its point isn't usable
+unfoldable pub faulty : List ℕ → List ℕ → List Bool → ℕ → Bool
+faulty ks cs m q = getD m q false && isFailed (faultAt ks cs q)
+
+-- the place at position p is so
+unfoldable pub faultyAt : List ℕ → List ℕ → List ℕ → List Bool → ℕ → Bool
+faultyAt ks cs os m p = faulty ks cs m (placeAt os p)
+
+-- the round at position p
+unfoldable pub roundOf : List ℕ → List ℕ → ℕ → ℕ
+roundOf ks os p = roundAt ks (placeAt os p)
+
+-- the first of the positions from low to high whose point isn't usable, or high
+unfoldable pub firstFault : List ℕ → List ℕ → List ℕ → List Bool → ℕ → ℕ → ℕ
+firstFault ks cs os m low high = scanned (faultyAt ks cs os m) (roundOf ks os) high (high - low)
+
+-- what the positions from low to high are refused with
+unfoldable pub foundFault : List ℕ → List ℕ → List ℕ → List Bool → ℕ → ℕ → Check
+foundFault ks cs os m low high = let p = firstFault ks cs os m low high in cond (ltb p high) (faultAt ks cs (placeAt os p)) Passed
+
+-- the rounds of the first n positions are rounds of 01
+abbrev pub Rounds : List ℕ → List ℕ → ℕ → Type 0
+Rounds ks os n = (p : ℕ) → p < n → roundAt ks (placeAt os p) ≤ 4_000_000_000
+
+-- ---- the steps of the code
+
+module _ (ks cs : List ℕ) (q : ℕ) where
+  module _ (x : Resolved) (is : x ≡ caseOf (statusAt ks q)) where
+    -- unresolved
+    pub fault-none : x ≡ Nothing → failed 14 ≡ faultAt ks cs q
+    unfolding faultAt faultOf
+    fault-none e = rw (sym is ∙ e) refl
+
+    -- resolved, of the case y
+    pub fault-by : (p y : DagPoint) → x ≡ Case p → p ≡ y → (r : ℕ) → r ≡ roundAt ks q → (c : Check) → c ≡ committableOf y (getD cs q 0) r → c ≡ faultAt ks cs q
+    unfolding faultAt faultOf
+    fault-by p y e f r o c h = h ∙ rw (sym is ∙ (e ∙ ap Case f), o) refl
+
+  module _ (m : List Bool) where
+    -- not marked
+    pub faulty-not : getD m q false ≡ false → false ≡ faulty ks cs m q
+    unfolding faulty
+    faulty-not h = sym (and-no _ h)
+
+    -- marked: what it is refused with decides
+    pub faulty-by : (c d : Check) → getD m q false ≡ true → c ≡ faultAt ks cs q → c ≡ d → isFailed d ≡ faulty ks cs m q
+    unfolding faulty
+    faulty-by c d h e f = rw (h, sym e ∙ f) refl
+
+-- trans-invalid: proved or not
+module _ (c r : ℕ) (b : Bool) (is : b ≡ hasProof c) where
+  pub trans-proved : b ≡ true → conflicting r ≡ committableOf TransInvalid c r
+  unfolding committableOf
+  trans-proved h = rw (← is, h) refl
+
+  pub trans-unproved : b ≡ false → Passed ≡ committableOf TransInvalid c r
+  unfolding committableOf
+  trans-unproved h = rw (← is, h) refl
+
+-- the round of the place at position p
+pub round-of : (ks os : List ℕ) (i p : ℕ) → i ≡ placeAt os p → roundAt ks i ≡ roundOf ks os p
+unfolding roundOf
+round-of ks os i p e = ap (roundAt ks) e
+
+-- it is a round of 01
+pub round-fits : (ks os : List ℕ) (n p q : ℕ) → Rounds ks os n → p < n → q ≡ placeAt os p → roundAt ks q ≤ 4_000_000_000
+round-fits ks os n p q h l e = subst (λ x. roundAt ks x ≤ 4_000_000_000) (sym e) (h p l)
+
+-- the test of the place at position p
+pub faulty-at : (ks cs os : List ℕ) (m : List Bool) (q p : ℕ) (b : Bool) → q ≡ placeAt os p → b ≡ faulty ks cs m q → b ≡ faultyAt ks cs os m p
+unfolding faultyAt
+faulty-at ks cs os m q p b e h = h ∙ ap (faulty ks cs m) e
+
+module _ (ks cs os : List ℕ) (m : List Bool) (low high p : ℕ) (e : p ≡ firstFault ks cs os m low high) where
+  -- no point is refused
+  pub found-none : high ≤ p → Passed ≡ foundFault ks cs os m low high
+  unfolding foundFault
+  found-none l = rw (le-ltb (firstFault ks cs os m low high) high (omega arith)) refl
+
+  -- the point at position p is
+  pub found-at : p < high → (q : ℕ) → q ≡ placeAt os p → (c : Check) → c ≡ faultAt ks cs q → c ≡ foundFault ks cs os m low high
+  unfolding foundFault
+  found-at l q d c h = h ∙ rw (lt-ltb (firstFault ks cs os m low high) high (omega arith)) (ap (faultAt ks cs) (d ∙ ap (placeAt os) e))

@@ -1,0 +1,132 @@
+// Origin: dag/commit/back.rs (gather_uncommitted). The tests of one anchor that commit and outlook both make, with what its history is.
+ghost use mathlib.Core.Path.{_≡_};
+ghost use Prim.Native.Nat.{_*_, _≤_};
+ghost use lib.ListN.{length};
+ghost use Rattle.spec.specs.Chain.{good};
+ghost use Rattle.spec.specs.History.{tested};
+ghost use Rattle.models.specs.Refusal.{unlessFailed};
+ghost use Rattle.models.specs.Tables.{Used};
+ghost use Rattle.tables_test.specs.View.{view};
+ghost use Rattle.tables_test.specs.Refines.{Started};
+ghost use Rattle.dag_round_points.specs.Model.{Ready};
+ghost use Rattle.back_history.specs.Model.{Range};
+ghost use Rattle.back_committable.specs.ModelPoints.{Rounds};
+ghost use Rattle.back_committable.specs.Model.{spanOf, codeOf, testedOf};
+use crate::fault::history_fault;
+use crate::fault::round_at;
+use back_history::any_uncertified;
+use back_history::count_points;
+use back_history::gather_uncommitted;
+use back_history::history_limit;
+use back_history::rounds_missing;
+use commit_state::state::State;
+use models::parts::Round;
+use models::refusal::AT_GENESIS;
+use models::refusal::Check;
+use models::refusal::NOT_CERTIFIED;
+use models::refusal::ROUNDS_MISSING;
+use models::refusal::Refusal;
+
+// The positions of a history, from `low` to `high`, and its limit.
+pub struct Span {
+    pub limit: Round,
+    pub low: usize,
+    pub high: usize,
+}
+
+// What an anchor's tests give, which refuse it with 22, 13 to 15, 17 or 18. Its history: the marked places that are not committed, of
+// the positions from `low` to `high`, and their number.
+pub struct Tested {
+    pub check: Check,
+    pub low: usize,
+    pub high: usize,
+    pub count: usize,
+    pub marks: [bool; 4096],
+}
+
+// The positions of the history of an anchor of this round.
+fn span_of(s: State, keys: &[u64], order: &[u64], round: Round) -> Span
+    requires { ⌜ Ready s (now keys) (now order) ⌝ }
+    requires { ⌜ (s .genesis .0 ≤ 4000000000) × (round .0 ≤ 4000000000) ⌝ }
+    ensures { λ r. ⌜ r ≡ spanOf s (now (keys .entry)) (now (order .entry)) (round .0) ⌝ }
+{
+    let genesis = s.genesis;
+    let bottom = s.bottom;
+    let limit = history_limit(genesis, s.commit_history_rounds, round);
+    let lowest = limit.max(bottom);
+    let n = s.count;
+    let low = back_drain::cut(keys, order, n, lowest);
+    let high = back_drain::cut(keys, order, n, round.plus(1));
+    Span {
+        limit: limit,
+        low: low,
+        high: high,
+    }
+}
+
+// What the anchor of this round is refused with.
+fn anchor_code(
+    s: State,
+    marks: &[bool; 4096],
+    keys: &[u64],
+    certs: &[u64],
+    order: &[u64],
+    span: Span,
+    round: Round,
+) -> Check
+    requires { ⌜ Range (now certs) (now order) (span .low) (span .high) ⌝ }
+    requires { ⌜ (length (now keys) ≡ length (now order) * 8) × Rounds (now keys) (now order) (span .high) ⌝ }
+    ensures { λ r. ⌜ r ≡ codeOf s (now (keys .entry)) (now (certs .entry)) (now (order .entry)) (now (marks .entry)) span (round .0) ⌝ }
+{
+    let genesis = s.genesis;
+    if round.0 <= genesis.0 {
+        return Check::Failed(Refusal::Number(AT_GENESIS));
+    }
+    let low = span.low;
+    let high = span.high;
+    let check = history_fault(marks, keys, certs, order, low, high);
+    if let Check::Failed(r) = check {
+        return Check::Failed(r);
+    }
+    let full = s.full_history_bottom;
+    let limit = span.limit;
+    let bottom = s.bottom;
+    if rounds_missing(full, limit, bottom) {
+        return Check::Failed(Refusal::Number(ROUNDS_MISSING));
+    }
+    if any_uncertified(marks, certs, order, low, high) {
+        return Check::Failed(Refusal::Number(NOT_CERTIFIED));
+    }
+    Check::Passed
+}
+
+// The tests of the anchor at a used place.
+pub fn test_anchor(
+    s: State,
+    keys: &[u64],
+    links: &[u64],
+    certs: &[u64],
+    order: &[u64],
+    anchor: usize,
+) -> Tested
+    requires { ⌜ Started s (now keys) (now links) (now certs) (now order) ⌝ }
+    requires { ⌜ Used (now order) (s .count) anchor ⌝ }
+    ensures whole { λ r. ⌜ r ≡ testedOf s (now (keys .entry)) (now (links .entry)) (now (certs .entry)) (now (order .entry)) anchor ⌝ }
+    ensures outcome { λ r. ⌜ unlessFailed (r .check) (good anchor) ≡ tested (view s (now (keys .entry)) (now (links .entry)) (now (certs .entry)) (now (order .entry))) anchor ⌝ }
+{
+    let round = round_at(keys, anchor);
+    let span = span_of(s, keys, order, round);
+    let low = span.low;
+    let high = span.high;
+    let bottom = s.bottom;
+    let marks = gather_uncommitted(keys, links, certs, order, bottom, low, high, anchor);
+    let count = count_points(&marks, certs, order, low, high);
+    let check = anchor_code(s, &marks, keys, certs, order, span, round);
+    Tested {
+        check,
+        low: low,
+        high: high,
+        count: count,
+        marks: marks,
+    }
+}

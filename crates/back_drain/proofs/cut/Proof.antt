@@ -1,0 +1,25 @@
+-- The least key of the round is looked up.
+use native.Mathlib.Omega.{arith}
+use borrow.Author.Needs.{needs}
+use Rattle.tables_test.specs.Model.{inside-keys}
+use Rattle.back_drain.specs.Model.{cut-is}
+use Rattle.back_drain.proofs.cut.Statement.{statement}
+use Rattle.back_drain.proofs.cut.Tie as tie
+
+cast-round : tie.Need-cast-round
+cast-round c = search needs
+
+slice-aggregate-seek : tie.Need-slice-aggregate-seek
+slice-aggregate-seek c = search needs
+
+seek-requires : tie.Need-seek-requires
+seek-requires c κs =
+    let a = c .before .before .before .before .args in
+    let p = c .before .before .before .before .pre in
+    ((p .0 .1, (omega arith, inside-keys (a .keys .now) (a .order .now) (a .n) (p .0 .0) (p .0 .2))), p .1)
+
+returns : tie.Need-returns
+returns c = cut-is _ _ _ _ _ (c .seek .ensures)
+
+pub cut-spec : {M : Type 1} → statement M
+cut-spec = tie.close (tie.spec cast-round slice-aggregate-seek seek-requires returns)

@@ -1,0 +1,82 @@
+use borrow.Author.Needs.{needs}
+use Prim.Native.Nat.{_≤_, _-_}
+use mathlib.Core.Path.{_≡_, refl}
+use mathlib.Core.Bool.{false}
+use mathlib.Core.Logic.{⊎-elim}
+use native.Mathlib.Omega.{arith}
+use Rattle.laws.specs.Scan.{any}
+use Rattle.back_history.specs.Picked.{uncertifiedAt, flat-hit, flat-off, flat-heightsAre, any-end}
+use Rattle.back_history.proofs.any_uncertified.Statement.{statement}
+use Rattle.back_history.proofs.any_uncertified.Tie as tie
+
+abbrev Inv-loop : tie.InvT-loop
+Inv-loop marks certs order low high k₀ k = (k ≤ high - low) × (false ≡ any k (uncertifiedAt certs order marks low))
+
+abbrev μ-loop : tie.MeasureT-loop
+μ-loop marks certs order low high k₀ k = high - low - k
+
+loop-holds : tie.Need-loop-holds Inv-loop μ-loop
+unfolding any
+loop-holds c = (search needs, refl)
+
+sub-loop : tie.Need-sub-loop Inv-loop μ-loop
+sub-loop c = search needs
+
+add-place : tie.Need-add-place Inv-loop μ-loop
+add-place c = search needs
+
+place-requires : tie.Need-place-requires Inv-loop μ-loop
+place-requires c κs = (search needs, c .before .before .before .before .pre .4)
+
+is-uncommitted-requires : tie.Need-is-uncommitted-requires Inv-loop μ-loop
+is-uncommitted-requires c κs = search needs
+
+mul-t12 : tie.Need-mul-t12 Inv-loop μ-loop
+mul-t12 c = search needs
+
+shared-slice-read-t14 : tie.Need-shared-slice-read-t14 Inv-loop μ-loop
+shared-slice-read-t14 c = search needs
+
+is-certified-requires : tie.Need-is-certified-requires Inv-loop μ-loop
+is-certified-requires c κs = search needs
+
+returns : tie.Need-returns Inv-loop μ-loop
+returns c = flat-hit _ _ _ _ _ _ _ _ _ (c .before .before .before .before .before .before .loop-test .taken) (c .before .before .before .before .before .place .ensures .0) (c .before .before .before .before .is-uncommitted .ensures) (c .before .before .before .if1 .taken) (c .before .is-certified .ensures) (c .if2 .taken)
+
+add-k : tie.Need-add-k Inv-loop μ-loop
+add-k c = search needs
+
+loop-less : tie.Need-loop-less Inv-loop μ-loop
+loop-less c = search needs
+
+loop-again : tie.Need-loop-again Inv-loop μ-loop
+loop-again c = (
+  search needs,
+  ⊎-elim
+      (λ w. flat-heightsAre _ _ _ _ _ _ _ _ (c .before .before .before .before .loop .inv .1) (c .before .before .place .ensures .0) (c .before .is-uncommitted .ensures) (w .0 .taken) (w .2 .ensures) (w .3 .left))
+      (λ w. flat-off _ _ _ _ _ _ _ (c .before .before .before .before .loop .inv .1) (c .before .before .place .ensures .0) (c .before .is-uncommitted .ensures) (w .left))
+      (c .if1 .came),
+)
+
+returns-2 : tie.Need-returns-2 Inv-loop μ-loop
+returns-2 c = any-end _ _ _ _ (c .before .loop .inv .1) (omega arith)
+
+pub any-uncertified-spec : {M : Type 1} → statement M
+any-uncertified-spec =
+    tie.close
+    (tie.spec
+    Inv-loop
+    μ-loop
+    loop-holds
+    sub-loop
+    add-place
+    place-requires
+    is-uncommitted-requires
+    mul-t12
+    shared-slice-read-t14
+    is-certified-requires
+    returns
+    add-k
+    loop-less
+    loop-again
+    returns-2)

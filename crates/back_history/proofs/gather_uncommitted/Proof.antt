@@ -1,0 +1,16 @@
+use Rattle.back_history.specs.Model.{marks-by}
+use borrow.Author.Needs.{needs}
+use Rattle.back_history.proofs.gather_uncommitted.Statement.{statement}
+use Rattle.back_history.proofs.gather_uncommitted.Tie as tie
+
+array-write-marks : tie.Need-array-write-marks
+array-write-marks c = search needs
+
+sweep-requires : tie.Need-sweep-requires
+sweep-requires c κs = search needs
+
+returns : tie.Need-returns
+returns c = marks-by _ _ _ _ _ _ _ _ _ (c .sweep .ensures)
+
+pub gather-uncommitted-spec : {M : Type 1} → statement M
+gather-uncommitted-spec = tie.close (tie.spec array-write-marks sweep-requires returns)

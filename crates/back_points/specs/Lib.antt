@@ -1,5 +1,0 @@
-pub mod Scan
-pub mod Fault
-pub mod Anchor
-pub mod Judged
-pub mod Tested

@@ -1,0 +1,58 @@
+use Rattle.back_walk.specs.Words.{Placed}
+use Rattle.back_walk.specs.Model.{placed, needed-at, proof-no, proof-unmarked, proof-first, proof-is}
+use borrow.Author.Needs.{needs}
+use Rattle.back_walk.proofs.chained_proof.Statement.{statement}
+use Rattle.back_walk.proofs.chained_proof.Tie as tie
+
+ready-valid-point-requires : tie.Need-ready-valid-point-requires
+ready-valid-point-requires c κs = search needs
+
+enum-known-found : tie.Need-enum-known-found
+enum-known-found c = search needs
+
+enum-known-found-2 : tie.Need-enum-known-found-2
+enum-known-found-2 c = search needs
+
+mul-if1 : tie.Need-mul-if1
+mul-if1 c = let a = c .before .before .before .before .before .before .before .before .args in let h : Placed (a .keys .now) (a .links .now) _ = placed (a .s) (a .keys .now) (a .links .now) (a .certs .now) (a .order .now) _ (c .before .before .before .before .before .before .before .before .pre .0) (c .before .before .before .before .before .before .before .before .pre .1) (needed-at (a .s) (a .keys .now) (a .certs .now) (a .order .now) (a .id) _ (c .before .before .before .ready-valid-point .ensures) _ (c .before .found2 .given .1) .0) in search needs
+
+add-if1 : tie.Need-add-if1
+add-if1 c = let a = c .before .before .before .before .before .before .before .before .args in let h : Placed (a .keys .now) (a .links .now) _ = placed (a .s) (a .keys .now) (a .links .now) (a .certs .now) (a .order .now) _ (c .before .before .before .before .before .before .before .before .pre .0) (c .before .before .before .before .before .before .before .before .pre .1) (needed-at (a .s) (a .keys .now) (a .certs .now) (a .order .now) (a .id) _ (c .before .before .before .ready-valid-point .ensures) _ (c .before .found2 .given .1) .0) in search needs
+
+mul-if1-2 : tie.Need-mul-if1-2
+mul-if1-2 c = let a = c .before .before .before .before .before .before .before .before .args in let h : Placed (a .keys .now) (a .links .now) _ = placed (a .s) (a .keys .now) (a .links .now) (a .certs .now) (a .order .now) _ (c .before .before .before .before .before .before .before .before .pre .0) (c .before .before .before .before .before .before .before .before .pre .1) (needed-at (a .s) (a .keys .now) (a .certs .now) (a .order .now) (a .id) _ (c .before .before .before .ready-valid-point .ensures) _ (c .before .found2 .given .1) .0) in search needs
+
+shared-slice-read-if1 : tie.Need-shared-slice-read-if1
+shared-slice-read-if1 c = let a = c .before .before .before .before .before .before .before .before .before .args in let h : Placed (a .keys .now) (a .links .now) _ = placed (a .s) (a .keys .now) (a .links .now) (a .certs .now) (a .order .now) _ (c .before .before .before .before .before .before .before .before .before .pre .0) (c .before .before .before .before .before .before .before .before .before .pre .1) (needed-at (a .s) (a .keys .now) (a .certs .now) (a .order .now) (a .id) _ (c .before .before .before .before .ready-valid-point .ensures) _ (c .before .before .found2 .given .1) .0) in search needs
+
+returns : tie.Need-returns
+returns c = let a = c .before .before .before .before .before .before .before .before .before .before .args in proof-unmarked (a .s) (a .keys .now) (a .links .now) (a .certs .now) (a .order .now) (a .id) _ (c .before .before .before .before .before .ready-valid-point .ensures) _ (c .before .before .before .found2 .given .1) (c .if1 .taken)
+
+has-previous-requires : tie.Need-has-previous-requires
+has-previous-requires c κs = let a = c .before .before .before .before .before .before .before .before .before .before .args in let h : Placed (a .keys .now) (a .links .now) _ = placed (a .s) (a .keys .now) (a .links .now) (a .certs .now) (a .order .now) _ (c .before .before .before .before .before .before .before .before .before .before .pre .0) (c .before .before .before .before .before .before .before .before .before .before .pre .1) (needed-at (a .s) (a .keys .now) (a .certs .now) (a .order .now) (a .id) _ (c .before .before .before .before .before .ready-valid-point .ensures) _ (c .before .before .before .found2 .given .1) .0) in h
+
+returns-2 : tie.Need-returns-2
+returns-2 c = let a = c .before .before .before .before .before .before .before .before .before .before .before .before .args in proof-first (a .s) (a .keys .now) (a .links .now) (a .certs .now) (a .order .now) (a .id) _ (c .before .before .before .before .before .before .before .ready-valid-point .ensures) _ (c .before .before .before .before .before .found2 .given .1) (c .before .before .if1 .left) _ (c .before .has-previous .ensures) (c .if2 .taken)
+
+returns-3 : tie.Need-returns-3
+returns-3 c = let a = c .before .before .before .before .before .before .before .before .args in proof-no (a .s) (a .keys .now) (a .links .now) (a .certs .now) (a .order .now) (a .id) _ (c .before .before .before .ready-valid-point .ensures) _ (c .before .found .given .1)
+
+returns-4 : tie.Need-returns-4
+returns-4 c = let a = c .before .before .before .before .before .before .before .before .before .before .before .before .args in proof-is (a .s) (a .keys .now) (a .links .now) (a .certs .now) (a .order .now) (a .id) _ (c .before .before .before .before .before .before .before .ready-valid-point .ensures) _ (c .before .before .before .before .before .found2 .given .1) (c .before .before .if1 .left) _ (c .before .has-previous .ensures) (c .if2 .left)
+
+pub chained-proof-spec : {M : Type 1} → statement M
+chained-proof-spec =
+    tie.close
+    (tie.spec
+    ready-valid-point-requires
+    enum-known-found
+    enum-known-found-2
+    mul-if1
+    add-if1
+    mul-if1-2
+    shared-slice-read-if1
+    returns
+    has-previous-requires
+    returns-2
+    returns-3
+    returns-4)

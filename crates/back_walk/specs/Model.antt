@@ -1,0 +1,312 @@
+-- One round of the walk as the code makes it (01: back.rs, 'Chain').
+use Prim.Native.Nat.{ℕ, _-_, _*_, _+_, _%_, _<_, _≤_}
+use mathlib.Core.Path.{_≡_, refl, sym, _∙_, ap, subst}
+use mathlib.Core.List.{List}
+use mathlib.Core.Bool.{Bool, true, false, not, cond}
+use native.Mathlib.Omega.{arith}
+use lib.Dec.{eqb, leb, ltb}
+use lib.ListN.{length, getD}
+use borrow.Author.Tests.{eq-eqb, ne-eqb, le-leb, lt-leb, lt-ltb, le-ltb, ltb-true, not-true, not-false}
+use Rattle.laws.specs.Test.{byTest}
+use Rattle.models.specs.Tables.{authorAt, statusAt, marksAt, placeAt, Used}
+use Rattle.models.specs.DagPoint.{caseOf, valid-status}
+use Rattle.models.specs.Cert.{heightOf}
+use Rattle.models.specs.Refusal.{failed, conflicting, notValid}
+use Rattle.models.specs.declared.dag_point.DagPoint.{DagPoint}
+use Rattle.models.specs.declared.dag_point.DagPoint.the-variants.{Valid, TransInvalid, Invalid, IllFormed, NotFound}
+use Rattle.models.specs.declared.dag_point.Resolved.{Resolved}
+use Rattle.models.specs.declared.dag_point.Resolved.the-variants.{Case, Nothing}
+use Rattle.models.specs.declared.parts.PointId.{PointId}
+use Rattle.models.specs.declared.refusal.Refusal.{Refusal}
+use Rattle.models.specs.declared.refusal.Refusal.the-variants.{Number}
+use Rattle.models.specs.declared.refusal.Check.{Check}
+use Rattle.models.specs.declared.refusal.Check.the-variants.{Passed, Failed}
+use Rattle.tables_links.specs.Words.{proofRoundAt, proofAuthorAt}
+use Rattle.commit_state.specs.View.{recordOf}
+use Rattle.commit_state.specs.declared.state.State.{State}
+use Rattle.dag_round_points.specs.Model.{Ready, idWords}
+use Rattle.dag_round_points.specs.Point.{positionFor}
+use Rattle.back_walk.specs.declared.EnqueuedAnchor.{EnqueuedAnchor}
+use Rattle.back_walk.specs.declared.Needed.{Needed}
+use Rattle.back_walk.specs.declared.Needed.the-variants.{At, Refused}
+use Rattle.back_walk.specs.declared.Step.{Step}
+use Rattle.back_walk.specs.declared.Step.the-variants.{Pass, End, Bad, Found}
+use Rattle.back_walk.specs.Words.{idFrom, hasPrevious, previousId, topId, Placed, Topped}
+
+-- what keys, certificate words and order must be for the walk to read them
+abbrev pub Walkable : State → List ℕ → List ℕ → List ℕ → Type 0
+Walkable s ks cs os = Ready s ks os × (length cs ≡ length os)
+
+-- what the links of the used places must be: as long as the keys, authors and top proofs in their ranges
+abbrev pub Linked : State → List ℕ → List ℕ → List ℕ → Type 0
+Linked s ks ls os =
+    (length ls ≡ length os * 328) × ((q : ℕ) → Used os (s .count) q → authorAt ks q < 32)
+    × ((q : ℕ) → Used os (s .count) q → 0 < statusAt ks q → (proofRoundAt ls q < 4294967296) × (proofAuthorAt ls q < 32))
+
+-- what a point is refused with in the walk, by its case, its certificate word and its round: nothing if it is valid
+unfoldable pub judgeOf : Resolved → ℕ → ℕ → Check
+judgeOf Nothing c r = failed 14
+judgeOf (Case Valid) c r = Passed
+judgeOf (Case TransInvalid) c r = notValid c r
+judgeOf (Case Invalid) c r = notValid c r
+judgeOf (Case IllFormed) c r = notValid c r
+judgeOf (Case NotFound) c r = notValid c r
+
+-- the same of the place q, of the round r
+unfoldable pub judgeAt : List ℕ → List ℕ → ℕ → ℕ → Check
+judgeAt ks cs q r = judgeOf (caseOf (statusAt ks q)) (getD cs q 0) r
+
+-- the place q, unless it is refused
+unfoldable pub neededAt : ℕ → Check → Needed
+neededAt q Passed = At q
+neededAt q (Failed r) = Refused r
+
+-- the point with the id i, as the walk needs it
+unfoldable pub needed : State → List ℕ → List ℕ → List ℕ → PointId → Needed
+needed s ks cs os i =
+    let at = positionFor ks os (s .count) (idWords i) in
+    cond (ltb at (s .count)) (neededAt (placeAt os at) (judgeAt ks cs (placeAt os at) (i .round .0))) (Refused (Number 14))
+
+-- a needed point as a proof: marked as such, with a previous point
+unfoldable pub proofOf : List ℕ → List ℕ → Needed → Needed
+proofOf ks ls (Refused r) = Refused r
+proofOf ks ls (At p) = cond (eqb (marksAt ks p % 2) 0) (Refused (Number 16)) (cond (hasPrevious ks ls p) (At p) (Refused (Number 16)))
+
+-- the proof with the id i
+unfoldable pub proofAt : State → List ℕ → List ℕ → List ℕ → List ℕ → PointId → Needed
+proofAt s ks ls cs os i = proofOf ks ls (needed s ks cs os i)
+
+-- the anchor at the place q of the proof at the place p
+abbrev pub enqueued : List ℕ → ℕ → ℕ → EnqueuedAnchor
+enqueued ls p q = record { anchor = q; proof = p; «prev_proof_round» = record { 0 = proofRoundAt ls q } }
+
+-- a needed point as the anchor of the proof at the place p
+unfoldable pub anchorOf : List ℕ → ℕ → Needed → Step
+anchorOf ls p (Refused r) = Bad r
+anchorOf ls p (At q) = Found (enqueued ls p q)
+
+-- the anchor of the proof at the place p, in the round r
+unfoldable pub anchorAt : State → List ℕ → List ℕ → List ℕ → List ℕ → ℕ → ℕ → Step
+anchorAt s ks ls cs os p r = anchorOf ls p (needed s ks cs os (previousId ks ls p r))
+
+-- 16
+abbrev pub noProof : Step
+noProof = Bad (Number 16)
+
+-- a round with the used mark of the author a, where the author b is sought
+unfoldable pub usedAt : ℕ → ℕ → Step
+usedAt a b = cond (eqb a b) End noProof
+
+-- a proof in the round x, where the walk ends at the round low
+unfoldable pub atProof : State → List ℕ → List ℕ → List ℕ → List ℕ → ℕ → ℕ → Needed → Step
+atProof s ks ls cs os low x (Refused r) = Bad r
+atProof s ks ls cs os low x (At p) = cond (leb x low) End (anchorAt s ks ls cs os p (x - 1))
+
+-- the round x, which is the sought proof's, with the used mark u: its author plus 1, or 0 for none
+unfoldable pub markedStep : State → List ℕ → List ℕ → List ℕ → List ℕ → ℕ → ℕ → ℕ → PointId → Step
+markedStep s ks ls cs os low x u i = cond (eqb u 0) (atProof s ks ls cs os low x (proofAt s ks ls cs os i)) (usedAt (u - 1) (i .author))
+
+-- the round x of the walk, which ends at the round low; i is the sought proof's id
+unfoldable pub stepAt : State → List ℕ → List ℕ → List ℕ → List ℕ → ℕ → ℕ → PointId → Step
+stepAt s ks ls cs os low x i =
+    cond (ltb (i .round .0) x) Pass (cond (ltb x (i .round .0)) noProof (markedStep s ks ls cs os low x (recordOf (s .rounds) x .«used_anchor_proof») i))
+
+-- ---- the code's steps
+
+module _ (ks cs : List ℕ) (q r : ℕ) (x : Resolved) (is : x ≡ caseOf (statusAt ks q)) where
+  pub judge-by : (y : Resolved) → x ≡ y → (c : Check) → c ≡ judgeOf y (getD cs q 0) r → c ≡ judgeAt ks cs q r
+  unfolding judgeAt
+  judge-by y e c h = h ∙ ap (λ z. judgeOf z (getD cs q 0) r) (sym e ∙ is)
+
+  pub judge-case : (p y : DagPoint) → x ≡ Case p → p ≡ y → (c : Check) → c ≡ judgeOf (Case y) (getD cs q 0) r → c ≡ judgeAt ks cs q r
+  judge-case p y e f = judge-by (Case y) (e ∙ ap Case f)
+
+module _ (s : State) (ks cs os : List ℕ) (i : PointId) (w : List ℕ) (words : w ≡ idWords i) (x : ℕ) (at : x ≡ positionFor ks os (s .count) w) where
+  -- no point has the id
+  pub needed-not : s .count ≤ x → Refused (Number 14) ≡ needed s ks cs os i
+  unfolding needed
+  needed-not l = rw (← words, ← at, le-ltb x (s .count) l) refl
+
+  -- the point is judged
+  pub needed-by : x < s .count → (q : ℕ) → q ≡ placeAt os x → (c d : Check) → c ≡ judgeAt ks cs q (i .round .0) → c ≡ d → neededAt q d ≡ needed s ks cs os i
+  unfolding needed
+  needed-by l q e c d f g = rw (← words, ← at, lt-ltb x (s .count) l, ← e, sym f ∙ g) refl
+
+-- ---- what is needed and isn't refused
+
+-- it stands in the order and is valid
+abbrev pub Standing : List ℕ → List ℕ → ℕ → Needed → Type 0
+Standing ks os n (At q) = Used os n q × (statusAt ks q ≡ 1)
+Standing ks os n (Refused r) = Unit {0}
+
+module _ (ks os : List ℕ) (n : ℕ) where
+  -- what is not valid doesn't stand
+  invalid-stands : (q c r : ℕ) → Standing ks os n (neededAt q (notValid c r))
+  unfolding neededAt notValid
+  invalid-stands q c r = by (ltb 0 (heightOf c))
+    where
+      by : (b : Bool) → Standing ks os n (neededAt q (cond b (conflicting r) (failed 15)))
+      by true = tt
+      by false = tt
+
+  checked-stands : (q c r : ℕ) (x : Resolved) → caseOf (statusAt ks q) ≡ x → Used os n q → Standing ks os n (neededAt q (judgeOf x c r))
+  unfolding judgeOf neededAt
+  checked-stands q c r Nothing e u = tt
+  checked-stands q c r (Case Valid) e u = (u, valid-status (statusAt ks q) e)
+  checked-stands q c r (Case TransInvalid) e u = invalid-stands q c r
+  checked-stands q c r (Case Invalid) e u = invalid-stands q c r
+  checked-stands q c r (Case IllFormed) e u = invalid-stands q c r
+  checked-stands q c r (Case NotFound) e u = invalid-stands q c r
+
+  -- nor does a proof that is none
+  proof-stands : (ls : List ℕ) (f : Needed) → Standing ks os n f → Standing ks os n (proofOf ks ls f)
+  unfolding proofOf
+  proof-stands ls (Refused r) h = tt
+  proof-stands ls (At p) h = by (eqb (marksAt ks p % 2) 0) (hasPrevious ks ls p)
+    where
+      by : (a b : Bool) → Standing ks os n (cond a (Refused (Number 16)) (cond b (At p) (Refused (Number 16))))
+      by true b = tt
+      by false true = h
+      by false false = tt
+
+module _ (s : State) (ks cs os : List ℕ) (i : PointId) where
+  needed-stands : Standing ks os (s .count) (needed s ks cs os i)
+  unfolding needed judgeAt
+  needed-stands =
+      let at = positionFor ks os (s .count) (idWords i) in
+      byTest (ltb at (s .count))
+      (λ y. rw y (checked-stands ks os (s .count) (placeAt os at) (getD cs (placeAt os at) 0) (i .round .0) _ refl (at, ltb-true _ _ y, refl)))
+      (λ y. rw y tt)
+
+  -- the place of a needed point
+  pub needed-at : (f : Needed) → f ≡ needed s ks cs os i → (q : ℕ) → f ≡ At q → Used os (s .count) q × (statusAt ks q ≡ 1)
+  needed-at f is q e = subst (Standing ks os (s .count)) (sym is ∙ e) needed-stands
+
+  -- and of a proof
+  pub proof-used : (ls : List ℕ) (f : Needed) → f ≡ proofAt s ks ls cs os i → (q : ℕ) → f ≡ At q → Used os (s .count) q
+  unfolding proofAt
+  proof-used ls f is q e = subst (Standing ks os (s .count)) (sym is ∙ e) (proof-stands ks os (s .count) ls _ needed-stands) .0
+
+-- a used place lies in the tables
+pub placed : (s : State) (ks ls cs os : List ℕ) (q : ℕ) → Walkable s ks cs os → Linked s ks ls os → Used os (s .count) q → Placed ks ls q
+placed s ks ls cs os q (r, e) l u =
+    let (i, k, d) = u in
+    let low = r .3 i k in
+    (omega (arith, low, d, r .0), omega (arith, low, d, l .0), l .1 q u)
+
+-- and a valid one has a top proof
+pub topped : (s : State) (ks ls cs os : List ℕ) (q : ℕ) → Walkable s ks cs os → Linked s ks ls os → Used os (s .count) q × (statusAt ks q ≡ 1) → Topped ls q
+topped s ks ls cs os q w l (u, v) = let (a, b) = l .2 q u (omega arith) in (placed s ks ls cs os q w l u .1, a, b)
+
+module _ (s : State) (ks ls cs os : List ℕ) (i : PointId) (f : Needed) (is : f ≡ needed s ks cs os i) where
+  pub proof-no : (r : Refusal) → f ≡ Refused r → Refused r ≡ proofAt s ks ls cs os i
+  unfolding proofAt proofOf
+  proof-no r e = rw (sym is ∙ e) refl
+
+  module _ (p : ℕ) (e : f ≡ At p) where
+    pub proof-unmarked : marksAt ks p % 2 ≡ 0 → Refused (Number 16) ≡ proofAt s ks ls cs os i
+    unfolding proofAt proofOf
+    proof-unmarked m = rw (sym is ∙ e, proofOf, eq-eqb (marksAt ks p % 2) 0 m) refl
+
+    module _ (m : marksAt ks p % 2 ≡ 0 → ⊥) (b : Bool) (has : b ≡ hasPrevious ks ls p) where
+      pub proof-first : not b ≡ true → Refused (Number 16) ≡ proofAt s ks ls cs os i
+      unfolding proofAt proofOf
+      proof-first h = rw (sym is ∙ e, proofOf, ne-eqb (marksAt ks p % 2) 0 m, sym has ∙ not-true b h) refl
+
+      pub proof-is : not b ≡ false → At p ≡ proofAt s ks ls cs os i
+      unfolding proofAt proofOf
+      proof-is h = rw (sym is ∙ e, proofOf, ne-eqb (marksAt ks p % 2) 0 m, sym has ∙ not-false b h) refl
+
+module _ (s : State) (ks ls cs os : List ℕ) (p r : ℕ) (i : PointId) (id : i ≡ previousId ks ls p r) (f : Needed) (is : f ≡ needed s ks cs os i) where
+  pub anchor-no : (w : Refusal) → f ≡ Refused w → Bad w ≡ anchorAt s ks ls cs os p r
+  unfolding anchorAt anchorOf
+  anchor-no w e = rw (← id, sym is ∙ e) refl
+
+  pub anchor-is : (q : ℕ) → f ≡ At q → (t : PointId) → t ≡ topId ls q → Found (record { anchor = q; proof = p; «prev_proof_round» = t .round }) ≡ anchorAt s ks ls cs os p r
+  unfolding anchorAt anchorOf topId idFrom
+  anchor-is q e t g = rw (← id, sym is ∙ e, g) refl
+
+module _ (s : State) (ks ls cs os : List ℕ) (low x : ℕ) (i : PointId) where
+  -- the author of the round's used mark, plus 1
+  abbrev u : ℕ
+  u = recordOf (s .rounds) x .«used_anchor_proof»
+
+  -- the sought proof's round
+  abbrev y : ℕ
+  y = i .round .0
+
+  pub step-pass : i .round .0 < x → Pass ≡ stepAt s ks ls cs os low x i
+  unfolding stepAt
+  step-pass l = rw (lt-ltb y x l) refl
+
+  module _ (l : x ≤ i .round .0) where
+    pub step-above : x < i .round .0 → noProof ≡ stepAt s ks ls cs os low x i
+    unfolding stepAt
+    step-above k = rw (le-ltb y x l, lt-ltb x y k) refl
+
+    module _ (k : i .round .0 ≤ x) where
+      pub step-used : (u ≡ 0 → ⊥) → (r : Step) → r ≡ usedAt (u - 1) (i .author) → r ≡ stepAt s ks ls cs os low x i
+      unfolding stepAt markedStep
+      step-used d r e = rw (le-ltb y x l, le-ltb x y k, ne-eqb u 0 d) e
+
+      module _ (z : u ≡ 0) (f : Needed) (is : f ≡ proofAt s ks ls cs os i) where
+        pub step-bad : (r : Refusal) → f ≡ Refused r → Bad r ≡ stepAt s ks ls cs os low x i
+        unfolding stepAt markedStep atProof
+        step-bad r e = rw (le-ltb y x l, le-ltb x y k, eq-eqb u 0 z, sym is ∙ e) refl
+
+        module _ (p : ℕ) (e : f ≡ At p) where
+          pub step-low : x ≤ low → End ≡ stepAt s ks ls cs os low x i
+          unfolding stepAt markedStep atProof
+          step-low m = rw (le-ltb y x l, le-ltb x y k, eq-eqb u 0 z, sym is ∙ e, atProof, le-leb x low m) refl
+
+          pub step-on : low < x → (v : ℕ) → v ≡ x - 1 → (r : Step) → r ≡ anchorAt s ks ls cs os p v → r ≡ stepAt s ks ls cs os low x i
+          unfolding stepAt markedStep atProof
+          step-on m v d r g = rw (le-ltb y x l, le-ltb x y k, eq-eqb u 0 z, sym is ∙ e, atProof, lt-leb x low m) (g ∙ ap (anchorAt s ks ls cs os p) d)
+
+module _ (a b : ℕ) where
+  pub used-end : a ≡ b → End ≡ usedAt a b
+  unfolding usedAt
+  used-end e = rw (eq-eqb a b e) refl
+
+  pub used-other : (a ≡ b → ⊥) → noProof ≡ usedAt a b
+  unfolding usedAt
+  used-other d = rw (ne-eqb a b d) refl
+
+-- ---- what every step holds
+
+-- an anchor is a used place, and valid
+abbrev pub Sound : List ℕ → List ℕ → ℕ → Step → Type 0
+Sound ks os n Pass = Unit {0}
+Sound ks os n End = Unit {0}
+Sound ks os n (Bad r) = Unit {0}
+Sound ks os n (Found e) = Used os n (e .anchor) × (statusAt ks (e .anchor) ≡ 1)
+
+module _ (s : State) (ks ls cs os : List ℕ) where
+  -- by cases on a test
+  sound-by : (b : Bool) (p q : Step) → Sound ks os (s .count) p → Sound ks os (s .count) q → Sound ks os (s .count) (cond b p q)
+  sound-by true p q f g = f
+  sound-by false p q f g = g
+
+  anchor-sound : (p r : ℕ) → Sound ks os (s .count) (anchorAt s ks ls cs os p r)
+  unfolding anchorAt anchorOf
+  anchor-sound p r = by (needed s ks cs os (previousId ks ls p r)) (needed-stands s ks cs os (previousId ks ls p r))
+    where
+      by : (f : Needed) → Standing ks os (s .count) f → Sound ks os (s .count) (anchorOf ls p f)
+      by (Refused w) h = tt
+      by (At q) h = h
+
+  proof-sound : (low x : ℕ) (f : Needed) → Sound ks os (s .count) (atProof s ks ls cs os low x f)
+  unfolding atProof
+  proof-sound low x (Refused r) = tt
+  proof-sound low x (At p) = sound-by (leb x low) End _ tt (anchor-sound p (x - 1))
+
+  step-sound : (low x : ℕ) (i : PointId) → Sound ks os (s .count) (stepAt s ks ls cs os low x i)
+  unfolding stepAt markedStep usedAt
+  step-sound low x i =
+      let u = recordOf (s .rounds) x .«used_anchor_proof» in
+      sound-by (ltb (i .round .0) x) Pass _ tt (sound-by (ltb x (i .round .0)) noProof _ tt
+      (sound-by (eqb u 0) _ _ (proof-sound low x (proofAt s ks ls cs os i)) (sound-by (eqb (u - 1) (i .author)) End noProof tt tt)))
+
+  -- an anchor that a step finds
+  pub found-used : (low x : ℕ) (i : PointId) (e : EnqueuedAnchor) (p : Step) → p ≡ stepAt s ks ls cs os low x i → p ≡ Found e → Used os (s .count) (e .anchor) × (statusAt ks (e .anchor) ≡ 1)
+  found-used low x i e p is h = subst (Sound ks os (s .count)) (sym is ∙ h) (step-sound low x i)

@@ -1,0 +1,9 @@
+pub mod Model
+pub mod Queue
+pub mod Sane
+pub mod Refines
+pub mod Word
+pub mod Settled
+pub mod On
+pub mod ModelCertify
+pub mod RefinesCertify

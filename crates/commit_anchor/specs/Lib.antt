@@ -1,3 +1,0 @@
-pub mod One
-pub mod Says
-pub mod All

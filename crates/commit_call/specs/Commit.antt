@@ -1,0 +1,205 @@
+-- The call commit (01: commit/mod.rs): "A commit does its whole walk first", then its anchors, oldest first.
+use Prim.Native.Nat.{ℕ}
+use mathlib.Core.Path.{_≡_, refl, sym, ap, subst, _∙_}
+use mathlib.Core.List.{List}
+use mathlib.Core.Bool.{Bool, true, false, not, cond}
+use native.Mathlib.Omega.{arith}
+use borrow.Author.Tests.{eqb-true, not-true, not-false}
+use Rattle.laws.specs.Test.{byTest}
+use Rattle.spec.specs.Ids.{Id}
+use Rattle.spec.specs.Store.{Store}
+use Rattle.spec.specs.Rules.{countsAsStarted}
+use Rattle.spec.specs.Chain as chain
+use Rattle.spec.specs.Chain.{number, conflict, Out, bad, good, EnqueuedAnchor, lowestWalked, anchorsOf}
+use Rattle.spec.specs.History.{Finished, commitAll}
+use Rattle.spec.specs.Walk.{Rising, rising-less}
+use Rattle.spec.specs.WellFormed.{Wf, countsAsStarted-elim}
+use Rattle.spec.specs.Preservation.{anchors-rising}
+use Rattle.spec.specs.Calls as calls
+use Rattle.spec.specs.Calls.{call, perform, isStart, bufferOf, doCommit, commitEnd}
+use Rattle.models.specs.Digest.{Fit}
+use Rattle.commit_state.specs.declared.state.State.{State}
+use Rattle.tables_test.specs.View.{view}
+use Rattle.tables_test.specs.Whole.{sized}
+use Rattle.tables_test.specs.Refines.{Started, counted}
+use Rattle.back_chain.specs.declared.Chain.{Chain}
+use Rattle.back_chain.specs.Chain.{chainOf, chainOut, out-good, out-bad}
+use Rattle.commit_dequeue.specs.All.{Left, stopOf, leftOf, finishedOf, allOf, all-kept}
+use Rattle.models.specs.declared.refusal.Refusal.{Refusal}
+use Rattle.models.specs.declared.refusal.Refusal.the-variants.{Number, Conflict}
+use Rattle.models.specs.declared.refusal.Check.{Check}
+use Rattle.models.specs.declared.refusal.Check.the-variants.{Passed, Failed}
+use Rattle.commit_answer.specs.declared.answer.Answer.{Answer}
+use Rattle.commit_answer.specs.declared.answer.Answer.the-variants.{Anchors, Refused}
+use Rattle.commit_answer.specs.declared.answer.Outcome.{Outcome}
+use Rattle.models.specs.Refusal.{refusalOf}
+use Rattle.commit_answer.specs.Answer as answers
+use Rattle.commit_answer.specs.Answer.{answerOf, Tables, tables, left, nothingDone, Did, byTables, call-by}
+
+-- ---- mirrors
+
+-- 01's refusal as the code's
+unfoldable pub whyFrom : chain.Refusal → Refusal
+whyFrom (number n) = Number n
+whyFrom (conflict r) = Conflict (record { 0 = r })
+
+-- the answer after n finished anchors
+unfoldable pub answerFrom : Check → ℕ → Answer
+answerFrom Passed n = Anchors n
+answerFrom (Failed r) n = Refused r n
+
+unfoldable pub endedOf : Check → State → ℕ → Outcome
+endedOf c s n = record { answer = answerFrom c n; state = s }
+
+unfoldable pub outcomeOf : Left → Outcome
+outcomeOf l = record { answer = answerFrom (l .stopped) (l .finished); state = l .state }
+
+-- the anchors that the trigger yields; 2 for tables that don't count as started
+unfoldable pub walked : Store → Id → Out (List EnqueuedAnchor)
+walked v i = cond (countsAsStarted v) (anchorsOf v i) (bad (number 2))
+
+-- what is left after the walk
+unfoldable pub afterWalk : List ℕ → List ℕ → List ℕ → State → List ℕ → List ℕ → Out (List EnqueuedAnchor) → Left
+afterWalk ks ls os s cs b (bad r) = record { state = s; certs = cs; buffer = b; finished = 0; stopped = Failed (whyFrom r) }
+afterWalk ks ls os s cs b (good es) = allOf ks ls os s cs b 0 0 es
+
+-- what the call leaves
+unfoldable pub committed : State → List ℕ → List ℕ → List ℕ → List ℕ → Id → List ℕ → Left
+committed s ks ls cs os i b = afterWalk ks ls os s cs b (walked (view s ks ls cs os) i)
+
+-- the same as the record of a call has it
+abbrev pub commitLeft : Id → List ℕ → Tables → answers.Left
+commitLeft i b d = let x = committed (d .state) (d .keys) (d .links) (d .certs) (d .order) i b in left (outcomeOf x) (d .keys) (d .links) (x .certs) (d .order) (x .buffer)
+
+-- ---- answers
+
+-- the code's refusal is 01's again
+why-is : (r : chain.Refusal) → refusalOf (whyFrom r) ≡ r
+unfolding refusalOf whyFrom
+why-is (number n) = refl
+why-is (conflict r) = refl
+
+-- and 01's the code's
+why-of : (r : Refusal) → whyFrom (refusalOf r) ≡ r
+unfolding refusalOf whyFrom
+why-of (Number n) = refl
+why-of (Conflict r) = refl
+
+-- nothing was done: no anchor is finished, whatever stopped them
+idle-none : (c : Check) (n : ℕ) → nothingDone (answerFrom c n) ≡ true → n ≡ 0
+unfolding nothingDone answerFrom
+idle-none Passed n e = eqb-true n 0 e
+idle-none (Failed r) n e = eqb-true n 0 e
+
+-- what a finished chain leaves is what 01's commit ends with
+end-is : (c : Check) (f : Finished) → f .stopped ≡ stopOf c → record { answer = answerOf (answerFrom c (f .anchors)); store = f .store; buffer = f .buffer } ≡ commitEnd f
+unfolding answerOf answerFrom commitEnd stopOf
+end-is Passed f e = rw e refl
+end-is (Failed r) f e = rw e refl
+
+-- ---- one law for each way out of the code
+
+pub ended-by-check : (c d : Check) (s : State) (n : ℕ) → c ≡ d → record { answer = answerFrom d n; state = s } ≡ endedOf c s n
+unfolding endedOf
+ended-by-check c d s n e = rw e refl
+
+-- refused by the walk
+pub ended-why : (r : Refusal) (s : State) (n : ℕ) → endedOf (Failed r) s n ≡ record { answer = Refused (whyFrom (refusalOf r)) n; state = s }
+unfolding endedOf answerFrom
+ended-why r s n = rw (why-of r) refl
+
+-- ---- the anchors
+
+-- what the anchors of a chain leave, with the outcome o
+abbrev pub Ended : List ℕ → List ℕ → List ℕ → State → List ℕ → List ℕ → List EnqueuedAnchor → Outcome → List ℕ → List ℕ → Type 0
+Ended ks ls os s cs b es o cs′ b′ =
+    let x = allOf ks ls os s cs b 0 0 es in
+    (o ≡ outcomeOf x) × (cs′ ≡ x .certs) × (b′ ≡ x .buffer) × (finishedOf ks ls os x ≡ commitAll (view s ks ls cs os) b 0 0 es)
+
+pub ended-by : (ks ls os : List ℕ) (s : State) (cs b : List ℕ) (es : List EnqueuedAnchor) (c : Check) (s′ : State) (cs′ b′ : List ℕ) (n : ℕ) → leftOf c s′ cs′ b′ n ≡ allOf ks ls os s cs b 0 0 es
+    → finishedOf ks ls os (leftOf c s′ cs′ b′ n) ≡ commitAll (view s ks ls cs os) b 0 0 es → (o : Outcome) → o ≡ endedOf c s′ n → Ended ks ls os s cs b es o cs′ b′
+unfolding outcomeOf endedOf
+ended-by ks ls os s cs b es c s′ cs′ b′ n w f o g =
+    (g ∙ ap outcomeOf w, ap (λ (y : Left). y .certs) w, ap (λ (y : Left). y .buffer) w, subst (λ (y : Left). finishedOf ks ls os y ≡ commitAll (view s ks ls cs os) b 0 0 es) w f)
+
+-- ---- the walk
+
+module _ (v : Store) (i : Id) (r : Bool) (e : r ≡ countsAsStarted v) where
+  pub walked-no : not r ≡ true → walked v i ≡ bad (number 2)
+  unfolding walked
+  walked-no h = rw (sym e ∙ not-true r h) refl
+
+  module _ (h : not r ≡ false) where
+    pub walked-counts : countsAsStarted v ≡ true
+    walked-counts = sym e ∙ not-false r h
+
+    module _ (c : Chain) (d : chainOut c ≡ anchorsOf v i) where
+      pub walked-bad : (w : Refusal) → c .check ≡ Failed w → walked v i ≡ bad (refusalOf w)
+      unfolding walked
+      walked-bad w z = rw walked-counts (sym d ∙ out-bad c w z)
+
+      pub walked-good : c .check ≡ Passed → walked v i ≡ good (chainOf (c .list) (c .count))
+      unfolding walked
+      walked-good z = rw walked-counts (sym d ∙ out-good c z)
+
+-- what it is given
+module _ (s : State) (ks ls cs os : List ℕ) (fk : Fit ks) (fl : Fit ls) (h : countsAsStarted (view s ks ls cs os) ≡ true) where
+  -- the anchors rise
+  pub chain-rises : (i : Id) (es : List EnqueuedAnchor) → walked (view s ks ls cs os) i ≡ good es → Rising (view s ks ls cs os) 0 es
+  unfolding walked
+  chain-rises i es e =
+      let v = view s ks ls cs os in
+      let t : Started s ks ls cs os = counted s ks ls cs os fk fl h in
+      let w : Wf v = countsAsStarted-elim v (sized s ks ls cs os fk fl (t .shaped) (t .facts .inside)) h in
+      rising-less v 0 (lowestWalked v) es (omega arith) (anchors-rising v w i es (rw h at e))
+
+-- ---- the call
+
+module _ (s : State) (ks ls cs os : List ℕ) (i : Id) (b : List ℕ) where
+  abbrev v : Store
+  v = view s ks ls cs os
+
+  -- what 01 leaves after the walk
+  abbrev leaveBy : Out (List EnqueuedAnchor) → calls.Outcome
+  leaveBy (bad r) = record { answer = calls.refused r 0; store = v; buffer = b }
+  leaveBy (good es) = commitEnd (commitAll v b 0 0 es)
+
+  call-is : call v (calls.commit i b) ≡ leaveBy (walked v i)
+  unfolding isStart perform bufferOf byTables walked doCommit
+  call-is = call-by v (calls.commit i b) refl ∙ byTest (countsAsStarted v) (λ t. rw t (by (anchorsOf v i) refl)) (λ f. rw f refl)
+    where
+      by : (o : Out (List EnqueuedAnchor)) → anchorsOf v i ≡ o → doCommit v i b ≡ leaveBy (anchorsOf v i)
+      by (bad r) e = rw (e, doCommit) refl
+      by (good es) e = rw (e, doCommit) refl
+
+  -- what the contract says of an outcome, the certificate words and the buffer
+  abbrev Says : Outcome → List ℕ → List ℕ → Type 0
+  Says o cs′ b′ = Did (calls.commit i b) (commitLeft i b) (tables s ks ls cs os) (left o ks ls cs′ os b′)
+
+  -- from what is left
+  says : (x : Left) → x ≡ committed s ks ls cs os i b → answers.outcomeOf (left (outcomeOf x) ks ls (x .certs) os (x .buffer)) ≡ call v (calls.commit i b)
+      → (x .finished ≡ 0 → (x .state ≡ s) × (x .certs ≡ cs) × (x .buffer ≡ b)) → (o : Outcome) → o ≡ outcomeOf x → Says o (x .certs) (x .buffer)
+  unfolding outcomeOf bufferOf
+  says x is h k o f = record {
+    answer = ap (λ (y : Outcome). answers.outcomeOf (left y ks ls (x .certs) os (x .buffer))) f ∙ h;
+    words = ap (λ (y : Outcome). left y ks ls (x .certs) os (x .buffer)) f ∙ ap (λ (y : Left). left (outcomeOf y) ks ls (y .certs) os (y .buffer)) is;
+    kept = λ z.
+        let (a, c, d) = k (idle-none (x .stopped) (x .finished) (ap (λ (y : Outcome). nothingDone (y .answer)) (sym f) ∙ z)) in
+        ((λ j. tables ((ap (λ (y : Outcome). y .state) f ∙ a) j) ks ls (c j) os), d);
+  }
+
+  -- refused before the first anchor
+  pub says-refused : (r : chain.Refusal) → walked v i ≡ bad r → (o : Outcome) → o ≡ record { answer = Refused (whyFrom r) 0; state = s } → Says o cs b
+  unfolding committed afterWalk answers.outcomeOf answerOf answerFrom outcomeOf
+  says-refused r e o f =
+      says (record { state = s; certs = cs; buffer = b; finished = 0; stopped = Failed (whyFrom r) }) (sym (ap (afterWalk ks ls os s cs b) e))
+      (ap (λ (y : chain.Refusal). record { answer = calls.refused y 0; store = v; buffer = b }) (why-is r) ∙ sym (call-is ∙ ap leaveBy e))
+      (λ z. (refl, refl, refl)) o f
+
+  -- the anchors of the chain were gone through
+  pub says-ended : (es : List EnqueuedAnchor) → walked v i ≡ good es → (o : Outcome) (cs′ b′ : List ℕ) → Ended ks ls os s cs b es o cs′ b′ → Says o cs′ b′
+  unfolding committed afterWalk answers.outcomeOf outcomeOf finishedOf
+  says-ended es e o cs′ b′ (f, c, d, g) =
+      let x = allOf ks ls os s cs b 0 0 es in
+      let h = says x (sym (ap (afterWalk ks ls os s cs b) e)) (end-is (x .stopped) (finishedOf ks ls os x) refl ∙ (ap commitEnd g ∙ sym (call-is ∙ ap leaveBy e))) (all-kept ks ls os s cs b 0 0 es) o f in
+      subst (λ (y : List ℕ). Says o cs′ y) (sym d) (subst (λ (y : List ℕ). Says o y (x .buffer)) (sym c) h)

@@ -1,0 +1,39 @@
+use mathlib.Core.Path.{ap, _∙_}
+use Rattle.laws.specs.Bytes.{written}
+use Rattle.back_walk.specs.Refines.{enqueuedOf}
+use Rattle.commit_dequeue.specs.Model.{record-by}
+use borrow.Author.Needs.{needs}
+use Rattle.commit_dequeue.proofs.one.put_anchor.Statement.{statement}
+use Rattle.commit_dequeue.proofs.one.put_anchor.Tie as tie
+
+round-at-requires : tie.Need-round-at-requires
+round-at-requires c κs = search needs
+
+executable-requires : tie.Need-executable-requires
+executable-requires c κs = search needs
+
+previous-anchor-requires : tie.Need-previous-anchor-requires
+previous-anchor-requires c κs = search needs
+
+put-record-requires : tie.Need-put-record-requires
+put-record-requires c κs = search needs
+
+same-length : tie.Need-same-length
+same-length c = search needs
+
+returns : tie.Need-returns
+returns c =
+    let p = c .before .before .put-record .ensures in
+    let a = c .before .before .before .before .before .before .before .before .before .before .before .before .args in
+    (p .0, p .1 ∙ ap (written (a .b .now) (a .at)) (record-by (a .s) (a .keys .now) (a .certs .now) (a .order .now) (a .marks .now) (a .low) (a .high) (enqueuedOf (a .e)) _ _ _ (c .before .before .before .before .before .before .before .round-at .ensures) (c .before .before .before .before .before .before .executable .ensures) (c .before .before .before .before .previous-anchor .ensures)))
+
+pub put-anchor-spec : {M : Type 1} → statement M
+put-anchor-spec =
+    tie.close
+    (tie.spec
+    round-at-requires
+    executable-requires
+    previous-anchor-requires
+    put-record-requires
+    same-length
+    returns)

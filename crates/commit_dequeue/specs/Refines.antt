@@ -1,0 +1,218 @@
+-- One anchor's commit is that of document 01 (commit/mod.rs, 'Refusals' 13 to 15, 17, 18, 20 to 22).
+use Prim.Native.Nat.{ℕ, zero, suc, _+_, _*_, _-_, _≤_}
+use mathlib.Core.Path.{_≡_, refl, sym, ap, subst, _∙_}
+use mathlib.Core.List.{List}
+use mathlib.Core.Bool.{Bool, true, not}
+use native.Mathlib.Omega.{arith}
+use lib.Dec.{eqb, leb, ltb}
+use lib.ListN.{length, length-map}
+use borrow.Author.Tests.{ne-eqb, leb-true, ltb-true, le-leb, lt-ltb}
+use Rattle.laws.specs.Test.{byTest, same-test, both, and-l, and-r}
+use Rattle.laws.specs.Scan.{those, those-most}
+use Rattle.laws.specs.Bytes.{written, written-length}
+use Rattle.spec.specs.Store.{Store}
+use Rattle.spec.specs.Rules.{countsAsStarted}
+use Rattle.spec.specs.Chain.{Out, good, then, refuse, EnqueuedAnchor}
+use Rattle.spec.specs.History.{gapPending, testAnchor, recordBytes, dequeued}
+use Rattle.spec.specs.Links.{resolved-named}
+use Rattle.spec.specs.Walk.{Anchored, Tested, test-good}
+use Rattle.models.specs.Digest.{Fit}
+use Rattle.models.specs.Refusal.{refusalOf, unlessFailed, orNext, not-failed}
+use Rattle.models.specs.declared.refusal.Refusal.{Refusal}
+use Rattle.models.specs.declared.refusal.Check.{Check}
+use Rattle.models.specs.declared.refusal.Check.the-variants.{Passed, Failed}
+use Rattle.models.specs.Tables.{roundAt, authorAt, placeAt, Used}
+use Rattle.dag_round_keys.specs.Sorted.{sorted-apart}
+use Rattle.commit_state.specs.View.{gapOf, progressOf}
+use Rattle.commit_state.specs.declared.state.State.{State}
+use Rattle.tables_test.specs.Model.{places-says}
+use Rattle.tables_test.specs.View.{view}
+use Rattle.tables_test.specs.Refines.{Started, counted}
+use Rattle.back_drain.specs.Model.{below-le}
+use Rattle.back_history.specs.Model.{isUncommitted}
+use Rattle.back_history.specs.Picked.{uncommittedAt}
+use Rattle.back_history.specs.RefinesNeeded.{named-used, low-high}
+use Rattle.back_history.specs.Refines.{well, in-elim, in-intro}
+use Rattle.back_committable.specs.declared.anchor.Tested as code
+use Rattle.back_committable.specs.Model.{spanOf, testedIn, testedOf}
+use Rattle.back_committable.specs.Refines.{tested-is, tested-count}
+use Rattle.answer_bytes.specs.Bytes.{placeId}
+use Rattle.back_history.specs.Model.{isUncommitted}
+use Rattle.back_history.specs.Refines.{picked}
+use Rattle.output_record.specs.Picked.{isPicked}
+use Rattle.output_record.specs.Marks.{Small, marksAll}
+use Rattle.output_record.specs.ModelState.{afterState}
+use Rattle.output_record.specs.History.{Picks, history-is}
+use Rattle.output_record.specs.Refines.{anchor-ready, tables-ready, record-is, record-size, committed-view, committed-counts}
+use Rattle.commit_dequeue.specs.Model.{Pickable, Placed, numberFor, recordFor, Step, oneWith, oneIn, oneOf}
+
+-- what the commit of the anchor e, from byte at on, leaves of the store v and the buffer b, in 01's terms
+pub record Says (v : Store) (b : List ℕ) (at : ℕ) (e : EnqueuedAnchor) (c : Check) (v′ : Store) (b′ : List ℕ) (end : ℕ) : Type 0 where
+  -- the anchor's tests
+  pub outcome : unlessFailed c (good (e .anchor)) ≡ testAnchor v (length b - at) (length (recordBytes v e)) (e .anchor)
+  -- what an anchor that passes leaves
+  pub taken : c ≡ Passed → (v′ ≡ dequeued v e) × (b′ ≡ written b at (recordBytes v e)) × (end ≡ at + length (recordBytes v e))
+  -- a refused one leaves all as it was
+  pub stayed : (r : Refusal) → c ≡ Failed r → (v′ ≡ v) × (b′ ≡ b)
+  -- the tables count as started again
+  pub again : countsAsStarted v′ ≡ true
+  -- the buffer is as long as before, and the next free byte is within it
+  pub long : length b′ ≡ length b
+  pub within : end ≤ length b
+
+-- ---- the tests
+
+-- 20, as the tables say it
+waiting-is : (g : ℕ) → gapPending (gapOf g) ≡ eqb g 1
+unfolding gapPending gapOf
+waiting-is zero = refl
+waiting-is (suc zero) = refl
+waiting-is (suc (suc n)) = ap not (lt-ltb 0 (suc n) (omega arith)) ∙ sym (ne-eqb (suc (suc n)) 1 (λ e. omega arith))
+
+-- 20 and 21 after its tests
+number-is : (c : Check) (a gap n left size : ℕ) (w : Bool) → w ≡ eqb gap 1 → size ≡ 83 + n * 37
+    → unlessFailed (numberFor c gap n left) (good a) ≡ then (unlessFailed c (good a)) (λ x. refuse w 20 (refuse (ltb left size) 21 (good a)))
+unfolding unlessFailed numberFor orNext refuse refusalOf
+number-is (Failed r) a gap n left size w e d = refl
+number-is Passed a gap n left size w e d =
+    rw (e, d) (byTest (eqb gap 1) (λ g. rw g refl) (λ g. rw g (byTest (ltb left (83 + n * 37)) (λ l. rw l refl) (λ l. rw l refl))))
+
+module _ (s : State) (ks ls cs os : List ℕ) (fk : Fit ks) (fl : Fit ls) (h : countsAsStarted (view s ks ls cs os) ≡ true) (e : EnqueuedAnchor) (x : Anchored (view s ks ls cs os) e) where
+  -- the store
+  abbrev v : Store
+  v = view s ks ls cs os
+
+  -- what the tables hold
+  pub held : Started s ks ls cs os
+  held = counted s ks ls cs os fk fl h
+
+  -- the anchor and its proof stand at used places
+  pub anchor-used : Used os (s .count) (e .anchor)
+  anchor-used = named-used s ks ls cs os fk fl held (e .anchor) (resolved-named (v .pt (e .anchor)) (x .anchor-done))
+
+  proof-used : Used os (s .count) (e .proof)
+  proof-used = named-used s ks ls cs os fk fl held (e .proof) (resolved-named (v .pt (e .proof)) (x .proof-done))
+
+  -- what its tests give
+  abbrev t : code.Tested
+  t = testedOf s ks ls cs os (e .anchor)
+
+  -- the positions are those of used places
+  high-le : t .high ≤ s .count
+  unfolding testedOf testedIn spanOf
+  high-le = below-le ks os (s .count) (roundAt ks (e .anchor) + 1)
+
+  -- from the lower to the higher
+  low-le : t .low ≤ t .high
+  unfolding testedOf testedIn spanOf
+  low-le = low-high s ks ls cs os fk fl held (e .anchor) anchor-used
+
+  -- the marks say what is in the history
+  picks : Picks v (e .anchor) os (s .count) (t .marks) cs (t .low) (t .high)
+  unfolding testedOf testedIn spanOf isPicked isUncommitted
+  picks j l =
+      same-test _ _
+      (λ k. let (i, lo, hi, d, w) = in-elim s ks ls cs os fk fl held (e .anchor) anchor-used (placeAt os j) k in
+      let same : i ≡ j = sorted-apart ks os (s .count) i j (held .facts .sorted) (omega (arith, hi, high-le)) l d in
+      both (lt-ltb j _ (omega (arith, hi, same))) (both (le-leb _ j (omega (arith, lo, same))) w))
+      (λ k. let m = and-r (ltb j _) _ k in in-intro s ks ls cs os fk fl held (e .anchor) anchor-used j (leb-true _ _ (and-l _ _ m)) (ltb-true _ _ (and-l _ _ k)) (and-r (leb _ j) _ m))
+
+  -- the number of points
+  count-is : t .count ≡ length (picked os (isUncommitted cs (t .marks)) (t .low) ((t .high) - (t .low)))
+  count-is =
+      tested-count s ks ls cs os fk fl held (e .anchor) anchor-used
+      ∙ (ap length (history-is s ks ls cs os fk (well s ks ls cs os fk fl held) (held .facts .sorted) (e .anchor) anchor-used (t .marks) (t .low) (t .high) high-le picks) ∙ length-map (picked os (isUncommitted cs (t .marks)) (t .low) ((t .high) - (t .low))) (placeId ks))
+
+  -- the record's length
+  size-is : length (recordBytes v e) ≡ 83 + t .count * 37
+  size-is = record-size s ks ls cs os fk fl h e anchor-used proof-used (t .marks) (t .low) (t .high) high-le picks ∙ ap (λ (n : ℕ). 83 + n * 37) (sym count-is)
+
+  -- ---- what the code is given
+
+  pub placed : Placed ks cs e
+  placed = anchor-ready s ks ls cs os fk fl h e anchor-used proof-used
+
+  -- no more points than places
+  count-most : t .count ≤ 4096
+  unfolding testedOf testedIn spanOf
+  count-most =
+      let a : length (those (t .high - t .low) (uncommittedAt cs os (t .marks) (t .low))) ≤ t .high - t .low = those-most _ _ in
+      omega (arith, a, high-le, held .count-ok, places-says _ (held .places-ok))
+
+  -- the points of the history, from what the tests gave
+  pub picked-ready : (r : code.Tested) → r ≡ t → (r .count ≤ 4096) × Pickable ks cs os (r .marks) (r .low) (r .high) (r .count) × Small os cs (r .high)
+  picked-ready r is =
+      let (a, b, c, d, f) = tables-ready s ks ls cs os fk fl h e anchor-used proof-used (t .marks) (t .low) (t .high) high-le picks in
+      subst (λ (y : code.Tested). (y .count ≤ 4096) × Pickable ks cs os (y .marks) (y .low) (y .high) (y .count) × Small os cs (y .high)) (sym is) (count-most, (low-le, a, b, c, d, count-is), f)
+
+  -- ---- what it leaves
+
+  module _ (long : length (s .rounds) ≡ 512) (b : List ℕ) (at : ℕ) (within : at ≤ length b) where
+    -- what refuses it
+    abbrev k : Check
+    k = numberFor (t .check) (s .«emit_first_after_gap») (t .count) (length b - at)
+
+    -- it stands for 01's refusal
+    outcome-is : unlessFailed k (good (e .anchor)) ≡ testAnchor v (length b - at) (length (recordBytes v e)) (e .anchor)
+    unfolding testAnchor view progressOf
+    outcome-is =
+        number-is (t .check) (e .anchor) (s .«emit_first_after_gap») (t .count) (length b - at) (length (recordBytes v e)) (gapPending (gapOf (s .«emit_first_after_gap»))) (waiting-is (s .«emit_first_after_gap»)) size-is
+        ∙ ap (λ (o : Out ℕ). then o (λ y. refuse (gapPending (gapOf (s .«emit_first_after_gap»))) 20 (refuse (ltb (length b - at) (length (recordBytes v e))) 21 (good (e .anchor))))) (tested-is s ks ls cs os fk fl held (e .anchor) anchor-used)
+
+    -- it passes
+    module _ (z : k ≡ Passed) where
+      passes : testAnchor v (length b - at) (length (recordBytes v e)) (e .anchor) ≡ good (e .anchor)
+      unfolding unlessFailed
+      passes = sym outcome-is ∙ ap (λ (c : Check). unlessFailed c (good (e .anchor))) z
+
+      -- the record
+      bytes-is : written b at (recordFor s ks cs os (t .marks) (t .low) (t .high) e) ≡ written b at (recordBytes v e)
+      unfolding recordFor
+      bytes-is = ap (written b at) (record-is s ks ls cs os fk fl h e anchor-used proof-used (t .marks) (t .low) (t .high) high-le picks)
+
+      -- its last byte
+      end-is : at + 83 + t .count * 37 ≡ at + length (recordBytes v e)
+      end-is = omega (arith, size-is)
+
+      end-within : at + 83 + t .count * 37 ≤ length b
+      end-within = let p = test-good v _ _ (e .anchor) _ passes in omega (arith, size-is, p .2)
+
+      says-taken : Says v b at e Passed (view (afterState s (roundAt ks (e .anchor)) (roundAt ks (e .proof)) (authorAt ks (e .anchor))) ks ls (marksAll os (t .marks) (t .low) cs (t .high)) os)
+          (written b at (recordFor s ks cs os (t .marks) (t .low) (t .high) e)) (at + 83 + t .count * 37)
+      unfolding unlessFailed
+      says-taken = record {
+        outcome = sym passes;
+        taken = λ y. (committed-view s ks ls cs os fk fl h e anchor-used proof-used (t .marks) (t .low) (t .high) high-le picks long, bytes-is, end-is);
+        stayed = λ r y. absurd (not-failed r (sym y));
+        again = committed-counts s ks ls cs os fk fl h e anchor-used proof-used (t .marks) (t .low) (t .high) high-le picks long x (test-good v _ _ (e .anchor) _ passes .0);
+        long = written-length b at _;
+        within = end-within;
+      }
+
+    -- it is refused
+    says-refused : (r : Refusal) → k ≡ Failed r → Says v b at e (Failed r) v b at
+    says-refused r d = record {
+      outcome = ap (λ (c : Check). unlessFailed c (good (e .anchor))) (sym d) ∙ outcome-is;
+      taken = λ y. absurd (not-failed r y);
+      stayed = λ w y. (refl, refl);
+      again = h;
+      long = refl;
+      within = within;
+    }
+
+    -- what an outcome says
+    abbrev SaysOf : Step → Type 0
+    SaysOf o = Says v b at e (o .check) (view (o .state) ks ls (o .certs) os) (o .buffer) (o .end)
+
+    -- what the mirror leaves
+    one-is : SaysOf (oneOf s ks ls cs os b at e)
+    unfolding oneOf oneIn oneWith
+    one-is = by k refl
+      where
+        by : (c : Check) → k ≡ c → SaysOf (oneWith s ks cs os b at e t c)
+        by Passed d = says-taken d
+        by (Failed r) d = says-refused r d
+
+    -- what the code leaves
+    pub one-says : (r : Step) → r ≡ oneOf s ks ls cs os b at e → Says v b at e (r .check) (view (r .state) ks ls (r .certs) os) (r .buffer) (r .end)
+    one-says r d = subst SaysOf (sym d) one-is

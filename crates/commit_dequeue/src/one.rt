@@ -1,0 +1,160 @@
+// Origin: dag/commit/mod.rs (dequeue_anchor): one anchor is tested, then its record is written, its history marked and the state brought
+// up to it.
+ghost use mathlib.Core.Path.{_≡_};
+ghost use mathlib.Core.Bool.{true};
+ghost use Prim.Native.Nat.{_+_, _*_, _-_, _<_, _≤_};
+ghost use lib.ListN.{length};
+ghost use Rattle.laws.specs.Bytes.{written};
+ghost use Rattle.spec.specs.Rules.{countsAsStarted};
+ghost use Rattle.spec.specs.Walk.{Anchored};
+ghost use Rattle.models.specs.Tables.{roundAt, authorAt};
+ghost use Rattle.tables_test.specs.View.{view};
+ghost use Rattle.back_walk.specs.Refines.{enqueuedOf};
+ghost use Rattle.output_record.specs.ModelState.{afterState};
+ghost use Rattle.commit_dequeue.specs.Model.{Pickable, Placed, numberFor, recordFor, stepOf, oneOf};
+ghost use Rattle.commit_dequeue.specs.Refines.{Says};
+use back_committable::anchor::test_anchor;
+use back_committable::fault::round_at;
+use back_walk::EnqueuedAnchor;
+use commit_state::state::State;
+use models::refusal::Check;
+use models::refusal::GAP_QUESTION;
+use models::refusal::NO_ROOM;
+use models::refusal::Refusal;
+use output_record::after::after_anchor;
+use output_record::after::mark_all;
+use output_record::record::executable;
+use output_record::record::previous_anchor;
+use output_record::record::put_record;
+
+// The tests of one anchor; the state, and the next free byte.
+pub struct One {
+    pub check: Check,
+    pub state: State,
+    pub end: usize,
+}
+
+// What refuses an anchor of this many points: its tests, 20 while the gap question isn't put, 21 if its record is longer than what is
+// left of the buffer.
+fn number_for(check: Check, gap: u32, count: usize, left: usize) -> Check
+    requires { ⌜ count ≤ 4096 ⌝ }
+    ensures { λ r. ⌜ r ≡ numberFor check gap count left ⌝ }
+{
+    if let Check::Failed(r) = check {
+        return Check::Failed(r);
+    }
+    if gap == 1 {
+        return Check::Failed(Refusal::Number(GAP_QUESTION));
+    }
+    if left < 83 + count * 37 {
+        return Check::Failed(Refusal::Number(NO_ROOM));
+    }
+    Check::Passed
+}
+
+// The record of the anchor, of `count` points.
+fn put_anchor(
+    s: State,
+    keys: &[u64],
+    certs: &[u64],
+    order: &[u64],
+    b: &mut [u8],
+    at: usize,
+    e: EnqueuedAnchor,
+    marks: &[bool; 4096],
+    low: usize,
+    high: usize,
+    count: usize,
+) -> usize
+    requires { ⌜ Pickable (now keys) (now certs) (now order) (now marks) low high count ⌝ }
+    requires { ⌜ Placed (now keys) (now certs) (enqueuedOf e) ⌝ }
+    requires { ⌜ at + 83 + count * 37 ≤ length (now b) ⌝ }
+    ensures { λ r. ⌜ (r ≡ at + 83 + count * 37) × (now (b .exit) ≡ written (now (b .entry)) at (recordFor s (now (keys .entry)) (now (certs .entry)) (now (order .entry)) (now (marks .entry)) low high (enqueuedOf e))) ⌝ }
+{
+    let anchor = e.anchor;
+    let proof = e.proof;
+    let round = round_at(keys, anchor);
+    let x = executable(s, round);
+    let prev_proof_round = e.prev_proof_round;
+    let before = previous_anchor(s, round, prev_proof_round);
+    put_record(
+        b,
+        at,
+        keys,
+        marks,
+        order,
+        certs,
+        low,
+        high,
+        anchor,
+        proof,
+        x,
+        before,
+        count,
+    )
+}
+
+// The state after the anchor.
+fn next_state(s: State, keys: &[u64], certs: &[u64], e: EnqueuedAnchor) -> State
+    requires { ⌜ length (now certs) * 8 ≤ length (now keys) ⌝ }
+    requires { ⌜ Placed (now keys) (now certs) (enqueuedOf e) ⌝ }
+    ensures { λ r. ⌜ r ≡ afterState s (roundAt (now (keys .entry)) (e .anchor)) (roundAt (now (keys .entry)) (e .proof)) (authorAt (now (keys .entry)) (e .anchor)) ⌝ }
+{
+    let anchor = e.anchor;
+    let proof = e.proof;
+    let ar = round_at(keys, anchor);
+    let pr = round_at(keys, proof);
+    let author = dag_round_keys::author(keys, anchor) as u32;
+    after_anchor(s, ar, pr, author)
+}
+
+// One anchor, its record from byte `at` on. Nothing changes if it is refused.
+pub fn dequeue_anchor(
+    s: State,
+    keys: &[u64],
+    links: &[u64],
+    certs: &mut [u64],
+    order: &[u64],
+    b: &mut [u8],
+    at: usize,
+    e: EnqueuedAnchor,
+) -> One
+    requires { ⌜ countsAsStarted (view s (now keys) (now links) (now certs) (now order)) ≡ true ⌝ }
+    requires { ⌜ Anchored (view s (now keys) (now links) (now certs) (now order)) (enqueuedOf e) ⌝ }
+    requires { ⌜ at ≤ length (now b) ⌝ }
+    ensures words { λ r. ⌜ stepOf (r .check) (r .state) (now (certs .exit)) (now (b .exit)) (r .end) ≡ oneOf s (now (keys .entry)) (now (links .entry)) (now (certs .entry)) (now (order .entry)) (now (b .entry)) at (enqueuedOf e) ⌝ }
+    ensures says { λ r. ⌜ Says (view s (now (keys .entry)) (now (links .entry)) (now (certs .entry)) (now (order .entry))) (now (b .entry)) at (enqueuedOf e) (r .check) (view (r .state) (now (keys .entry)) (now (links .entry)) (now (certs .exit)) (now (order .entry))) (now (b .exit)) (r .end) ⌝ }
+{
+    let t = test_anchor(s, keys, links, certs, order, e.anchor);
+    let count = t.count;
+    let tested = t.check;
+    let check = number_for(tested, s.emit_first_after_gap, count, b.len() - at);
+    if let Check::Failed(r) = check {
+        return One {
+            check: Check::Failed(r),
+            state: s,
+            end: at,
+        };
+    }
+    let marks = t.marks;
+    let end = put_anchor(
+        s,
+        keys,
+        certs,
+        order,
+        b,
+        at,
+        e,
+        &marks,
+        t.low,
+        t.high,
+        count,
+    );
+    let next = next_state(s, keys, certs, e);
+    mark_all(&marks, order, certs, t.low, t.high);
+    One {
+        check: Check::Passed,
+        state: next,
+        end,
+    }
+}

@@ -1,0 +1,133 @@
+// Origin: dag/dag_round.rs (a round's record), dag/commit/back.rs (DagBack), dag/commit/mod.rs (Committer), dag/commit/inspector.rs
+// (its memory of the last round).
+ghost use mathlib.Core.Path.{_≡_};
+ghost use Prim.Native.Nat.{_+_, _<_, _≤_};
+ghost use Rattle.commit_state.specs.State.{noMemory};
+ghost use Rattle.commit_state.specs.Numbers.{confHolds, rangeHolds, usedHold};
+use models::parts::Digest;
+use models::parts::Height;
+use models::parts::OptionRound;
+use models::parts::Round;
+
+// A retained round: its peers, and the author of its used mark plus 1, or 0 for none.
+#[repr(C)]
+pub struct RoundRecord {
+    pub peers: u32,
+    pub used_anchor_proof: u32,
+}
+
+// A trusted point of the inspector's last round: author, digest, digest of its previous point if it has one (has_previous isn't 0), and
+// the peers that signed the previous point and did not include it.
+#[repr(C)]
+pub struct Entry {
+    pub author: u32,
+    pub digest: Digest,
+    pub has_previous: u32,
+    pub previous: Digest,
+    pub unreferenced_by: u32,
+}
+
+#[repr(C)]
+pub struct Memory {
+    pub last: Round,
+    pub count: usize,
+    pub entries: [Entry; 128],
+}
+
+// phase: 1 started, 2 reset, other numbers neither. count: the number of used places. Rounds from bottom to top are retained, round r in
+// record r modulo 512. emit_first_after_gap: 0 disarmed, 1 before the gap question, else after it.
+#[repr(C)]
+pub struct State {
+    pub phase: u32,
+    pub count: usize,
+    pub genesis: Round,
+    pub commit_history_rounds: u32,
+    pub deduplicate_rounds: u32,
+    pub bottom: Round,
+    pub top: Round,
+    pub last_committed_proof: OptionRound,
+    pub last_anchor: OptionRound,
+    pub full_history_bottom: Round,
+    pub first_executable: Round,
+    pub emit_first_after_gap: u32,
+    pub rounds: [RoundRecord; 512],
+    pub memory: Memory,
+}
+
+impl State {
+    // The height of a point certified directly.
+    pub fn top_height(self) -> Height
+        requires { ⌜ self .«commit_history_rounds» ≤ 255 ⌝ }
+        ensures { λ r. ⌜ r .0 ≡ self .«commit_history_rounds» + 1 ⌝ }
+    {
+        Height((self.commit_history_rounds + 1) as u16)
+    }
+}
+
+pub fn empty_memory() -> Memory
+    ensures { λ r. ⌜ r ≡ noMemory ⌝ }
+{
+    let entry = Entry {
+        author: 0,
+        digest: Digest([0; 4]),
+        has_previous: 0,
+        previous: Digest([0; 4]),
+        unreferenced_by: 0,
+    };
+    Memory {
+        last: Round(0),
+        count: 0,
+        entries: [entry; 128],
+    }
+}
+
+// Start's ranges of H and of the rounds to deduplicate.
+pub fn conf_holds(history: u32, deduplicate: u32) -> bool
+    ensures { λ r. ⌜ r ≡ confHolds history deduplicate ⌝ }
+{
+    if history == 0 {
+        return false;
+    }
+    if 255 < history {
+        return false;
+    }
+    deduplicate <= 65535
+}
+
+// Whether the rounds lie in their ranges, and at most 512 are retained.
+pub fn range_holds(genesis: Round, bottom: Round, top: Round) -> bool
+    ensures { λ r. ⌜ r ≡ rangeHolds (genesis .0) (bottom .0) (top .0) ⌝ }
+{
+    let g = genesis.0;
+    let b = bottom.0;
+    let t = top.0;
+    if b < g {
+        return false;
+    }
+    if t < b {
+        return false;
+    }
+    if 4000000000 < t {
+        return false;
+    }
+    t - b < 512
+}
+
+// Whether the used marks of the n rounds from bottom on are authors.
+pub fn used_hold(s: State, n: u32) -> bool
+    requires { ⌜ s .bottom .0 + n < 4294967296 ⌝ }
+    ensures { λ r. ⌜ r ≡ usedHold (s .rounds) (s .bottom .0) n ⌝ }
+{
+    let bottom = s.bottom;
+    let b = bottom.0;
+    let mut k: u32 = 0;
+    while k < n {
+        let i = ((b + k) % 512) as usize;
+        let x = s.rounds[i];
+        if 32 < x.used_anchor_proof {
+            return false;
+        }
+        k += 1;
+    }
+    true
+}

@@ -1,0 +1,53 @@
+use Rattle.committer.specs.Reply.{reply-done, reply-said, reply-handed, reply-refused}
+use borrow.Author.Needs.{needs}
+use Rattle.committer.proofs.reply.reply_of.Statement.{statement}
+use Rattle.committer.proofs.reply.reply_of.Tie as tie
+
+enum-told : tie.Need-enum-told
+enum-told c = search needs
+
+enum-known-answer : tie.Need-enum-known-answer
+enum-known-answer c = search needs
+
+yes-requires : tie.Need-yes-requires
+yes-requires c κs = search needs
+
+enum-known-answer-2 : tie.Need-enum-known-answer-2
+enum-known-answer-2 c = search needs
+
+enum-known-answer-3 : tie.Need-enum-known-answer-3
+enum-known-answer-3 c = search needs
+
+number-of-requires : tie.Need-number-of-requires
+number-of-requires c κs = search needs
+
+round-in-requires : tie.Need-round-in-requires
+round-in-requires c κs = search needs
+
+returns : tie.Need-returns
+returns c = reply-done _ (c .enum-told .given .1)
+
+returns-2 : tie.Need-returns-2
+returns-2 c = reply-said _ _ _ (c .before .before .answer .given .1) (c .yes .ensures)
+
+returns-3 : tie.Need-returns-3
+returns-3 c = reply-handed _ _ (c .before .answer2 .given .1)
+
+returns-4 : tie.Need-returns-4
+returns-4 c = reply-refused _ _ _ _ _ (c .before .before .before .answer3 .given .1) (c .before .number-of .ensures) (c .round-in .ensures)
+
+pub reply-of-spec : {M : Type 1} → statement M
+reply-of-spec =
+    tie.close
+    (tie.spec
+    enum-told
+    enum-known-answer
+    yes-requires
+    enum-known-answer-2
+    enum-known-answer-3
+    number-of-requires
+    round-in-requires
+    returns
+    returns-2
+    returns-3
+    returns-4)

@@ -1,0 +1,30 @@
+// Origin: none. Commit for C.
+ghost use Rattle.spec.specs.Calls as calls;
+ghost use Rattle.models.specs.Parts.{idOf};
+ghost use Rattle.commit_answer.specs.Answer.{tables};
+ghost use Rattle.commit_call.specs.Commit.{commitLeft};
+ghost use Rattle.committer.specs.Reply.{Replies};
+use crate::reply::Reply;
+use crate::reply::reply_of;
+use commit_call::commit;
+use commit_state::state::State;
+use models::parts::PointId;
+
+// b: the buffer for the anchor records.
+#[no_mangle]
+pub extern "C" fn committer_commit(
+    s: State,
+    keys: &[u64],
+    links: &[u64],
+    certs: &mut [u64],
+    order: &[u64],
+    id: PointId,
+    b: &mut [u8],
+) -> Reply
+    ensures { λ r. ⌜ Replies (calls.commit (idOf id) (now (b .entry))) (commitLeft (idOf id) (now (b .entry)))
+        (tables s (now (keys .entry)) (now (links .entry)) (now (certs .entry)) (now (order .entry))) r
+        (tables (r .state) (now (keys .entry)) (now (links .entry)) (now (certs .exit)) (now (order .entry))) (now (b .exit)) ⌝ }
+{
+    let o = commit(s, keys, links, certs, order, id, b);
+    reply_of(o)
+}

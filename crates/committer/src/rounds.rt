@@ -1,0 +1,143 @@
+// Origin: none. Start, reset, round, gap question and drop for C.
+ghost use mathlib.Core.Path.{_≡_};
+ghost use mathlib.Core.List.{[]};
+ghost use Rattle.spec.specs.Calls as calls;
+ghost use Rattle.commit_state.specs.Reads.{startArgsOf};
+ghost use Rattle.commit_answer.specs.Answer.{tables};
+ghost use Rattle.commit_start.specs.Start.{startLeft, resetLeft};
+ghost use Rattle.commit_rounds.specs.Gap.{gapLeft};
+ghost use Rattle.commit_rounds.specs.Round.{roundLeft};
+ghost use Rattle.commit_rounds.specs.Drop.{dropLeft};
+ghost use Rattle.committer.specs.Reply.{Replies, startArgsIn, usedIn};
+use crate::reply::Reply;
+use crate::reply::reply_of;
+use commit_rounds::drop_upto;
+use commit_rounds::extend_from_ahead;
+use commit_rounds::is_once_after_gap;
+use commit_start::init;
+use commit_start::reset;
+use commit_state::back::StartArgs;
+use commit_state::back::UsedAuthor;
+use commit_state::state::State;
+use models::parts::Round;
+
+// What a start takes. after_gap: 0 for no. used: the author of the bottom's used mark, 4294967295 for none.
+#[repr(C)]
+pub struct Start {
+    pub genesis: u32,
+    pub commit_history_rounds: u32,
+    pub deduplicate_rounds: u32,
+    pub bottom: u32,
+    pub peers: u32,
+    pub after_gap: u32,
+    pub used: u32,
+}
+
+fn used_in(used: u32) -> UsedAuthor
+    ensures { λ r. ⌜ r ≡ usedIn used ⌝ }
+{
+    if used == 4294967295 {
+        return UsedAuthor::Nobody;
+    }
+    UsedAuthor::Peer(used)
+}
+
+fn start_args_in(with: Start) -> StartArgs
+    ensures { λ r. ⌜ r ≡ startArgsIn with ⌝ }
+{
+    let used = used_in(with.used);
+    StartArgs {
+        genesis: Round(with.genesis),
+        commit_history_rounds: with.commit_history_rounds,
+        deduplicate_rounds: with.deduplicate_rounds,
+        bottom: Round(with.bottom),
+        peers: with.peers,
+        after_gap: with.after_gap != 0,
+        used,
+    }
+}
+
+#[no_mangle]
+pub extern "C" fn committer_start(
+    s: State,
+    keys: &mut [u64],
+    links: &mut [u64],
+    certs: &mut [u64],
+    order: &mut [u64],
+    with: Start,
+) -> Reply
+    ensures { λ r. ⌜ Replies (calls.start (startArgsOf (startArgsIn with))) (startLeft (startArgsIn with))
+        (tables s (now (keys .entry)) (now (links .entry)) (now (certs .entry)) (now (order .entry))) r
+        (tables (r .state) (now (keys .exit)) (now (links .exit)) (now (certs .exit)) (now (order .exit))) [] ⌝ }
+{
+    let beginning = start_args_in(with);
+    let o = init(s, keys, links, certs, order, beginning);
+    reply_of(o)
+}
+
+#[no_mangle]
+pub extern "C" fn committer_reset(
+    s: State,
+    keys: &mut [u64],
+    links: &mut [u64],
+    certs: &mut [u64],
+    order: &mut [u64],
+) -> Reply
+    ensures { λ r. ⌜ Replies calls.resetAll resetLeft
+        (tables s (now (keys .entry)) (now (links .entry)) (now (certs .entry)) (now (order .entry))) r
+        (tables (r .state) (now (keys .exit)) (now (links .exit)) (now (certs .exit)) (now (order .exit))) [] ⌝ }
+{
+    let o = reset(s, keys, links, certs, order);
+    reply_of(o)
+}
+
+#[no_mangle]
+pub extern "C" fn committer_round(
+    s: State,
+    keys: &[u64],
+    links: &[u64],
+    certs: &[u64],
+    order: &[u64],
+    round: u32,
+    peers: u32,
+) -> Reply
+    ensures { λ r. ⌜ Replies (calls.round round peers) (roundLeft round peers)
+        (tables s (now (keys .entry)) (now (links .entry)) (now (certs .entry)) (now (order .entry))) r
+        (tables (r .state) (now (keys .entry)) (now (links .entry)) (now (certs .entry)) (now (order .entry))) [] ⌝ }
+{
+    let o = extend_from_ahead(s, keys, links, certs, order, Round(round), peers);
+    reply_of(o)
+}
+
+#[no_mangle]
+pub extern "C" fn committer_gap(
+    s: State,
+    keys: &[u64],
+    links: &[u64],
+    certs: &[u64],
+    order: &[u64],
+) -> Reply
+    ensures { λ r. ⌜ Replies calls.gapQuestion gapLeft
+        (tables s (now (keys .entry)) (now (links .entry)) (now (certs .entry)) (now (order .entry))) r
+        (tables (r .state) (now (keys .entry)) (now (links .entry)) (now (certs .entry)) (now (order .entry))) [] ⌝ }
+{
+    let o = is_once_after_gap(s, keys, links, certs, order);
+    reply_of(o)
+}
+
+#[no_mangle]
+pub extern "C" fn committer_drop(
+    s: State,
+    keys: &mut [u64],
+    links: &mut [u64],
+    certs: &mut [u64],
+    order: &mut [u64],
+    round: u32,
+) -> Reply
+    ensures { λ r. ⌜ Replies (calls.drop round) (dropLeft round)
+        (tables s (now (keys .entry)) (now (links .entry)) (now (certs .entry)) (now (order .entry))) r
+        (tables (r .state) (now (keys .exit)) (now (links .exit)) (now (certs .exit)) (now (order .exit))) [] ⌝ }
+{
+    let o = drop_upto(s, keys, links, certs, order, Round(round));
+    reply_of(o)
+}

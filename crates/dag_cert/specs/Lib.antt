@@ -1,4 +1,0 @@
-pub mod Work
-pub mod Queue
-pub mod Sane
-pub mod Exact

@@ -1,4 +1,0 @@
-pub mod View
-pub mod Push
-pub mod Cells
-pub mod Exact

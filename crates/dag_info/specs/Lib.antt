@@ -1,3 +1,0 @@
-pub mod Form
-pub mod Wild
-pub mod Leads

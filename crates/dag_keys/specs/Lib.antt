@@ -1,4 +1,0 @@
-pub mod Key
-pub mod Sorted
-pub mod Digest
-pub mod Id

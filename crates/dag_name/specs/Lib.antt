@@ -1,6 +1,0 @@
-pub mod Name
-pub mod Used
-pub mod Codes
-pub mod Words
-pub mod Tests
-pub mod After

@@ -1,0 +1,70 @@
+use Prim.Native.Nat.{ℕ, _+_, _-_, _<_, _≤_}
+use mathlib.Core.Path.{_≡_, sym}
+use native.Mathlib.Omega.{arith}
+use lib.ListN.{getD}
+use borrow.Author.Count.{below-none, below-more}
+use borrow.Author.Needs.{needs}
+use Rattle.dag_round_keys.specs.Digest.{digest-yes, digest-no}
+use Rattle.dag_round_keys.proofs.same_digest.Statement.{statement}
+use Rattle.dag_round_keys.proofs.same_digest.Tie as tie
+
+abbrev Inv-loop : tie.InvT-loop
+Inv-loop a i b j k₀ k = (k ≤ 4) × ((m : ℕ) → m < k → getD a (i + m) 0 ≡ getD b (j + m) 0)
+
+abbrev μ-loop : tie.MeasureT-loop
+μ-loop a i b j k₀ k = 4 - k
+
+loop-holds : tie.Need-loop-holds Inv-loop μ-loop
+loop-holds c = (search needs, below-none _)
+
+add-x : tie.Need-add-x Inv-loop μ-loop
+add-x c = search needs
+
+mul-x : tie.Need-mul-x Inv-loop μ-loop
+mul-x c = search needs
+
+shared-slice-read-x : tie.Need-shared-slice-read-x Inv-loop μ-loop
+shared-slice-read-x c = search needs
+
+add-y : tie.Need-add-y Inv-loop μ-loop
+add-y c = search needs
+
+mul-y : tie.Need-mul-y Inv-loop μ-loop
+mul-y c = search needs
+
+shared-slice-read-y : tie.Need-shared-slice-read-y Inv-loop μ-loop
+shared-slice-read-y c = search needs
+
+returns : tie.Need-returns Inv-loop μ-loop
+returns c = sym (digest-no _ _ _ _ (λ p. c .before .before .shared-slice-known .given p .fits) (λ p. c .before .shared-slice-known2 .given p .fits) _ (omega (arith, c .before .before .before .loop-test .taken)) (c .if1 .taken))
+
+add-k : tie.Need-add-k Inv-loop μ-loop
+add-k c = search needs
+
+loop-less : tie.Need-loop-less Inv-loop μ-loop
+loop-less c = search needs
+
+loop-again : tie.Need-loop-again Inv-loop μ-loop
+loop-again c = (search needs, below-more _ _ (c .before .before .before .before .loop .inv .1) (c .if1 .left))
+
+returns-2 : tie.Need-returns-2 Inv-loop μ-loop
+returns-2 c = sym (digest-yes _ _ _ _ (λ m l. c .before .loop .inv .1 m (omega (arith, c .loop-test .left))))
+
+pub same-digest-spec : {M : Type 1} → statement M
+same-digest-spec =
+    tie.close
+    (tie.spec
+    Inv-loop
+    μ-loop
+    loop-holds
+    add-x
+    mul-x
+    shared-slice-read-x
+    add-y
+    mul-y
+    shared-slice-read-y
+    returns
+    add-k
+    loop-less
+    loop-again
+    returns-2)

@@ -1,0 +1,6 @@
+pub mod Fill
+pub mod Zero
+pub mod Key
+pub mod Sorted
+pub mod Digest
+pub mod Id

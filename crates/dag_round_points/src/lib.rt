@@ -1,0 +1,194 @@
+// Origin: dag/dag_round.rs (a point enters its round), dag/commit/mod.rs.
+// An id is tested, and a point that may be named is put into the lowest free place, with nothing but its id.
+// Origin: models/cert.rs (certify, set_deps), dag/dag_round.rs (view).
+// A point is found by its id; a certified point becomes a top, and its height is handed on.
+ghost use mathlib.Core.Path.{_≡_};
+ghost use Prim.Native.Nat.{_+_, _*_, _<_, _≤_};
+ghost use lib.ListN.{length};
+ghost use Rattle.laws.specs.Scan.{those};
+ghost use Rattle.models.specs.Refusal.{numbered};
+ghost use Rattle.models.specs.Tables.{Inside};
+ghost use Rattle.dag_round_keys.specs.Sorted.{Sorted};
+ghost use Rattle.dag_round_points.specs.Model.{Ready, idWords, isVersion, versionAt, idCode, tableCode, nameCode, namedState, namedKeys, namedCerts, namedOrder};
+ghost use Rattle.dag_round_points.specs.Point.{pointCode, placeFor};
+use commit_state::state::State;
+use models::parts::PointId;
+use models::refusal::Check;
+use models::refusal::DIGEST_NAMED;
+use models::refusal::FIFTH_DIGEST;
+use models::refusal::FULL;
+use models::refusal::NOT_A_PEER;
+use models::refusal::NOT_NAMED;
+use models::refusal::NOT_RETAINED;
+use models::refusal::Refusal;
+
+// The id as the words of a place that is named.
+pub fn id_words(id: PointId) -> [u64; 8]
+    ensures { λ r. ⌜ r ≡ idWords id ⌝ }
+{
+    let round = id.round;
+    let digest = id.digest;
+    let d = digest.0;
+    let r = round.0 as u64;
+    let a = id.author as u64;
+    [r, a, d[0], d[1], d[2], d[3], 0, 0]
+}
+
+// Whether the place has the round and the author.
+fn is_version(keys: &[u64], q: usize, round: u64, author: u64) -> bool
+    requires { ⌜ q * 8 + 8 ≤ length (now keys) ⌝ }
+    ensures { λ r. ⌜ r ≡ isVersion (now (keys .entry)) round author q ⌝ }
+{
+    let r = keys[q * 8 + 0];
+    let a = keys[q * 8 + 1];
+    if r != round {
+        return false;
+    }
+    a == author
+}
+
+// How many of the first n places have the round and the author.
+fn versions(keys: &[u64], order: &[u64], n: usize, round: u64, author: u64) -> usize
+    requires { ⌜ (length (now keys) ≡ length (now order) * 8) × (n ≤ length (now order)) ⌝ }
+    requires { ⌜ Inside (now order) n (length (now order)) ⌝ }
+    ensures { λ r. ⌜ r ≡ length (those n (versionAt (now (keys .entry)) (now (order .entry)) round author)) ⌝ }
+{
+    let mut count: usize = 0;
+    let mut i: usize = 0;
+    while i < n {
+        let q = dag_round_keys::place(order, n, i);
+        if is_version(keys, q, round, author) {
+            count += 1;
+        }
+        i += 1;
+    }
+    count
+}
+
+// What an id is refused with, 0 if it is not.
+pub fn id_code(s: State, id: PointId) -> u32
+    ensures { λ r. ⌜ r ≡ idCode s id ⌝ }
+{
+    let round = id.round;
+    let bottom = s.bottom;
+    let top = s.top;
+    let r = round.0;
+    let author = id.author;
+    if 32 <= author {
+        return NOT_A_PEER;
+    }
+    if r < bottom.0 {
+        return NOT_RETAINED;
+    }
+    if top.0 < r {
+        return NOT_RETAINED;
+    }
+    let x = s.rounds[(r % 512) as usize];
+    if !models::parts::has_peer(x.peers, author) {
+        return NOT_A_PEER;
+    }
+    0
+}
+
+// Whether naming is refused after the id's own tests: the digest is there, a fifth of its author, or no place is free.
+fn check_table(keys: &[u64], order: &[u64], n: usize, id: &[u64]) -> Check
+    requires { ⌜ (length (now keys) ≡ length (now order) * 8) × (length (now order) ≤ 4096) × (n ≤ length (now order)) × (8 ≤ length (now id)) ⌝ }
+    requires { ⌜ Inside (now order) n (length (now order)) ⌝ }
+    requires { ⌜ Sorted (now keys) (now order) n ⌝ }
+    ensures { λ r. ⌜ r ≡ numbered (tableCode (now (keys .entry)) (now (order .entry)) n (now (id .entry))) ⌝ }
+{
+    let at = dag_round_keys::find(keys, order, n, id);
+    if at < n {
+        return Check::Failed(Refusal::Number(DIGEST_NAMED));
+    }
+    let round = id[0];
+    let author = id[1];
+    let count = versions(keys, order, n, round, author);
+    if 4 <= count {
+        return Check::Failed(Refusal::Number(FIFTH_DIGEST));
+    }
+    let places = order.len();
+    let q = dag_round_order::free_place(order, n, places);
+    if q < places {
+        return Check::Passed;
+    }
+    Check::Failed(Refusal::Number(FULL))
+}
+
+// Whether naming is refused: the tests of the id, then those of the tables.
+pub fn check_name(s: State, keys: &[u64], order: &[u64], id: PointId) -> Check
+    requires { ⌜ Ready s (now keys) (now order) ⌝ }
+    ensures { λ r. ⌜ r ≡ numbered (nameCode s (now (keys .entry)) (now (order .entry)) id) ⌝ }
+{
+    let code = id_code(s, id);
+    if code != 0 {
+        return Check::Failed(Refusal::Number(code));
+    }
+    let words = id_words(id);
+    check_table(keys, order, s.count, &words)
+}
+
+// The state with one place more in use.
+fn named(s: State) -> State
+    requires { ⌜ s .count < 4096 ⌝ }
+    ensures { λ r. ⌜ r ≡ namedState s ⌝ }
+{
+    let n = s.count + 1;
+    let mut next = s;
+    next.count = n;
+    next
+}
+
+// Puts the point into the lowest free place.
+pub fn name_point(
+    s: State,
+    keys: &mut [u64],
+    certs: &mut [u64],
+    order: &mut [u64],
+    id: PointId,
+) -> State
+    requires { ⌜ Ready s (now keys) (now order) ⌝ }
+    requires { ⌜ (length (now certs) ≡ length (now order)) × (nameCode s (now keys) (now order) id ≡ 0) ⌝ }
+    ensures state { λ r. ⌜ r ≡ namedState s ⌝ }
+    ensures keys { λ _. ⌜ now (keys .exit) ≡ namedKeys s (now (keys .entry)) (now (order .entry)) id ⌝ }
+    ensures certs { λ _. ⌜ now (certs .exit) ≡ namedCerts s (now (certs .entry)) (now (order .entry)) ⌝ }
+    ensures order { λ _. ⌜ now (order .exit) ≡ namedOrder s (now (keys .entry)) (now (order .entry)) id ⌝ }
+{
+    let n = s.count;
+    let words = id_words(id);
+    let places = order.len();
+    let q = dag_round_order::free_place(order, n, places);
+    dag_round_order::put(keys, order, n, q, &words);
+    certs[q] = 0;
+    named(s)
+}
+
+// What a call that names a point by its id is refused with, 0 if it isn't: the tests of the id, then whether it is named.
+pub fn point_code(s: State, keys: &[u64], order: &[u64], id: PointId) -> u32
+    requires { ⌜ Ready s (now keys) (now order) ⌝ }
+    ensures { λ r. ⌜ r ≡ pointCode s (now (keys .entry)) (now (order .entry)) id ⌝ }
+{
+    let code = id_code(s, id);
+    if code != 0 {
+        return code;
+    }
+    let words = id_words(id);
+    let n = s.count;
+    let at = dag_round_keys::find_point(keys, order, n, &words);
+    if at < n {
+        return 0;
+    }
+    NOT_NAMED
+}
+
+// The place of the point.
+pub fn point_place(s: State, keys: &[u64], order: &[u64], id: PointId) -> usize
+    requires { ⌜ Ready s (now keys) (now order) ⌝ }
+    requires { ⌜ pointCode s (now keys) (now order) id ≡ 0 ⌝ }
+    ensures { λ r. ⌜ r ≡ placeFor s (now (keys .entry)) (now (order .entry)) id ⌝ }
+{
+    let words = id_words(id);
+    let n = s.count;
+    let at = dag_round_keys::find_point(keys, order, n, &words);
+    dag_round_keys::place(order, n, at)
+}

@@ -1,0 +1,23 @@
+use Rattle.output_record.specs.Model.{pointsOf, record-then}
+use borrow.Author.Needs.{needs}
+use Rattle.output_record.proofs.record.put_record.Statement.{statement}
+use Rattle.output_record.proofs.record.put_record.Tie as tie
+
+put-head-requires : tie.Need-put-head-requires
+put-head-requires c κs = search needs
+
+put-points-requires : tie.Need-put-points-requires
+put-points-requires c κs = search needs
+
+same-length : tie.Need-same-length
+same-length c = search needs
+
+returns : tie.Need-returns
+unfolding pointsOf
+returns c =
+    let h = c .before .before .before .before .before .before .put-head .ensures in
+    let p = c .before .before .put-points .ensures in
+    record-then _ _ _ _ _ _ _ _ _ _ _ _ _ (c .before .before .before .before .before .before .before .before .before .before .before .before .pre .1 .2) (h .0) (h .1) (p .0) (p .1)
+
+pub put-record-spec : {M : Type 1} → statement M
+put-record-spec = tie.close (tie.spec put-head-requires put-points-requires same-length returns)

@@ -1,0 +1,6 @@
+pub mod Picked
+pub mod Model
+pub mod Marks
+pub mod ModelState
+pub mod History
+pub mod Refines

@@ -1,0 +1,4 @@
+pub mod View
+pub mod Model
+pub mod Cells
+pub mod Refines

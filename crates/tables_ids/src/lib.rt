@@ -1,0 +1,78 @@
+// Origin: dag/dag_round.rs. At most four points for each author and round, counted in one pass.
+// Origin: dag/dag_round.rs. The id of a used place tested as naming tests it: a retained round, a peer of that round.
+ghost use mathlib.Core.Path.{_≡_};
+ghost use Prim.Native.Nat.{_+_, _*_, _<_, _≤_};
+ghost use lib.ListN.{length, getD};
+ghost use lib.Dec.{ltb};
+ghost use Rattle.tables_ids.specs.Model.{cellOf, cellAt, counted, versionsHold, Tallied};
+ghost use Rattle.models.specs.Tables.{placeAt, Inside};
+ghost use Rattle.tables_ids.specs.Ids.{idHolds};
+use models::parts::has_peer;
+
+// The cell that a round and an author count in.
+fn cell(round: u64, author: u64) -> usize
+    ensures { λ r. ⌜ (r ≡ cellOf round author) × (r < 16384) ⌝ }
+{
+    (round % 512 * 32 + author % 32) as usize
+}
+
+// Counts place q, if there is room.
+fn count_one(seen: &mut [u8], keys: &[u64], q: usize) -> bool
+    requires { ⌜ (length (now seen) ≡ 16384) × (q * 8 + 8 ≤ length (now keys)) ⌝ }
+    ensures { λ r. ⌜ r ≡ ltb (getD (now (seen .entry)) (cellAt (now (keys .entry)) q) 0) 4 ⌝ }
+    ensures { λ _. ⌜ now (seen .exit) ≡ counted (now (keys .entry)) (now (seen .entry)) q ⌝ }
+{
+    let i = cell(
+        dag_round_keys::round_word(keys, q),
+        dag_round_keys::author(keys, q),
+    );
+    if 4 <= seen[i] {
+        return false;
+    }
+    seen[i] = seen[i] + 1;
+    true
+}
+
+// Counts the first n places of the order.
+fn count_all(seen: &mut [u8], keys: &[u64], order: &[u64], n: usize) -> bool
+    requires { ⌜ (length (now keys) ≡ length (now order) * 8) × (n ≤ length (now order)) ⌝ }
+    requires { ⌜ Inside (now order) n (length (now order)) ⌝ }
+    requires { ⌜ Tallied (now keys) (now order) (now seen) 0 ⌝ }
+    ensures { λ r. ⌜ r ≡ versionsHold (now (keys .entry)) (now (order .entry)) n ⌝ }
+{
+    let mut i: usize = 0;
+    while i < n {
+        let q = dag_round_keys::place(order, n, i);
+        if !count_one(seen, keys, q) {
+            return false;
+        }
+        i += 1;
+    }
+    true
+}
+
+// Whether no more than four points share an author and a round.
+pub fn versions_hold(keys: &[u64], order: &[u64], n: usize) -> bool
+    requires { ⌜ (length (now keys) ≡ length (now order) * 8) × (n ≤ length (now order)) ⌝ }
+    requires { ⌜ Inside (now order) n (length (now order)) ⌝ }
+    ensures { λ r. ⌜ r ≡ versionsHold (now (keys .entry)) (now (order .entry)) n ⌝ }
+{
+    let mut seen = [0u8; 16384];
+    count_all(&mut seen, keys, order, n)
+}
+
+// Whether a point of this round and author may stand in a table of the rounds from bottom to top; peers: the peers of its round.
+pub fn id_holds(round: u64, author: u64, bottom: u32, top: u32, peers: u32) -> bool
+    ensures { λ r. ⌜ r ≡ idHolds round author bottom top peers ⌝ }
+{
+    if round < bottom as u64 {
+        return false;
+    }
+    if (top as u64) < round {
+        return false;
+    }
+    if 31 < author {
+        return false;
+    }
+    has_peer(peers, author as u32)
+}

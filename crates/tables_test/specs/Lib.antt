@@ -1,0 +1,12 @@
+pub mod Model
+pub mod Refs
+pub mod View
+pub mod Same
+pub mod Regular
+pub mod Edges
+pub mod Heights
+pub mod Count
+pub mod Formed
+pub mod Four
+pub mod Whole
+pub mod Refines
