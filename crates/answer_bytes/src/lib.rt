@@ -1,5 +1,6 @@
-// Origin: none. The numbers, digests and ids of answers as bytes, big-endian, in a lent buffer. Each function returns the next offset. put_*
-// write; emit_* write or only count, so that one code gives the size of an answer and the answer.
+// Origin: none.
+// The numbers, digests and ids of answers as bytes, big-endian, in a lent buffer. Each function returns the next offset. put_* write;
+// emit_* write or only count, so that one code gives the size of an answer and the answer.
 ghost use mathlib.Core.Path.{_≡_};
 ghost use Prim.Native.Nat.{_+_, _*_, _≤_};
 ghost use lib.ListN.{length};

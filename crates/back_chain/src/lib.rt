@@ -1,4 +1,4 @@
-// Origin: dag/commit/back.rs (anchor_chain), dag/commit/mod.rs (commit up to the chain, filter, enqueue).
+// Origin: dag/commit/back.rs (anchor_chain), dag/commit/mod.rs (commit up to the chain, filter, EnqueuedAnchor).
 // The tests of a trigger, and the chain of anchors that it yields.
 ghost use mathlib.Core.Path.{_≡_};
 ghost use Prim.Native.Nat.{_+_, _*_, _-_, _<_, _≤_};

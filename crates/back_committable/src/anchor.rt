@@ -1,4 +1,5 @@
-// Origin: dag/commit/back.rs (gather_uncommitted). The tests of one anchor that commit and outlook both make, with what its history is.
+// Origin: dag/commit/back.rs (gather_uncommitted).
+// The tests of one anchor that commit and outlook both make, with what its history is.
 ghost use mathlib.Core.Path.{_≡_};
 ghost use Prim.Native.Nat.{_*_, _≤_};
 ghost use lib.ListN.{length};

@@ -1,4 +1,4 @@
-// Origin: dag/commit/back.rs (committable_point, and the order of points in gather_uncommitted).
+// Origin: dag/commit/back.rs (committable_point, gather_uncommitted).
 // The first point of a history that isn't usable: rounds downwards, inside a round by rising digest.
 ghost use mathlib.Core.Path.{_≡_};
 ghost use Prim.Native.Nat.{_+_, _*_, _<_, _≤_};

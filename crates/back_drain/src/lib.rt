@@ -1,4 +1,5 @@
-// Origin: dag/commit/back.rs (drain_upto). The rounds below a new bottom go: their points' places are zeroed and free again.
+// Origin: dag/commit/back.rs (drain_upto).
+// The rounds below a new bottom go: their points' places are zeroed and free again.
 ghost use mathlib.Core.Path.{_≡_};
 ghost use Prim.Native.Nat.{_*_, _≤_};
 ghost use lib.ListN.{length};

@@ -1,5 +1,6 @@
-// Origin: dag/commit/back.rs (gather_uncommitted). The history of one anchor: the points that it needs, by one sweep over the positions of
-// the order downwards, and those of them that are not committed, by rising position.
+// Origin: dag/commit/back.rs (gather_uncommitted).
+// The history of one anchor: the points that it needs, by one sweep over the positions of the order downwards, and those of them that
+// are not committed, by rising position.
 ghost use mathlib.Core.Path.{_≡_};
 ghost use Prim.Native.Nat.{_+_, _*_, _-_, _<_, _≤_};
 ghost use lib.ListN.{length};

@@ -1,4 +1,4 @@
-// Origin: dag/commit/back.rs (anchor_chain, chained_proof, ready_valid_point).
+// Origin: dag/commit/back.rs (anchor_chain, chained_proof, ready_valid_point), dag/commit/mod.rs (EnqueuedAnchor).
 // One round of the walk from a trigger down to its anchors.
 ghost use mathlib.Core.Path.{_≡_};
 ghost use Prim.Native.Nat.{_+_, _*_, _<_, _≤_};

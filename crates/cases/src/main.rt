@@ -1,3 +1,4 @@
+// Origin: none.
 // Cases of document 01 that go through the code. Each line written is what one call answered, or a number that it left.
 use commit_answer::answer::Answer;
 use commit_points::certify::certify;

@@ -1,7 +1,6 @@
-// Origin: models/cert.rs (traverse_certify, certify_deeper, max_height_published).
-// A height that rose is handed on along the links: each place that rises is queued once, and no other place is touched.
-// Origin: models/cert.rs (certify, set_deps), dag/dag_round.rs (view).
-// A point is found by its id; a certified point becomes a top, and its height is handed on.
+// Origin: models/cert.rs (certify, traverse_certify, certify_deeper, max_height_published).
+// A certified point becomes a top. A height that rose is handed on along the links: each place that rises is queued once, and no other
+// place is touched.
 ghost use mathlib.Core.Path.{_≡_};
 ghost use Prim.Native.Nat.{_+_, _*_, _<_, _≤_};
 ghost use lib.ListN.{length};
@@ -55,7 +54,8 @@ fn certify_deps(
 ) -> usize
     requires { ⌜ (m ≤ 64) × (p * 328 + 328 ≤ length (now links)) × (p < length (now certs)) × (length (now queue) ≡ 4096) × (length (now certs) ≤ 4096) ⌝ }
     requires { ⌜ Open (now links) (work (now certs) (now queue) tail) p m ⌝ }
-    ensures { λ r. ⌜ work (now (certs .exit)) (now (queue .exit)) r ≡ handed (targetAt (now (links .entry)) p) (heightAt (now (certs .entry)) p) (work (now (certs .entry)) (now (queue .entry)) tail) m ⌝ }
+    ensures { λ r. ⌜ work (now (certs .exit)) (now (queue .exit)) r ≡ handed (targetAt (now (links .entry)) p) (heightAt (now (certs .entry)) p)
+        (work (now (certs .entry)) (now (queue .entry)) tail) m ⌝ }
 {
     let cert = Cert(certs[p]);
     let h = cert.height();

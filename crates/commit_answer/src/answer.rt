@@ -1,4 +1,5 @@
-// Origin: dag/commit/mod.rs (the results of the calls). What a call answers.
+// Origin: dag/commit/mod.rs (the results of the calls).
+// What a call answers.
 ghost use mathlib.Core.Path.{_≡_};
 ghost use Rattle.commit_answer.specs.Answer.{refusal};
 use commit_state::state::State;

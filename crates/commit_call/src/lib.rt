@@ -1,4 +1,5 @@
-// Origin: dag/commit/mod.rs (commit). The call commit: the chain of a trigger's anchors, then each of them, oldest first.
+// Origin: dag/commit/mod.rs (commit).
+// The call commit: the chain of a trigger's anchors, then each of them, oldest first.
 ghost use mathlib.Core.Path.{_≡_};
 ghost use mathlib.Core.Bool.{true};
 ghost use Prim.Native.Nat.{_≤_};
@@ -52,7 +53,8 @@ fn commit_chain(
     requires { ⌜ countsAsStarted (view s (now keys) (now links) (now certs) (now order)) ≡ true ⌝ }
     requires { ⌜ Rising (view s (now keys) (now links) (now certs) (now order)) 0 (chainOf (c .list) (c .count)) ⌝ }
     requires { ⌜ c .count ≤ 511 ⌝ }
-    ensures { λ r. ⌜ Ended (now (keys .entry)) (now (links .entry)) (now (order .entry)) s (now (certs .entry)) (now (b .entry)) (chainOf (c .list) (c .count)) r (now (certs .exit)) (now (b .exit)) ⌝ }
+    ensures { λ r. ⌜ Ended (now (keys .entry)) (now (links .entry)) (now (order .entry)) s (now (certs .entry)) (now (b .entry)) (chainOf (c .list) (c .count)) r
+        (now (certs .exit)) (now (b .exit)) ⌝ }
 {
     let list = c.list;
     let all = commit_all(s, keys, links, certs, order, b, list, c.count);

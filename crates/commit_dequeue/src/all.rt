@@ -1,4 +1,5 @@
-// Origin: dag/commit/mod.rs (commit): the anchors of a chain, oldest first, up to the first that is refused.
+// Origin: dag/commit/mod.rs (commit).
+// The anchors of a chain, oldest first, up to the first that is refused.
 ghost use mathlib.Core.Path.{_≡_};
 ghost use mathlib.Core.Bool.{true};
 ghost use Prim.Native.Nat.{_≤_};
@@ -35,8 +36,11 @@ pub fn commit_all(
     requires { ⌜ countsAsStarted (view s (now keys) (now links) (now certs) (now order)) ≡ true ⌝ }
     requires { ⌜ Rising (view s (now keys) (now links) (now certs) (now order)) 0 (chainOf list count) ⌝ }
     requires { ⌜ count ≤ 512 ⌝ }
-    ensures words { λ r. ⌜ leftOf (r .check) (r .state) (now (certs .exit)) (now (b .exit)) (r .finished) ≡ allOf (now (keys .entry)) (now (links .entry)) (now (order .entry)) s (now (certs .entry)) (now (b .entry)) 0 0 (chainOf list count) ⌝ }
-    ensures finished { λ r. ⌜ finishedOf (now (keys .entry)) (now (links .entry)) (now (order .entry)) (leftOf (r .check) (r .state) (now (certs .exit)) (now (b .exit)) (r .finished)) ≡ commitAll (view s (now (keys .entry)) (now (links .entry)) (now (certs .entry)) (now (order .entry))) (now (b .entry)) 0 0 (chainOf list count) ⌝ }
+    ensures words { λ r. ⌜ leftOf (r .check) (r .state) (now (certs .exit)) (now (b .exit)) (r .finished) ≡ allOf (now (keys .entry)) (now (links .entry))
+        (now (order .entry)) s (now (certs .entry)) (now (b .entry)) 0 0 (chainOf list count) ⌝ }
+    ensures finished { λ r. ⌜ finishedOf (now (keys .entry)) (now (links .entry)) (now (order .entry))
+        (leftOf (r .check) (r .state) (now (certs .exit)) (now (b .exit)) (r .finished)) ≡ commitAll
+        (view s (now (keys .entry)) (now (links .entry)) (now (certs .entry)) (now (order .entry))) (now (b .entry)) 0 0 (chainOf list count) ⌝ }
 {
     let mut cur = s;
     let mut end: usize = 0;

@@ -1,3 +1,4 @@
-// The anchors of a chain, committed one after another.
+// Origin: dag/commit/mod.rs (commit, dequeue_anchor).
+// The anchors of a chain (all), committed one after another (one).
 pub mod all;
 pub mod one;

@@ -1,5 +1,5 @@
-// Origin: dag/commit/mod.rs (dequeue_anchor): one anchor is tested, then its record is written, its history marked and the state brought
-// up to it.
+// Origin: dag/commit/mod.rs (dequeue_anchor).
+// One anchor is tested, then its record is written, its history marked and the state brought up to it.
 ghost use mathlib.Core.Path.{_≡_};
 ghost use mathlib.Core.Bool.{true};
 ghost use Prim.Native.Nat.{_+_, _*_, _-_, _<_, _≤_};
@@ -69,7 +69,8 @@ fn put_anchor(
     requires { ⌜ Pickable (now keys) (now certs) (now order) (now marks) low high count ⌝ }
     requires { ⌜ Placed (now keys) (now certs) (enqueuedOf e) ⌝ }
     requires { ⌜ at + 83 + count * 37 ≤ length (now b) ⌝ }
-    ensures { λ r. ⌜ (r ≡ at + 83 + count * 37) × (now (b .exit) ≡ written (now (b .entry)) at (recordFor s (now (keys .entry)) (now (certs .entry)) (now (order .entry)) (now (marks .entry)) low high (enqueuedOf e))) ⌝ }
+    ensures { λ r. ⌜ (r ≡ at + 83 + count * 37) × (now (b .exit) ≡ written (now (b .entry)) at
+        (recordFor s (now (keys .entry)) (now (certs .entry)) (now (order .entry)) (now (marks .entry)) low high (enqueuedOf e))) ⌝ }
 {
     let anchor = e.anchor;
     let proof = e.proof;
@@ -122,8 +123,10 @@ pub fn dequeue_anchor(
     requires { ⌜ countsAsStarted (view s (now keys) (now links) (now certs) (now order)) ≡ true ⌝ }
     requires { ⌜ Anchored (view s (now keys) (now links) (now certs) (now order)) (enqueuedOf e) ⌝ }
     requires { ⌜ at ≤ length (now b) ⌝ }
-    ensures words { λ r. ⌜ stepOf (r .check) (r .state) (now (certs .exit)) (now (b .exit)) (r .end) ≡ oneOf s (now (keys .entry)) (now (links .entry)) (now (certs .entry)) (now (order .entry)) (now (b .entry)) at (enqueuedOf e) ⌝ }
-    ensures says { λ r. ⌜ Says (view s (now (keys .entry)) (now (links .entry)) (now (certs .entry)) (now (order .entry))) (now (b .entry)) at (enqueuedOf e) (r .check) (view (r .state) (now (keys .entry)) (now (links .entry)) (now (certs .exit)) (now (order .entry))) (now (b .exit)) (r .end) ⌝ }
+    ensures words { λ r. ⌜ stepOf (r .check) (r .state) (now (certs .exit)) (now (b .exit)) (r .end) ≡ oneOf s (now (keys .entry)) (now (links .entry))
+        (now (certs .entry)) (now (order .entry)) (now (b .entry)) at (enqueuedOf e) ⌝ }
+    ensures says { λ r. ⌜ Says (view s (now (keys .entry)) (now (links .entry)) (now (certs .entry)) (now (order .entry))) (now (b .entry)) at (enqueuedOf e) (r .check)
+        (view (r .state) (now (keys .entry)) (now (links .entry)) (now (certs .exit)) (now (order .entry))) (now (b .exit)) (r .end) ⌝ }
 {
     let t = test_anchor(s, keys, links, certs, order, e.anchor);
     let count = t.count;

@@ -1,3 +1,4 @@
+// Origin: dag/commit/mod.rs (commit).
 // Added by document 01, 'Outlook': the anchors of a chain, oldest first. Nothing is written unless all of them pass.
 ghost use mathlib.Core.Path.{_≡_};
 ghost use mathlib.Core.Bool.{true};

@@ -1,3 +1,4 @@
-// The outlook: what a trigger's anchors would yield, told without a change.
+// Origin: dag/commit/mod.rs (commit, dequeue_anchor).
+// Added by document 01, 'Outlook': what a trigger's anchors would yield, without a change.
 pub mod chain;
 pub mod look;

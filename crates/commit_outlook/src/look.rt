@@ -1,3 +1,4 @@
+// Origin: dag/commit/mod.rs (dequeue_anchor).
 // Added by document 01, 'Outlook': one anchor is tested as for a commit, but for the gap question, and its history's points are counted.
 ghost use mathlib.Core.Path.{_≡_};
 ghost use mathlib.Core.Bool.{true};

@@ -1,4 +1,5 @@
 // Origin: models/cert.rs (certify).
+// The call certify.
 ghost use mathlib.Core.List.{[]};
 ghost use Rattle.spec.specs.Calls as calls;
 ghost use Rattle.models.specs.Parts.{idOf};

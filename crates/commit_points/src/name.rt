@@ -1,4 +1,5 @@
 // Origin: dag/dag_round.rs (add_dependency).
+// The call name.
 ghost use mathlib.Core.List.{[]};
 ghost use Rattle.spec.specs.Calls as calls;
 ghost use Rattle.models.specs.Parts.{idOf};

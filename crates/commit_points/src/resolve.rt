@@ -1,4 +1,5 @@
-// Origin: models/cert.rs (set_deps), models/point/info.rs.
+// Origin: models/cert.rs (set_deps), models/point/info.rs (PointInfo).
+// The call resolve.
 ghost use mathlib.Core.List.{[]};
 ghost use Rattle.spec.specs.Calls as calls;
 ghost use Rattle.models.specs.Info.{infoOf};

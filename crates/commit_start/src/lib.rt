@@ -1,4 +1,5 @@
-// Origin: dag/commit/mod.rs (init, reset), dag/commit/back.rs (init).
+// Origin: dag/commit/mod.rs (init, reset), dag/commit/back.rs (init), dag/front.rs (DagFront::new).
+// The calls start and reset.
 ghost use mathlib.Core.Path.{_≡_};
 ghost use mathlib.Core.Bool.{cond};
 ghost use lib.ListN.{length};

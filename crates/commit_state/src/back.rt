@@ -1,5 +1,5 @@
-// Origin: dag/commit/back.rs (init, extend_from_front, drain_upto), dag/commit/mod.rs (init, reset, is_once_after_gap, drop_upto): what
-// the calls do to the state.
+// Origin: dag/commit/back.rs (init, extend_from_front, drain_upto), dag/commit/mod.rs (init, reset, is_once_after_gap, drop_upto).
+// What the calls do to the state.
 ghost use mathlib.Core.Path.{_≡_};
 ghost use Prim.Native.Nat.{_+_, _<_, _≤_};
 ghost use Rattle.commit_state.specs.Back.{Starts, begunState, clearedState, extendedState, askedState, droppedState, fullBottom, firstOf, armedOf, usedOf, usedWord};

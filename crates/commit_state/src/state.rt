@@ -1,5 +1,5 @@
-// Origin: dag/dag_round.rs (a round's record), dag/commit/back.rs (DagBack), dag/commit/mod.rs (Committer), dag/commit/inspector.rs
-// (its memory of the last round).
+// Origin: dag/dag_round.rs (used_anchor_proof), dag/commit/back.rs (DagBack), dag/commit/mod.rs (Committer), dag/commit/inspector.rs (last_round_data_map).
+// Round records, the numbers of the state, the inspector's memory of its last round.
 ghost use mathlib.Core.Path.{_≡_};
 ghost use Prim.Native.Nat.{_+_, _<_, _≤_};
 ghost use Rattle.commit_state.specs.State.{noMemory};

@@ -1,4 +1,5 @@
-// Origin: none. Commit for C.
+// Origin: none.
+// Commit for C.
 ghost use Rattle.spec.specs.Calls as calls;
 ghost use Rattle.models.specs.Parts.{idOf};
 ghost use Rattle.commit_answer.specs.Answer.{tables};

@@ -1,4 +1,5 @@
-// Origin: none. The C boundary: one function for each call, over the proved calls. Answers cross as numbers.
+// Origin: none.
+// The C boundary: one function for each call, over the proved calls. Answers cross as numbers.
 pub mod commit;
 pub mod points;
 pub mod reply;

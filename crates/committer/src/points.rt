@@ -1,4 +1,5 @@
-// Origin: none. Name, resolve and certify for C.
+// Origin: none.
+// Name, resolve and certify for C.
 ghost use mathlib.Core.Path.{_≡_};
 ghost use mathlib.Core.List.{[]};
 ghost use Rattle.spec.specs.Calls as calls;

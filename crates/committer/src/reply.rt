@@ -1,4 +1,5 @@
-// Origin: none. An answer as numbers, with the state after it.
+// Origin: none.
+// An answer as numbers, with the state after it.
 ghost use mathlib.Core.Path.{_≡_};
 ghost use mathlib.Core.Bool.{cond};
 ghost use Rattle.spec.specs.Calls.{numberOf};

@@ -1,4 +1,5 @@
-// Origin: none. Start, reset, round, gap question and drop for C.
+// Origin: none.
+// Start, reset, round, gap question and drop for C.
 ghost use mathlib.Core.Path.{_≡_};
 ghost use mathlib.Core.List.{[]};
 ghost use Rattle.spec.specs.Calls as calls;

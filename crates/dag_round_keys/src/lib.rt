@@ -1,8 +1,6 @@
-// Origin: dag/dag_round.rs, dag/commit/back.rs (drain_upto), dag/commit/mod.rs (init). Used places by their position, and freed ones:
-// what is freed is zeroed, so that tables follow from the calls alone.
-// Origin: `dag/dag_round.rs` (a round's points and look-up of a point).
-// A place has eight words of `keys`: round, author, four of the digest, status, marks. Its key is the round, then the digest.
-// `order` holds the used places in its first n cells, sorted strictly by key.
+// Origin: dag/dag_round.rs (a round's points and their look-up), dag/commit/back.rs (drain_upto).
+// A place has eight words of `keys`: round, author, four of the digest, status, marks. Its key is the round, then the digest. `order` holds
+// the used places in its first n cells, sorted strictly by key. What is freed is zeroed, so that tables follow from the calls alone.
 ghost use mathlib.Core.Path.{_≡_};
 ghost use Prim.Native.Nat.{_+_, _*_, _<_, _≤_, _/_};
 ghost use lib.ListN.{length, getD};

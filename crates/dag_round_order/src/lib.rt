@@ -1,4 +1,4 @@
-// Origin: `dag/dag_round.rs` (a point enters its round), `dag/commit/back.rs` (`drain_upto`).
+// Origin: dag/dag_round.rs (add_dependency), dag/commit/back.rs (drain_upto).
 // `order` holds the used places in its first n cells. A place is put in, the first are taken out, a free one is found, a point is written.
 ghost use mathlib.Core.Path.{_≡_};
 ghost use Prim.Native.Nat.{_+_, _*_, _/_, _<_, _≤_};

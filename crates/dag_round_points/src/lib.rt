@@ -1,7 +1,5 @@
-// Origin: dag/dag_round.rs (a point enters its round), dag/commit/mod.rs.
-// An id is tested, and a point that may be named is put into the lowest free place, with nothing but its id.
-// Origin: models/cert.rs (certify, set_deps), dag/dag_round.rs (view).
-// A point is found by its id; a certified point becomes a top, and its height is handed on.
+// Origin: dag/dag_round.rs (add_dependency, view).
+// An id is tested, a point is found by it, and a point that may be named is put into the lowest free place, with nothing but its id.
 ghost use mathlib.Core.Path.{_≡_};
 ghost use Prim.Native.Nat.{_+_, _*_, _<_, _≤_};
 ghost use lib.ListN.{length};

@@ -1,4 +1,5 @@
-// Demand 3 of document 01, of the code's calls: specs/ states it over their contracts and proves it. Its lists hold so many calls.
+// Origin: none.
+// Demand 3 of document 01, of the code's calls: specs/ states it over their contracts and proves it.
 ghost use mathlib.Core.Path.{_≡_};
 
 pub fn calls_of_demand_3() -> u8

@@ -1,4 +1,4 @@
-// Origin: models/point/info.rs (links, top proof), models/dag_point.rs (the five cases).
+// Origin: models/point/info.rs (PointInfo), models/dag_point.rs (DagPoint).
 // What a resolution gives is tested before anything is written: its form (11), then that its links lead to named points (12).
 ghost use mathlib.Core.Path.{_≡_};
 ghost use Prim.Native.Nat.{_+_, _*_, _≤_};

@@ -1,5 +1,5 @@
-// Origin: models/cert.rs (set_deps), models/point/info.rs, dag/dag_round.rs. A resolution: its tests, then its words and flags, and the
-// point's height handed on.
+// Origin: models/cert.rs (set_deps), models/point/info.rs (PointInfo).
+// A resolution: its tests, then its words and flags, and the point's height handed on.
 ghost use mathlib.Core.Path.{_≡_};
 ghost use Prim.Native.Nat.{_+_, _*_, _<_, _≤_};
 ghost use lib.ListN.{length, getD};

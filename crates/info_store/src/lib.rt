@@ -1,4 +1,4 @@
-// Origin: models/point/info.rs (links, top proof), models/dag_point.rs (the five cases).
+// Origin: models/point/info.rs (PointInfo), models/dag_point.rs (DagPoint).
 // What a resolution gives is written into the place of its point, each link with the place that it leads to.
 ghost use mathlib.Core.Path.{_≡_};
 ghost use mathlib.Core.Bool.{true};

@@ -1,4 +1,5 @@
-// Origin: dag/commit/inspector.rs (inspect: `author_counters`). The counters of a peer at one round.
+// Origin: dag/commit/inspector.rs (inspect), models/stats.rs (MempoolPeerCounters).
+// The counters of a peer at one round, from the counts of its points.
 ghost use mathlib.Core.Path.{_≡_};
 ghost use Prim.Native.Nat.{_-_};
 ghost use Rattle.spec.specs.Inspect.{one};

@@ -1,5 +1,5 @@
-// Origin: dag/commit/inspector.rs (inspect: the loop over an author's versions). How many points of each author pass each test, by one pass
-// over a round.
+// Origin: dag/commit/inspector.rs (inspect).
+// How many points of each author pass each test, by one pass over the points of a round.
 ghost use mathlib.Core.Path.{_≡_};
 ghost use Prim.Native.Nat.{_+_, _*_, _-_, _<_};
 ghost use lib.ListN.{length};

@@ -1,4 +1,5 @@
-// Origin: dag/commit/inspector.rs (collect_points). The points of one round, by their positions in the order, and the tests of one.
+// Origin: dag/commit/inspector.rs.
+// The points of one round, by their positions in the order, and the tests of one.
 ghost use mathlib.Core.Path.{_≡_};
 ghost use Prim.Native.Nat.{_+_, _*_, _<_, _≤_};
 ghost use lib.ListN.{length};

@@ -1,4 +1,5 @@
-// Origin: dag/commit/inspector.rs (inspect: the tests of a version), models/dag_point.rs (trusted).
+// Origin: dag/commit/inspector.rs (inspect), models/dag_point.rs (trusted).
+// The inspector's tests of one version of a peer's point.
 ghost use mathlib.Core.Path.{_≡_};
 ghost use Prim.Native.Nat.{_+_, _*_, _<_, _≤_};
 ghost use lib.ListN.{length};

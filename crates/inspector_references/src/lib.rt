@@ -1,6 +1,5 @@
 // Origin: dag/commit/inspector.rs (must_reference, exclude_witness).
-// Whether a point refers to a digest, among its includes or among its witness.
-// Origin: dag/commit/inspector.rs (must_reference, exclude_witness). What the trusted points of a peer at one round refer to.
+// Whether a point refers to a digest, among its includes or among its witness, and whether a trusted point of a peer at one round does.
 ghost use mathlib.Core.Path.{_≡_};
 ghost use Prim.Native.Nat.{_+_, _*_, _<_, _≤_};
 ghost use lib.ListN.{length};

@@ -1,4 +1,5 @@
-// Origin: consensus/src/models/cert.rs. The word of a certificate: four flags, the height in the low 12 bits.
+// Origin: models/cert.rs.
+// The word of a certificate: four flags, the height in the low 12 bits.
 ghost use Prim.Native.Nat.{_<_};
 ghost use mathlib.Core.Path.{_≡_};
 ghost use lib.Dec.{ltb};

@@ -1,4 +1,5 @@
-// Origin: consensus/src/models/dag_point.rs (DagPoint). Digests and links stand beside the case, in the tables.
+// Origin: models/dag_point.rs (DagPoint).
+// Digests and links stand beside the case, in the tables.
 ghost use mathlib.Core.Path.{_≡_};
 ghost use Rattle.models.specs.DagPoint.{caseOf, hasInfo};
 

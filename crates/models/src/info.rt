@@ -1,4 +1,5 @@
-// Origin: consensus/src/models/point/info.rs (PointInfo, without its maps).
+// Origin: models/point/info.rs (PointInfo, without its maps).
+// What a resolution gives.
 use crate::parts::PointId;
 
 // What a resolution gives. Its links stand beside it in a lent slice of five words a link, peer and digest: first the includes, then the

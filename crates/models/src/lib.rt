@@ -1,3 +1,4 @@
+// Origin: models/cert.rs, models/dag_point.rs, models/point/info.rs, models/point/parts.rs.
 // Rounds, heights, digests, ids and peer sets (parts), the certificate word (cert), what a resolution gives (info) and its five cases
 // (dag_point), what a call is refused with (refusal).
 pub mod cert;

@@ -1,4 +1,5 @@
-// Origin: consensus/src/models/point/parts.rs (Round, Digest), point/info.rs (PointId). Peers are numbers 0 to 31, sets of them 32 bits.
+// Origin: models/point/parts.rs (Round, Digest), models/point/info.rs (PointId).
+// Peers are numbers 0 to 31, sets of them 32 bits.
 ghost use Prim.Native.Nat.{_+_, _-_, _<_, max, min};
 ghost use Rattle.laws.specs.Peers.{member, withPeer};
 ghost use lib.Count.{ones};

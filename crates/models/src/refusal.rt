@@ -1,4 +1,5 @@
-// Origin: dag/commit/mod.rs (HistoryConflict). What a call is refused with; the numbers are document 01's.
+// Origin: dag/commit/mod.rs (HistoryConflict).
+// What a call is refused with; the numbers are document 01's.
 ghost use mathlib.Core.Path.{_≡_};
 ghost use Rattle.models.specs.Refusal.{notValid};
 use crate::cert::Cert;

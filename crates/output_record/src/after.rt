@@ -1,4 +1,5 @@
-// Origin: dag/commit/mod.rs (dequeue_anchor): the marks of a history, and the state after its anchor.
+// Origin: dag/commit/mod.rs (dequeue_anchor).
+// The marks of a history, and the state after its anchor.
 ghost use mathlib.Core.Path.{_≡_};
 ghost use Prim.Native.Nat.{_+_, _<_, _≤_};
 ghost use lib.ListN.{length};

@@ -1,3 +1,4 @@
+// Origin: models/output.rs (AnchorData), dag/commit/mod.rs (dequeue_anchor).
 // What one committed anchor leaves: its record (record), its marks and the state after it (after).
 pub mod after;
 pub mod record;

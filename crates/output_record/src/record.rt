@@ -1,5 +1,5 @@
-// Origin: models/output.rs (AnchorData), dag/commit/mod.rs (dequeue_anchor): an anchor's record. `marks` are the places that the anchor
-// needs, and positions low to high - 1 of the order are looked at.
+// Origin: models/output.rs (AnchorData), dag/commit/mod.rs (dequeue_anchor).
+// An anchor's record. `marks` are the places that the anchor needs, and positions low to high - 1 of the order are looked at.
 ghost use mathlib.Core.Path.{_≡_};
 ghost use mathlib.Core.List.{map};
 ghost use Prim.Native.Nat.{_+_, _*_, _<_, _≤_, _-_};
@@ -31,7 +31,9 @@ pub fn put_points(
 ) -> usize
     requires { ⌜ (low ≤ high) × (high ≤ length (now order)) × (length (now certs) ≤ 4096) × (length (now certs) * 8 ≤ length (now keys)) × Inside (now order) high (length (now certs)) ⌝ }
     requires { ⌜ at + length (picked (now order) (isUncommitted (now certs) (now marks)) low (high - low)) * 37 ≤ length (now b) ⌝ }
-    ensures { λ r. ⌜ (r ≡ at + length (picked (now (order .entry)) (isUncommitted (now (certs .entry)) (now (marks .entry))) low (high - low)) * 37) × (now (b .exit) ≡ written (now (b .entry)) at (joined idBytes (map (placeId (now (keys .entry))) (picked (now (order .entry)) (isUncommitted (now (certs .entry)) (now (marks .entry))) low (high - low))))) ⌝ }
+    ensures { λ r. ⌜ (r ≡ at + length (picked (now (order .entry)) (isUncommitted (now (certs .entry)) (now (marks .entry))) low (high - low)) * 37) ×
+        (now (b .exit) ≡ written (now (b .entry)) at (joined idBytes (map (placeId (now (keys .entry))) (picked (now (order .entry)) (isUncommitted (now (certs .entry))
+        (now (marks .entry))) low (high - low))))) ⌝ }
 {
     let mut end = at;
     let mut i = low;
@@ -95,8 +97,10 @@ pub fn put_record(
     count: usize,
 ) -> usize
     requires { ⌜ (low ≤ high) × (high ≤ length (now order)) × (length (now certs) ≤ 4096) × (length (now certs) * 8 ≤ length (now keys)) × Inside (now order) high (length (now certs)) ⌝ }
-    requires { ⌜ (anchor < length (now certs)) × (proof < length (now certs)) × (count ≡ length (picked (now order) (isUncommitted (now certs) (now marks)) low (high - low))) × (at + 83 + count * 37 ≤ length (now b)) ⌝ }
-    ensures { λ r. ⌜ (r ≡ at + 83 + count * 37) × (now (b .exit) ≡ written (now (b .entry)) at (recordOf (now (keys .entry)) anchor proof executable (previous .0) (picked (now (order .entry)) (isUncommitted (now (certs .entry)) (now (marks .entry))) low (high - low)))) ⌝ }
+    requires { ⌜ (anchor < length (now certs)) × (proof < length (now certs)) × (count ≡ length
+        (picked (now order) (isUncommitted (now certs) (now marks)) low (high - low))) × (at + 83 + count * 37 ≤ length (now b)) ⌝ }
+    ensures { λ r. ⌜ (r ≡ at + 83 + count * 37) × (now (b .exit) ≡ written (now (b .entry)) at
+        (recordOf (now (keys .entry)) anchor proof executable (previous .0) (picked (now (order .entry)) (isUncommitted (now (certs .entry)) (now (marks .entry))) low (high - low)))) ⌝ }
 {
     let next = put_head(b, at, keys, anchor, proof, executable, previous, count);
     put_points(b, next, keys, marks, order, certs, low, high)

@@ -1,4 +1,5 @@
-// Origin: none. Plays recorded calls: reads a record, makes its call, and says what it answered.
+// Origin: none.
+// Plays recorded calls: reads a record, makes its call, and says what it answered.
 pub mod line;
 pub mod one;
 pub mod points;

@@ -1,4 +1,5 @@
-// Origin: none. What one recorded call answered.
+// Origin: none.
+// What one recorded call answered.
 ghost use mathlib.Core.Path.{_≡_};
 ghost use Rattle.spec.specs.Demand.{finished};
 ghost use Rattle.models.specs.Refusal.{refusalOf};

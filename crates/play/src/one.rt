@@ -1,4 +1,5 @@
-// Origin: none. One record played.
+// Origin: none.
+// One record played.
 ghost use mathlib.Core.Path.{_≡_};
 ghost use mathlib.Core.Bool.{true};
 ghost use Prim.Native.Nat.{_<_, _≤_};

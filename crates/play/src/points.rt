@@ -1,4 +1,5 @@
-// Origin: none. A point named, resolved, certified or committed from, by the fields of its record.
+// Origin: none.
+// A point named, resolved, certified or committed from, by the fields of its record.
 ghost use Prim.Native.Nat.{_+_, _*_, _≤_};
 ghost use lib.ListN.{length};
 ghost use Rattle.commit_answer.specs.Answer.{tables};

@@ -1,4 +1,5 @@
-// Origin: none. A start, a round, a drop, the gap question and a reset, from the fields of their records.
+// Origin: none.
+// A start, a round, a drop, the gap question and a reset, from the fields of their records.
 ghost use Prim.Native.Nat.{_≤_};
 ghost use mathlib.Core.List.{[]};
 ghost use lib.ListN.{length};

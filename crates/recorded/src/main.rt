@@ -1,3 +1,4 @@
+// Origin: none.
 // Plays recorded runs from standard input, each on tables of zeros with 20 places and an answer buffer of 4,096 bytes. A run is its
 // length (4 bytes, at most 65,536) and that many bytes of recorded calls.
 ghost use Prim.Native.Nat.{_≤_};

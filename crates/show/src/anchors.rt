@@ -1,4 +1,5 @@
-// Origin: none. The lines of committed anchors, from the records in an answer buffer.
+// Origin: none.
+// The lines of committed anchors, from the records in an answer buffer.
 ghost use Prim.Native.Nat.{_+_, _*_, _≤_};
 ghost use lib.ListN.{length};
 use crate::lines::write;

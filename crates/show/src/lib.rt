@@ -1,4 +1,5 @@
-// Origin: none. Records played one after another, with a line for what each answered, then lines for the state and the points.
+// Origin: none.
+// Records played one after another, with a line for what each answered, then lines for the state and the points.
 pub mod anchors;
 pub mod lines;
 pub mod part;

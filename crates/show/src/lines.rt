@@ -1,4 +1,5 @@
-// Origin: none. The line of one call.
+// Origin: none.
+// The line of one call.
 use play::line::Line;
 
 pub fn write(text: &[u8]) {

@@ -1,4 +1,5 @@
-// Origin: none. Records played one after another.
+// Origin: none.
+// Records played one after another.
 ghost use mathlib.Core.Path.{_≡_};
 ghost use Prim.Native.Nat.{_≤_};
 ghost use lib.ListN.{length};

@@ -1,4 +1,5 @@
-// Origin: none. The lines of the state and of the points.
+// Origin: none.
+// The lines of the state and of the points.
 ghost use Prim.Native.Nat.{_+_, _*_, _≤_};
 ghost use lib.ListN.{length};
 ghost use Rattle.show.specs.Points.{Readable};

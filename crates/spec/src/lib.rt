@@ -1,4 +1,5 @@
-// Document 01 as definitions: specs/ holds them and the theorems about them. The number of history rounds is at most this.
+// Origin: none.
+// Document 01 as definitions: specs/ holds them and the theorems about them.
 ghost use mathlib.Core.Path.{_≡_};
 
 pub fn most_history_rounds() -> u8

@@ -1,5 +1,6 @@
-// Origin: models/stats.rs (MempoolPeerCounters). The nine counters of a peer, their sum, and the score that document 01 adds. The Rust's
-// `last_round` stands beside the counters, in what remove answers of a peer.
+// Origin: models/stats.rs (MempoolPeerCounters).
+// The nine counters of a peer, their sum, and the score that document 01 adds. The Rust's `last_round` stands beside the counters, in
+// what remove answers of a peer.
 ghost use mathlib.Core.Path.{_≡_};
 ghost use Prim.Native.Nat.{_*_, _<_, _≤_};
 ghost use Rattle.spec.specs.Inspect.{band, weight, counterList, score};

@@ -1,4 +1,5 @@
-// Origin: models/cert.rs (certify_deeper). The stored heights tested in one pass over the links.
+// Origin: models/cert.rs (max_height_published).
+// The stored heights tested in one pass over the links.
 ghost use mathlib.Core.Path.{_≡_};
 ghost use Prim.Native.Nat.{_+_, _*_, _-_, _/_, _%_, _<_, _≤_};
 ghost use lib.ListN.{length};
@@ -92,7 +93,8 @@ fn push_all(
     bottom: Round,
     top: Height,
 )
-    requires { ⌜ (length (now order) ≤ 4096) × (length (now keys) ≡ length (now order) * 8) × (length (now links) ≡ length (now order) * 328) × (length (now certs) ≡ length (now order)) × (n ≤ length (now order)) ⌝ }
+    requires { ⌜ (length (now order) ≤ 4096) × (length (now keys) ≡ length (now order) * 8) × (length (now links) ≡ length (now order) * 328) ×
+        (length (now certs) ≡ length (now order)) × (n ≤ length (now order)) ⌝ }
     requires { ⌜ Inside (now order) n (length (now order)) ⌝ }
     ensures { λ _. ⌜ now (cells .exit) ≡ pushedAll (bottom .0) (top .0) (now (keys .entry)) (now (links .entry)) (now (certs .entry)) (now (order .entry)) (now (cells .entry)) n ⌝ }
 {
@@ -134,7 +136,8 @@ pub fn heights_hold(
     bottom: Round,
     top: Height,
 ) -> bool
-    requires { ⌜ (length (now order) ≤ 4096) × (length (now keys) ≡ length (now order) * 8) × (length (now links) ≡ length (now order) * 328) × (length (now certs) ≡ length (now order)) × (n ≤ length (now order)) ⌝ }
+    requires { ⌜ (length (now order) ≤ 4096) × (length (now keys) ≡ length (now order) * 8) × (length (now links) ≡ length (now order) * 328) ×
+        (length (now certs) ≡ length (now order)) × (n ≤ length (now order)) ⌝ }
     requires { ⌜ Inside (now order) n (length (now order)) ⌝ }
     ensures { λ r. ⌜ r ≡ heightsHold (bottom .0) (top .0) (now (keys .entry)) (now (links .entry)) (now (certs .entry)) (now (order .entry)) n ⌝ }
 {

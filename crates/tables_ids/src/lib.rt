@@ -1,5 +1,6 @@
-// Origin: dag/dag_round.rs. At most four points for each author and round, counted in one pass.
-// Origin: dag/dag_round.rs. The id of a used place tested as naming tests it: a retained round, a peer of that round.
+// Origin: none.
+// At most four points for each author and round, counted in one pass; the ids of the used places as naming tests them: a retained round,
+// a peer of that round.
 ghost use mathlib.Core.Path.{_≡_};
 ghost use Prim.Native.Nat.{_+_, _*_, _<_, _≤_};
 ghost use lib.ListN.{length, getD};

@@ -1,4 +1,5 @@
-// Origin: dag/dag_round.rs. The stored links and words of a used place, tested.
+// Origin: none.
+// The stored links and words of the used places.
 ghost use mathlib.Core.Path.{_≡_};
 ghost use Prim.Native.Nat.{ℕ, _+_, _*_, _-_, _/_, _%_, _<_, _≤_};
 ghost use lib.ListN.{length, getD};

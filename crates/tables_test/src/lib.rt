@@ -1,4 +1,5 @@
-// Origin: none in the Rust, which has no tables to test. Whether the tables count as started: document 01, 'Forms of the Rust', first point.
+// Origin: none.
+// Whether the tables count as started: document 01, 'Forms of the Rust', first point. The Rust has no tables to test.
 ghost use mathlib.Core.Path.{_≡_};
 ghost use Prim.Native.Nat.{_*_, _<_, _≤_};
 ghost use lib.ListN.{length};
@@ -150,7 +151,8 @@ fn each_ok(
     marks: &[bool],
     order: &[u64],
 ) -> bool
-    requires { ⌜ (length (now order) ≤ length (now marks)) × (length (now keys) ≡ length (now order) * 8) × (length (now links) ≡ length (now order) * 328) × (length (now certs) ≡ length (now order)) × (s .count ≤ length (now order)) ⌝ }
+    requires { ⌜ (length (now order) ≤ length (now marks)) × (length (now keys) ≡ length (now order) * 8) × (length (now links) ≡ length (now order) * 328) ×
+        (length (now certs) ≡ length (now order)) × (s .count ≤ length (now order)) ⌝ }
     requires { ⌜ Inside (now order) (s .count) (length (now order)) ⌝ }
     ensures { λ r. ⌜ r ≡ eachOk s (now (keys .entry)) (now (links .entry)) (now (certs .entry)) (now (marks .entry)) (now (order .entry)) ⌝ }
 {
@@ -173,7 +175,8 @@ fn each_ok(
 
 // The same, with the used places marked here.
 fn used_ok(s: State, keys: &[u64], links: &[u64], certs: &[u64], order: &[u64]) -> bool
-    requires { ⌜ (length (now order) ≤ 4096) × (length (now keys) ≡ length (now order) * 8) × (length (now links) ≡ length (now order) * 328) × (length (now certs) ≡ length (now order)) × (s .count ≤ length (now order)) ⌝ }
+    requires { ⌜ (length (now order) ≤ 4096) × (length (now keys) ≡ length (now order) * 8) × (length (now links) ≡ length (now order) * 328) ×
+        (length (now certs) ≡ length (now order)) × (s .count ≤ length (now order)) ⌝ }
     requires { ⌜ Inside (now order) (s .count) (length (now order)) ⌝ }
     ensures { λ r. ⌜ r ≡ usedOk s (now (keys .entry)) (now (links .entry)) (now (certs .entry)) (now (order .entry)) ⌝ }
 {
@@ -184,7 +187,8 @@ fn used_ok(s: State, keys: &[u64], links: &[u64], certs: &[u64], order: &[u64]) 
 
 // Whether the used places hold what they may hold, and their heights are right.
 fn points_hold(s: State, keys: &[u64], links: &[u64], certs: &[u64], order: &[u64]) -> bool
-    requires { ⌜ (length (now order) ≤ 4096) × (length (now keys) ≡ length (now order) * 8) × (length (now links) ≡ length (now order) * 328) × (length (now certs) ≡ length (now order)) × (s .count ≤ length (now order)) × (s .«commit_history_rounds» ≤ 255) ⌝ }
+    requires { ⌜ (length (now order) ≤ 4096) × (length (now keys) ≡ length (now order) * 8) × (length (now links) ≡ length (now order) * 328) ×
+        (length (now certs) ≡ length (now order)) × (s .count ≤ length (now order)) × (s .«commit_history_rounds» ≤ 255) ⌝ }
     requires { ⌜ Inside (now order) (s .count) (length (now order)) ⌝ }
     ensures { λ r. ⌜ r ≡ pointsHold s (now (keys .entry)) (now (links .entry)) (now (certs .entry)) (now (order .entry)) ⌝ }
 {

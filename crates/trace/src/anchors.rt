@@ -1,4 +1,5 @@
-// Origin: models/output.rs (AnchorData). The record of a committed anchor, read from the bytes of an answer buffer.
+// Origin: models/output.rs (AnchorData).
+// The record of a committed anchor, read from the bytes of an answer buffer.
 ghost use mathlib.Core.Path.{_≡_};
 ghost use Prim.Native.Nat.{_+_, _≤_};
 ghost use lib.ListN.{length};

@@ -1,4 +1,5 @@
-// Origin: none. Numbers, digests and ids, big-endian.
+// Origin: none.
+// Numbers, digests and ids, big-endian.
 ghost use mathlib.Core.Path.{_≡_};
 ghost use Prim.Native.Nat.{_+_, _<_, _≤_};
 ghost use lib.ListN.{length, getD};

@@ -1,4 +1,5 @@
-// Origin: none. The fields of a record as what its call takes.
+// Origin: none.
+// The fields of a record as what its call takes.
 ghost use mathlib.Core.Path.{_≡_};
 ghost use Prim.Native.Nat.{_+_, _*_, _≤_};
 ghost use lib.ListN.{length};

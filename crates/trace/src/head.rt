@@ -1,4 +1,5 @@
-// Origin: none. Where a record stands, and its kind.
+// Origin: none.
+// Where a record stands, and its kind.
 ghost use mathlib.Core.Path.{_≡_};
 ghost use Prim.Native.Nat.{_+_, _*_, _≤_};
 ghost use lib.Dec.{eqb};
