@@ -29,9 +29,6 @@ loop-holds c = (search needs, refl, refl)
 sub-k : tie.Need-sub-k Inv-loop μ-loop
 sub-k c = c .loop-test .taken
 
-cast-b : tie.Need-cast-b Inv-loop μ-loop
-cast-b c = search needs
-
 add-b : tie.Need-add-b Inv-loop μ-loop
 add-b c = let i = c .before .loop .inv in let t = c .loop-test .taken in let p = c .before .before .pre in search needs
 
@@ -43,9 +40,6 @@ loop-less c = omega (arith, c .loop-test .taken)
 
 loop-again : tie.Need-loop-again Inv-loop μ-loop
 loop-again c = let i = c .before .loop .inv in (omega (arith, i .0), length-set (c .before .loop .b) _ _ ∙ i .1, step _ _ _ _ (c .loop-test .taken) ∙ i .2)
-
-add-result : tie.Need-add-result Inv-loop μ-loop
-add-result c = search needs
 
 same-length : tie.Need-same-length Inv-loop μ-loop
 same-length c = c .before .loop .inv .1
@@ -61,11 +55,11 @@ put-number-spec =
     μ-loop
     loop-holds
     sub-k
-    cast-b
+    (λ c. search needs)
     add-b
     slice-write-b
     loop-less
     loop-again
-    add-result
+    (λ c. search needs)
     same-length
     returns)

@@ -18,63 +18,30 @@ Inv-loop s keys links certs order low span list₀ count₀ sought₀ k₀ list 
 abbrev μ-loop : tie.MeasureT-loop
 μ-loop s keys links certs order low span list₀ count₀ sought₀ k₀ list count sought k = k
 
-no-anchors-requires : tie.Need-no-anchors-requires Inv-loop μ-loop
-no-anchors-requires c κs = search needs
-
 loop-holds : tie.Need-loop-holds Inv-loop μ-loop
 loop-holds c = (search needs, search needs, ap (λ (z : Chain). length (z .list)) (c .before .no-anchors .ensures), walked-start _ _ _ _ _ _ _ _ _)
 
-sub-k : tie.Need-sub-k Inv-loop μ-loop
-sub-k c = search needs
-
-plus-requires : tie.Need-plus-requires Inv-loop μ-loop
-plus-requires c κs = search needs
-
 visit-requires : tie.Need-visit-requires Inv-loop μ-loop
 visit-requires c κs = (c .before .before .before .before .before .before .before .before .before .pre .0, c .before .before .before .before .before .before .before .before .before .pre .1 .0)
-
-enum-told : tie.Need-enum-told Inv-loop μ-loop
-enum-told c = search needs
-
-loop-less : tie.Need-loop-less Inv-loop μ-loop
-loop-less c = search needs
 
 loop-again : tie.Need-loop-again Inv-loop μ-loop
 loop-again c =
     let l = c .before .before .before .before .before .loop in
     (search needs, search needs, l .inv .2, walked-pass _ _ _ _ _ _ _ _ _ _ (omega arith) _ (c .before .before .before .plus .ensures) _ (c .before .before .visit .ensures) (c .enum-told .given .1) ∙ l .inv .3)
 
-enum-told-2 : tie.Need-enum-told-2 Inv-loop μ-loop
-enum-told-2 c = search needs
-
 returns : tie.Need-returns Inv-loop μ-loop
 returns c = (walked-end _ _ _ _ _ _ _ _ _ _ (omega arith) _ (c .before .before .before .plus .ensures) _ (c .before .before .visit .ensures) (c .enum-told2 .given .1) _ refl refl ∙ c .before .before .before .before .before .loop .inv .3, omega arith)
-
-enum-known-step : tie.Need-enum-known-step Inv-loop μ-loop
-enum-known-step c = search needs
 
 returns-2 : tie.Need-returns-2 Inv-loop μ-loop
 returns-2 c = (walked-bad _ _ _ _ _ _ _ _ _ _ (omega arith) _ (c .before .before .before .before .plus .ensures) _ (c .before .before .before .visit .ensures) _ (c .before .step .given .1) _ refl ∙ c .before .before .before .before .before .before .loop .inv .3, omega arith)
 
-enum-known-step-2 : tie.Need-enum-known-step-2 Inv-loop μ-loop
-enum-known-step-2 c = search needs
-
-mul-list : tie.Need-mul-list Inv-loop μ-loop
-mul-list c = search needs
-
 array-set-from-list : tie.Need-array-set-from-list Inv-loop μ-loop
 array-set-from-list c = let i = c .before .before .before .before .before .before .loop .inv .1 in let t = c .before .before .before .before .before .loop-test .taken in let p = c .before .before .before .before .before .before .before .before .before .before .before .before .before .pre .1 .1 .0 in search needs
-
-add-count : tie.Need-add-count Inv-loop μ-loop
-add-count c = search needs
 
 top-proof-requires : tie.Need-top-proof-requires Inv-loop μ-loop
 top-proof-requires c κs =
     let a = c .before .before .before .before .before .before .before .before .before .before .before .before .before .args in
     topped (a .s) (a .keys .now) (a .links .now) (a .certs .now) (a .order .now) _ (c .before .before .before .before .before .before .before .before .before .before .before .before .before .pre .0) (c .before .before .before .before .before .before .before .before .before .before .before .before .before .pre .1 .0) (found-used _ _ _ _ _ _ _ _ _ _ (c .before .before .before .visit .ensures) (c .before .step2 .given .1))
-
-loop-less-2 : tie.Need-loop-less-2 Inv-loop μ-loop
-loop-less-2 c = search needs
 
 loop-again-2 : tie.Need-loop-again-2 Inv-loop μ-loop
 loop-again-2 c =
@@ -90,23 +57,23 @@ anchor-chain-spec =
     (tie.spec
     Inv-loop
     μ-loop
-    no-anchors-requires
+    (λ c κs. search needs)
     loop-holds
-    sub-k
-    plus-requires
+    (λ c. search needs)
+    (λ c κs. search needs)
     visit-requires
-    enum-told
-    loop-less
+    (λ c. search needs)
+    (λ c. search needs)
     loop-again
-    enum-told-2
+    (λ c. search needs)
     returns
-    enum-known-step
+    (λ c. search needs)
     returns-2
-    enum-known-step-2
-    mul-list
+    (λ c. search needs)
+    (λ c. search needs)
     array-set-from-list
-    add-count
+    (λ c. search needs)
     top-proof-requires
-    loop-less-2
+    (λ c. search needs)
     loop-again-2
     returns-3)

@@ -8,20 +8,11 @@ use Rattle.back_chain.proofs.chain_from.Tie as tie
 has-previous-requires : tie.Need-has-previous-requires
 has-previous-requires c κs = let a = c .before .before .before .before .args in placed (a .s) (a .keys .now) (a .links .now) (a .certs .now) (a .order .now) _ (c .before .before .before .before .pre .0) (c .before .before .before .before .pre .1 .0) (c .before .before .before .before .pre .1 .1 .0)
 
-no-anchors-requires : tie.Need-no-anchors-requires
-no-anchors-requires c κs = search needs
-
 returns : tie.Need-returns
 returns c = (from-none _ _ _ _ _ _ _ _ _ (c .before .before .has-previous .ensures) (c .before .if1 .taken) _ (c .no-anchors .ensures), none-few _ _ (c .no-anchors .ensures))
 
-prev-requires : tie.Need-prev-requires
-prev-requires c κs = search needs
-
 previous-requires : tie.Need-previous-requires
 previous-requires c κs = let a = c .before .before .before .before .before .before .before .args in placed (a .s) (a .keys .now) (a .links .now) (a .certs .now) (a .order .now) _ (c .before .before .before .before .before .before .before .pre .0) (c .before .before .before .before .before .before .before .pre .1 .0) (c .before .before .before .before .before .before .before .pre .1 .1 .0)
-
-sub-span : tie.Need-sub-span
-sub-span c = search needs
 
 anchor-chain-requires : tie.Need-anchor-chain-requires
 anchor-chain-requires c κs = (c .before .before .before .before .before .before .before .before .before .before .pre .0, (c .before .before .before .before .before .before .before .before .before .before .pre .1 .0, (c .before .before .before .before .before .before .before .before .before .before .pre .1 .1 .1 .1, search needs)))
@@ -37,11 +28,11 @@ chain-from-spec =
     tie.close
     (tie.spec
     has-previous-requires
-    no-anchors-requires
+    (λ c κs. search needs)
     returns
-    prev-requires
+    (λ c κs. search needs)
     previous-requires
-    sub-span
+    (λ c. search needs)
     anchor-chain-requires
     check-oldest-requires
     returns-2)

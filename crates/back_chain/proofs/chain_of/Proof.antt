@@ -8,12 +8,6 @@ use borrow.Author.Needs.{needs}
 use Rattle.back_chain.proofs.chain_of.Statement.{statement}
 use Rattle.back_chain.proofs.chain_of.Tie as tie
 
-below-bottom-requires : tie.Need-below-bottom-requires
-below-bottom-requires c κs = search needs
-
-no-anchors-requires : tie.Need-no-anchors-requires
-no-anchors-requires c κs = search needs
-
 returns : tie.Need-returns
 returns c =
     let a = c .before .before .before .before .before .before .before .before .args in
@@ -27,9 +21,6 @@ point-code-requires c κs =
     let fk : Fit (a .keys .now) = λ p. c .before .before .before .before .before .before .shared-slice-known .given p .fits in
     let fl : Fit (a .links .now) = λ p. c .before .before .before .before .before .shared-slice-known2 .given p .fits in
     ready (a .s) (a .keys .now) (a .links .now) (a .certs .now) (a .order .now) fk fl (c .before .before .before .before .before .before .before .pre)
-
-no-anchors-requires-2 : tie.Need-no-anchors-requires-2
-no-anchors-requires-2 c κs = search needs
 
 returns-2 : tie.Need-returns-2
 returns-2 c =
@@ -52,12 +43,6 @@ filter-requires c κs =
     let fl : Fit (a .links .now) = λ p. c .before .before .before .before .before .before .before .before .shared-slice-known2 .given p .fits in
     trigger-in (a .s) (a .keys .now) (a .links .now) (a .certs .now) (a .order .now) fk fl (c .before .before .before .before .before .before .before .before .before .before .pre) (a .id) (id-fit _ _ (c .before .before .before .before .before .before .before .before .before .before .good .1 .1 .1 .1 .1 .0)) _ _ (c .before .before .point-code .ensures) (c .before .if2 .left) (c .point-place .ensures)
 
-enum-known-check : tie.Need-enum-known-check
-enum-known-check c = search needs
-
-no-anchors-requires-3 : tie.Need-no-anchors-requires-3
-no-anchors-requires-3 c κs = search needs
-
 returns-3 : tie.Need-returns-3
 returns-3 c =
     let a = c .before .before .before .before .before .before .before .before .before .before .before .before .before .before .before .args in
@@ -65,21 +50,12 @@ returns-3 c =
     let fl : Fit (a .links .now) = λ p. c .before .before .before .before .before .before .before .before .before .before .before .before .before .shared-slice-known2 .given p .fits in
     (of-trigger (a .s) (a .keys .now) (a .links .now) (a .certs .now) (a .order .now) fk fl (c .before .before .before .before .before .before .before .before .before .before .before .before .before .before .before .pre) (a .id) (id-fit _ _ (c .before .before .before .before .before .before .before .before .before .before .before .before .before .before .before .good .1 .1 .1 .1 .1 .0)) _ (c .before .before .before .before .before .before .before .before .before .below-bottom .ensures) (c .before .before .before .before .before .before .before .before .if1 .left) _ (c .before .before .before .before .before .before .before .point-code .ensures) (c .before .before .before .before .before .before .if2 .left) _ (c .before .before .before .before .before .point-place .ensures) _ (c .before .before .before .before .filter .ensures) _ (c .before .before .check .given .1) _ (c .no-anchors3 .ensures), none-few _ _ (c .no-anchors3 .ensures))
 
-enum-told : tie.Need-enum-told
-enum-told c = search needs
-
-lowest-walked-requires : tie.Need-lowest-walked-requires
-lowest-walked-requires c κs = search needs
-
 has-walk-requires : tie.Need-has-walk-requires
 has-walk-requires c κs =
     let a = c .before .before .before .before .before .before .before .before .before .before .before .before .before .before .args in
     let fk : Fit (a .keys .now) = λ p. c .before .before .before .before .before .before .before .before .before .before .before .before .before .shared-slice-known .given p .fits in
     let fl : Fit (a .links .now) = λ p. c .before .before .before .before .before .before .before .before .before .before .before .before .shared-slice-known2 .given p .fits in
     trigger-in (a .s) (a .keys .now) (a .links .now) (a .certs .now) (a .order .now) fk fl (c .before .before .before .before .before .before .before .before .before .before .before .before .before .before .pre) (a .id) (id-fit _ _ (c .before .before .before .before .before .before .before .before .before .before .before .before .before .before .good .1 .1 .1 .1 .1 .0)) _ _ (c .before .before .before .before .before .before .point-code .ensures) (c .before .before .before .before .before .if2 .left) (c .before .before .before .before .point-place .ensures) .0
-
-no-anchors-requires-4 : tie.Need-no-anchors-requires-4
-no-anchors-requires-4 c κs = search needs
 
 returns-4 : tie.Need-returns-4
 returns-4 c =
@@ -107,21 +83,21 @@ pub chain-of-spec : {M : Type 1} → statement M
 chain-of-spec =
     tie.close
     (tie.spec
-    below-bottom-requires
-    no-anchors-requires
+    (λ c κs. search needs)
+    (λ c κs. search needs)
     returns
     point-code-requires
-    no-anchors-requires-2
+    (λ c κs. search needs)
     returns-2
     point-place-requires
     filter-requires
-    enum-known-check
-    no-anchors-requires-3
+    (λ c. search needs)
+    (λ c κs. search needs)
     returns-3
-    enum-told
-    lowest-walked-requires
+    (λ c. search needs)
+    (λ c κs. search needs)
     has-walk-requires
-    no-anchors-requires-4
+    (λ c κs. search needs)
     returns-4
     chain-from-requires
     returns-5)

@@ -5,26 +5,11 @@ use borrow.Author.Needs.{needs}
 use Rattle.back_chain.proofs.check_oldest.Statement.{statement}
 use Rattle.back_chain.proofs.check_oldest.Tie as tie
 
-enum-told : tie.Need-enum-told
-enum-told c = search needs
-
 returns : tie.Need-returns
 returns c = (check-bad _ _ _ (c .enum-told .given .1), search needs)
 
-enum-told-2 : tie.Need-enum-told-2
-enum-told-2 c = search needs
-
 returns-2 : tie.Need-returns-2
 returns-2 c = (check-none _ _ (c .before .enum-told2 .given .1) (c .if1 .taken), search needs)
-
-sub-e : tie.Need-sub-e
-sub-e c = search needs
-
-mul-e : tie.Need-mul-e
-mul-e c = search needs
-
-array-copy-out-e : tie.Need-array-copy-out-e
-array-copy-out-e c = search needs
 
 returns-3 : tie.Need-returns-3
 returns-3 c = (check-apart _ _ (c .before .before .before .before .before .before .before .enum-told2 .given .1) (c .before .before .before .before .before .before .if1 .left) (c .if2 .taken) _ refl, search needs)
@@ -36,12 +21,12 @@ pub check-oldest-spec : {M : Type 1} → statement M
 check-oldest-spec =
     tie.close
     (tie.spec
-    enum-told
+    (λ c. search needs)
     returns
-    enum-told-2
+    (λ c. search needs)
     returns-2
-    sub-e
-    mul-e
-    array-copy-out-e
+    (λ c. search needs)
+    (λ c. search needs)
+    (λ c. search needs)
     returns-3
     returns-4)

@@ -3,26 +3,8 @@ use borrow.Author.Needs.{needs}
 use Rattle.back_chain.proofs.has_walk.Statement.{statement}
 use Rattle.back_chain.proofs.has_walk.Tie as tie
 
-case-at-requires : tie.Need-case-at-requires
-case-at-requires c κs = search needs
-
-is-valid-requires : tie.Need-is-valid-requires
-is-valid-requires c κs = search needs
-
 returns : tie.Need-returns
 returns c = walks-invalid _ _ _ _ _ _ (c .before .before .case-at .ensures) _ (c .before .is-valid .ensures) (c .if1 .taken)
-
-mul-marks : tie.Need-mul-marks
-mul-marks c = search needs
-
-add-marks : tie.Need-add-marks
-add-marks c = search needs
-
-mul-marks-2 : tie.Need-mul-marks-2
-mul-marks-2 c = search needs
-
-shared-slice-read-marks : tie.Need-shared-slice-read-marks
-shared-slice-read-marks c = search needs
 
 returns-2 : tie.Need-returns-2
 returns-2 c = walks-unmarked _ _ _ _ _ _ (c .before .before .before .before .case-at .ensures) _ (c .before .before .before .is-valid .ensures) (c .before .before .if1 .left) (c .if2 .taken)
@@ -37,13 +19,13 @@ pub has-walk-spec : {M : Type 1} → statement M
 has-walk-spec =
     tie.close
     (tie.spec
-    case-at-requires
-    is-valid-requires
+    (λ c κs. search needs)
+    (λ c κs. search needs)
     returns
-    mul-marks
-    add-marks
-    mul-marks-2
-    shared-slice-read-marks
+    (λ c. search needs)
+    (λ c. search needs)
+    (λ c. search needs)
+    (λ c. search needs)
     returns-2
     returns-3
     returns-4)

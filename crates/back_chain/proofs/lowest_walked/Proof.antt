@@ -6,9 +6,6 @@ use Rattle.back_chain.proofs.lowest_walked.Tie as tie
 returns : tie.Need-returns
 returns c = search low-none
 
-sub-if2 : tie.Need-sub-if2
-sub-if2 c = search needs
-
 returns-2 : tie.Need-returns-2
 returns-2 c = search low-last
 
@@ -16,4 +13,4 @@ returns-3 : tie.Need-returns-3
 returns-3 c = search low-bottom
 
 pub lowest-walked-spec : {M : Type 1} → statement M
-lowest-walked-spec = tie.close (tie.spec returns sub-if2 (λ c. search needs) returns-2 returns-3)
+lowest-walked-spec = tie.close (tie.spec returns (λ c. search needs) (λ c. search needs) returns-2 returns-3)

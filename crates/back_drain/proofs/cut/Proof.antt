@@ -6,12 +6,6 @@ use Rattle.back_drain.specs.Model.{cut-is}
 use Rattle.back_drain.proofs.cut.Statement.{statement}
 use Rattle.back_drain.proofs.cut.Tie as tie
 
-cast-round : tie.Need-cast-round
-cast-round c = search needs
-
-slice-aggregate-seek : tie.Need-slice-aggregate-seek
-slice-aggregate-seek c = search needs
-
 seek-requires : tie.Need-seek-requires
 seek-requires c κs =
     let a = c .before .before .before .before .args in
@@ -22,4 +16,4 @@ returns : tie.Need-returns
 returns c = cut-is _ _ _ _ _ (c .seek .ensures)
 
 pub cut-spec : {M : Type 1} → statement M
-cut-spec = tie.close (tie.spec cast-round slice-aggregate-seek seek-requires returns)
+cut-spec = tie.close (tie.spec (λ c. search needs) (λ c. search needs) seek-requires returns)

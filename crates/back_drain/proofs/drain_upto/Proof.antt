@@ -19,21 +19,6 @@ zero-places-requires-3 c κs =
     let p = c .before .before .before .before .before .before .before .before .before .before .before .before .before .before .before .before .pre in
     ((omega (arith, p .0 .0, p .0 .1), omega (arith, p .0 .4)), λ i l. p .1 i (omega (arith, p .0 .0)))
 
-drain-requires : tie.Need-drain-requires
-drain-requires c κs = search needs
-
-same-length : tie.Need-same-length
-same-length c = search needs
-
-same-length-2 : tie.Need-same-length-2
-same-length-2 c = search needs
-
-same-length-3 : tie.Need-same-length-3
-same-length-3 c = search needs
-
-same-length-4 : tie.Need-same-length-4
-same-length-4 c = search needs
-
 returns : tie.Need-returns
 returns c =
     let b = c .before .before .before .before .before .before in
@@ -46,9 +31,9 @@ drain-upto-spec =
     zero-places-requires
     zero-places-requires-2
     zero-places-requires-3
-    drain-requires
-    same-length
-    same-length-2
-    same-length-3
-    same-length-4
+    (λ c κs. search needs)
+    (λ c. search needs)
+    (λ c. search needs)
+    (λ c. search needs)
+    (λ c. search needs)
     returns)

@@ -19,35 +19,11 @@ loop-holds : tie.Need-loop-holds Inv-loop μ-loop
 unfolding any
 loop-holds c = (search needs, refl)
 
-sub-loop : tie.Need-sub-loop Inv-loop μ-loop
-sub-loop c = search needs
-
-add-place : tie.Need-add-place Inv-loop μ-loop
-add-place c = search needs
-
 place-requires : tie.Need-place-requires Inv-loop μ-loop
 place-requires c κs = (search needs, c .before .before .before .before .pre .4)
 
-is-uncommitted-requires : tie.Need-is-uncommitted-requires Inv-loop μ-loop
-is-uncommitted-requires c κs = search needs
-
-mul-t12 : tie.Need-mul-t12 Inv-loop μ-loop
-mul-t12 c = search needs
-
-shared-slice-read-t14 : tie.Need-shared-slice-read-t14 Inv-loop μ-loop
-shared-slice-read-t14 c = search needs
-
-is-certified-requires : tie.Need-is-certified-requires Inv-loop μ-loop
-is-certified-requires c κs = search needs
-
 returns : tie.Need-returns Inv-loop μ-loop
 returns c = flat-hit _ _ _ _ _ _ _ _ _ (c .before .before .before .before .before .before .loop-test .taken) (c .before .before .before .before .before .place .ensures .0) (c .before .before .before .before .is-uncommitted .ensures) (c .before .before .before .if1 .taken) (c .before .is-certified .ensures) (c .if2 .taken)
-
-add-k : tie.Need-add-k Inv-loop μ-loop
-add-k c = search needs
-
-loop-less : tie.Need-loop-less Inv-loop μ-loop
-loop-less c = search needs
 
 loop-again : tie.Need-loop-again Inv-loop μ-loop
 loop-again c = (
@@ -68,15 +44,15 @@ any-uncertified-spec =
     Inv-loop
     μ-loop
     loop-holds
-    sub-loop
-    add-place
+    (λ c. search needs)
+    (λ c. search needs)
     place-requires
-    is-uncommitted-requires
-    mul-t12
-    shared-slice-read-t14
-    is-certified-requires
+    (λ c κs. search needs)
+    (λ c. search needs)
+    (λ c. search needs)
+    (λ c κs. search needs)
     returns
-    add-k
-    loop-less
+    (λ c. search needs)
+    (λ c. search needs)
     loop-again
     returns-2)

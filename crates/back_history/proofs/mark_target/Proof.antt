@@ -6,12 +6,6 @@ use Rattle.back_history.proofs.mark_target.Tie as tie
 returns : tie.Need-returns
 returns c = put-none _ _ (c .if1 .taken)
 
-sub-marks : tie.Need-sub-marks
-sub-marks c = search needs
-
-element-write-marks : tie.Need-element-write-marks
-element-write-marks c = search needs
-
 returns-2 : tie.Need-returns-2
 returns-2 c = put-place _ _ (c .before .if1 .left) (c .if2 .taken)
 
@@ -19,4 +13,4 @@ returns-3 : tie.Need-returns-3
 returns-3 c = put-out _ _ (c .before .if1 .left) (c .if2 .left)
 
 pub mark-target-spec : {M : Type 1} → statement M
-mark-target-spec = tie.close (tie.spec returns sub-marks element-write-marks returns-2 returns-3)
+mark-target-spec = tie.close (tie.spec returns (λ c. search needs) (λ c. search needs) returns-2 returns-3)

@@ -17,29 +17,11 @@ loop-holds : tie.Need-loop-holds Inv-loop μ-loop
 unfolding swept
 loop-holds c = (search needs, search needs, down-none _ _ _)
 
-sub-p : tie.Need-sub-p Inv-loop μ-loop
-sub-p c = search needs
-
 place-requires : tie.Need-place-requires Inv-loop μ-loop
 place-requires c κs = (search needs, c .before .before .before .before .before .before .pre .0 .4)
 
-is-uncommitted-requires : tie.Need-is-uncommitted-requires Inv-loop μ-loop
-is-uncommitted-requires c κs = search needs
-
-live-links-requires : tie.Need-live-links-requires Inv-loop μ-loop
-live-links-requires c κs = search needs
-
-mark-links-requires : tie.Need-mark-links-requires Inv-loop μ-loop
-mark-links-requires c κs = search needs
-
-loop-less : tie.Need-loop-less Inv-loop μ-loop
-loop-less c = search needs
-
 loop-again : tie.Need-loop-again Inv-loop μ-loop
 loop-again c = (search needs, search needs, swept-hit _ _ _ _ _ _ _ _ _ _ _ _ _ (c .before .before .before .before .before .before .before .before .loop .inv .2) (omega arith) (omega arith) (c .before .before .before .before .before .before .place .ensures .0) (c .before .before .before .before .is-uncommitted .ensures) (c .before .before .before .if1 .taken) (c .before .live-links .ensures .0) (c .mark-links .ensures))
-
-loop-less-2 : tie.Need-loop-less-2 Inv-loop μ-loop
-loop-less-2 c = search needs
 
 loop-again-2 : tie.Need-loop-again-2 Inv-loop μ-loop
 loop-again-2 c = (search needs, search needs, swept-miss _ _ _ _ _ _ _ _ _ _ _ (c .before .before .before .before .before .loop .inv .2) (omega arith) (omega arith) (c .before .before .before .place .ensures .0) (c .before .is-uncommitted .ensures) (c .if1 .left))
@@ -55,13 +37,13 @@ sweep-spec =
     Inv-loop
     μ-loop
     loop-holds
-    sub-p
+    (λ c. search needs)
     place-requires
-    is-uncommitted-requires
-    live-links-requires
-    mark-links-requires
-    loop-less
+    (λ c κs. search needs)
+    (λ c κs. search needs)
+    (λ c κs. search needs)
+    (λ c. search needs)
     loop-again
-    loop-less-2
+    (λ c. search needs)
     loop-again-2
     returns)

@@ -6,15 +6,6 @@ use Rattle.back_walk.proofs.anchor_at.Tie as tie
 previous-requires : tie.Need-previous-requires
 previous-requires c κs = let a = c .before .before .before .before .args in placed (a .s) (a .keys .now) (a .links .now) (a .certs .now) (a .order .now) (a .p) (c .before .before .before .before .pre .0) (c .before .before .before .before .pre .1 .0) (c .before .before .before .before .pre .1 .1)
 
-ready-valid-point-requires : tie.Need-ready-valid-point-requires
-ready-valid-point-requires c κs = search needs
-
-enum-known-found : tie.Need-enum-known-found
-enum-known-found c = search needs
-
-enum-known-found-2 : tie.Need-enum-known-found-2
-enum-known-found-2 c = search needs
-
 top-proof-requires : tie.Need-top-proof-requires
 top-proof-requires c κs = let a = c .before .before .before .before .before .before .before .before .before .args in topped (a .s) (a .keys .now) (a .links .now) (a .certs .now) (a .order .now) _ (c .before .before .before .before .before .before .before .before .before .pre .0) (c .before .before .before .before .before .before .before .before .before .pre .1 .0) (needed-at (a .s) (a .keys .now) (a .certs .now) (a .order .now) _ _ (c .before .before .before .ready-valid-point .ensures) _ (c .before .found2 .given .1))
 
@@ -29,9 +20,9 @@ anchor-at-spec =
     tie.close
     (tie.spec
     previous-requires
-    ready-valid-point-requires
-    enum-known-found
-    enum-known-found-2
+    (λ c κs. search needs)
+    (λ c. search needs)
+    (λ c. search needs)
     top-proof-requires
     returns
     returns-2)

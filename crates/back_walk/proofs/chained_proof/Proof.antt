@@ -4,15 +4,6 @@ use borrow.Author.Needs.{needs}
 use Rattle.back_walk.proofs.chained_proof.Statement.{statement}
 use Rattle.back_walk.proofs.chained_proof.Tie as tie
 
-ready-valid-point-requires : tie.Need-ready-valid-point-requires
-ready-valid-point-requires c κs = search needs
-
-enum-known-found : tie.Need-enum-known-found
-enum-known-found c = search needs
-
-enum-known-found-2 : tie.Need-enum-known-found-2
-enum-known-found-2 c = search needs
-
 mul-if1 : tie.Need-mul-if1
 mul-if1 c = let a = c .before .before .before .before .before .before .before .before .args in let h : Placed (a .keys .now) (a .links .now) _ = placed (a .s) (a .keys .now) (a .links .now) (a .certs .now) (a .order .now) _ (c .before .before .before .before .before .before .before .before .pre .0) (c .before .before .before .before .before .before .before .before .pre .1) (needed-at (a .s) (a .keys .now) (a .certs .now) (a .order .now) (a .id) _ (c .before .before .before .ready-valid-point .ensures) _ (c .before .found2 .given .1) .0) in search needs
 
@@ -44,9 +35,9 @@ pub chained-proof-spec : {M : Type 1} → statement M
 chained-proof-spec =
     tie.close
     (tie.spec
-    ready-valid-point-requires
-    enum-known-found
-    enum-known-found-2
+    (λ c κs. search needs)
+    (λ c. search needs)
+    (λ c. search needs)
     mul-if1
     add-if1
     mul-if1-2

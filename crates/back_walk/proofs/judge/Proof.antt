@@ -4,48 +4,6 @@ use borrow.Author.Needs.{needs}
 use Rattle.back_walk.proofs.judge.Statement.{statement}
 use Rattle.back_walk.proofs.judge.Tie as tie
 
-case-at-requires : tie.Need-case-at-requires
-case-at-requires c κs = search needs
-
-mul-t8 : tie.Need-mul-t8
-mul-t8 c = search needs
-
-shared-slice-read-t10 : tie.Need-shared-slice-read-t10
-shared-slice-read-t10 c = search needs
-
-enum-told : tie.Need-enum-told
-enum-told c = search needs
-
-enum-known-case : tie.Need-enum-known-case
-enum-known-case c = search needs
-
-enum-told-2 : tie.Need-enum-told-2
-enum-told-2 c = search needs
-
-enum-told-3 : tie.Need-enum-told-3
-enum-told-3 c = search needs
-
-not-valid-requires : tie.Need-not-valid-requires
-not-valid-requires c κs = search needs
-
-enum-told-4 : tie.Need-enum-told-4
-enum-told-4 c = search needs
-
-not-valid-requires-2 : tie.Need-not-valid-requires-2
-not-valid-requires-2 c κs = search needs
-
-enum-told-5 : tie.Need-enum-told-5
-enum-told-5 c = search needs
-
-not-valid-requires-3 : tie.Need-not-valid-requires-3
-not-valid-requires-3 c κs = search needs
-
-enum-told-6 : tie.Need-enum-told-6
-enum-told-6 c = search needs
-
-not-valid-requires-4 : tie.Need-not-valid-requires-4
-not-valid-requires-4 c κs = search needs
-
 returns : tie.Need-returns
 unfolding judgeOf
 returns c = judge-by _ _ _ _ _ (c .before .before .before .case-at .ensures) _ (c .enum-told .given .1) _ refl
@@ -74,20 +32,20 @@ pub judge-spec : {M : Type 1} → statement M
 judge-spec =
     tie.close
     (tie.spec
-    case-at-requires
-    mul-t8
-    shared-slice-read-t10
-    enum-told
-    enum-known-case
-    enum-told-2
-    enum-told-3
-    not-valid-requires
-    enum-told-4
-    not-valid-requires-2
-    enum-told-5
-    not-valid-requires-3
-    enum-told-6
-    not-valid-requires-4
+    (λ c κs. search needs)
+    (λ c. search needs)
+    (λ c. search needs)
+    (λ c. search needs)
+    (λ c. search needs)
+    (λ c. search needs)
+    (λ c. search needs)
+    (λ c κs. search needs)
+    (λ c. search needs)
+    (λ c κs. search needs)
+    (λ c. search needs)
+    (λ c κs. search needs)
+    (λ c. search needs)
+    (λ c κs. search needs)
     returns
     returns-2
     returns-3

@@ -4,29 +4,11 @@ use borrow.Author.Needs.{needs}
 use Rattle.back_walk.proofs.ready_valid_point.Statement.{statement}
 use Rattle.back_walk.proofs.ready_valid_point.Tie as tie
 
-id-words-requires : tie.Need-id-words-requires
-id-words-requires c κs = search needs
-
-slice-aggregate-find-point : tie.Need-slice-aggregate-find-point
-slice-aggregate-find-point c = search needs
-
 find-point-requires : tie.Need-find-point-requires
 find-point-requires c κs = let a = c .before .before .before .before .before .args in searchable (a .s) (a .keys .now) (a .order .now) (a .id) _ (c .before .before .before .before .before .pre .0) (c .before .id-words .ensures)
 
 returns : tie.Need-returns
 returns c = let a = c .before .before .before .before .before .before .before .args in needed-not (a .s) (a .keys .now) (a .certs .now) (a .order .now) (a .id) _ (c .before .before .before .id-words .ensures) _ (c .before .find-point .ensures) (c .if1 .taken)
-
-place-requires : tie.Need-place-requires
-place-requires c κs = search needs
-
-judge-requires : tie.Need-judge-requires
-judge-requires c κs = search needs
-
-enum-told : tie.Need-enum-told
-enum-told c = search needs
-
-enum-known-check : tie.Need-enum-known-check
-enum-known-check c = search needs
 
 returns-2 : tie.Need-returns-2
 unfolding neededAt
@@ -40,13 +22,13 @@ pub ready-valid-point-spec : {M : Type 1} → statement M
 ready-valid-point-spec =
     tie.close
     (tie.spec
-    id-words-requires
-    slice-aggregate-find-point
+    (λ c κs. search needs)
+    (λ c. search needs)
     find-point-requires
     returns
-    place-requires
-    judge-requires
-    enum-told
-    enum-known-check
+    (λ c κs. search needs)
+    (λ c κs. search needs)
+    (λ c. search needs)
+    (λ c. search needs)
     returns-2
     returns-3)

@@ -11,40 +11,13 @@ returns c = let a = c .before .before .before .before .before .before .before .b
 returns-2 : tie.Need-returns-2
 returns-2 c = let a = c .before .before .before .before .before .before .before .before .before .before .before .args in step-above (a .t1) (a .keys .now) (a .links .now) (a .certs .now) (a .order .now) (a .low .0) (a .x .0) (a .id) (c .before .before .before .if1 .left) (c .if2 .taken)
 
-cast-record : tie.Need-cast-record
-cast-record c = search needs
-
-mul-record : tie.Need-mul-record
-mul-record c = search needs
-
-element-copy-out-record : tie.Need-element-copy-out-record
-element-copy-out-record c = search needs
-
-sub-at-used : tie.Need-sub-at-used
-sub-at-used c = search needs
-
-at-used-requires : tie.Need-at-used-requires
-at-used-requires c κs = search needs
-
 returns-3 : tie.Need-returns-3
 unfolding recordOf
 returns-3 c = let a = c .before .before .before .before .before .before .before .before .before .before .before .before .before .before .before .args in step-used (a .t1) (a .keys .now) (a .links .now) (a .certs .now) (a .order .now) (a .low .0) (a .x .0) (a .id) (c .before .before .before .before .before .before .before .if1 .left) (c .before .before .before .before .if2 .left) (c .before .if3 .taken) _ (c .at-used .ensures)
 
-chained-proof-requires : tie.Need-chained-proof-requires
-chained-proof-requires c κs = search needs
-
-enum-known-found : tie.Need-enum-known-found
-enum-known-found c = search needs
-
-enum-known-found-2 : tie.Need-enum-known-found-2
-enum-known-found-2 c = search needs
-
 returns-4 : tie.Need-returns-4
 unfolding recordOf
 returns-4 c = let a = c .before .before .before .before .before .before .before .before .before .before .before .before .before .before .before .before .before .before .before .before .before .args in step-low (a .t1) (a .keys .now) (a .links .now) (a .certs .now) (a .order .now) (a .low .0) (a .x .0) (a .id) (c .before .before .before .before .before .before .before .before .before .before .before .before .before .if1 .left) (c .before .before .before .before .before .before .before .before .before .before .if2 .left) (c .before .before .before .before .before .before .before .if3 .left) _ (c .before .before .before .before .before .before .chained-proof .ensures) _ (c .before .before .before .before .found2 .given .1) (c .if4 .taken)
-
-prev-requires : tie.Need-prev-requires
-prev-requires c κs = search needs
 
 anchor-at-requires : tie.Need-anchor-at-requires
 anchor-at-requires c κs = let a = c .before .before .before .before .before .before .before .before .before .before .before .before .before .before .before .before .before .before .before .before .before .before .args in (c .before .before .before .before .before .before .before .before .before .before .before .before .before .before .before .before .before .before .before .before .before .before .pre .0, (c .before .before .before .before .before .before .before .before .before .before .before .before .before .before .before .before .before .before .before .before .before .before .pre .1, proof-used (a .t1) (a .keys .now) (a .certs .now) (a .order .now) (a .id) (a .links .now) _ (c .before .before .before .before .before .before .before .chained-proof .ensures) _ (c .before .before .before .before .before .found2 .given .1)))
@@ -63,17 +36,17 @@ visit-spec =
     (tie.spec
     returns
     returns-2
-    cast-record
-    mul-record
-    element-copy-out-record
-    sub-at-used
-    at-used-requires
+    (λ c. search needs)
+    (λ c. search needs)
+    (λ c. search needs)
+    (λ c. search needs)
+    (λ c κs. search needs)
     returns-3
-    chained-proof-requires
-    enum-known-found
-    enum-known-found-2
+    (λ c κs. search needs)
+    (λ c. search needs)
+    (λ c. search needs)
     returns-4
-    prev-requires
+    (λ c κs. search needs)
     anchor-at-requires
     returns-5
     returns-6)

@@ -14,21 +14,6 @@ abbrev μ-loop : tie.MeasureT-loop
 loop-holds : tie.Need-loop-holds Inv-loop μ-loop
 loop-holds c = (refl, refl, refl, refl)
 
-cast-t13 : tie.Need-cast-t13 Inv-loop μ-loop
-cast-t13 c = search needs
-
-add-r : tie.Need-add-r Inv-loop μ-loop
-add-r c = search needs
-
-slice-aggregate-with-point : tie.Need-slice-aggregate-with-point Inv-loop μ-loop
-slice-aggregate-with-point c = search needs
-
-with-point-requires : tie.Need-with-point-requires Inv-loop μ-loop
-with-point-requires c κs = search needs
-
-loop-less : tie.Need-loop-less Inv-loop μ-loop
-loop-less c = search needs
-
 loop-again : tie.Need-loop-again Inv-loop μ-loop
 loop-again c =
     let k = c .before .before .before .before .before .before .before .before .with-point .kept in
@@ -57,11 +42,11 @@ with-chain-spec =
     Inv-loop
     μ-loop
     loop-holds
-    cast-t13
-    add-r
-    slice-aggregate-with-point
-    with-point-requires
-    loop-less
+    (λ c. search needs)
+    (λ c. search needs)
+    (λ c. search needs)
+    (λ c κs. search needs)
+    (λ c. search needs)
     loop-again
     same-length
     same-length-2

@@ -16,12 +16,6 @@ loop-holds c = tt
 extend-from-ahead-requires : tie.Need-extend-from-ahead-requires Inv-loop μ-loop
 extend-from-ahead-requires c κs = tt
 
-add-r : tie.Need-add-r Inv-loop μ-loop
-add-r c = search needs
-
-loop-less : tie.Need-loop-less Inv-loop μ-loop
-loop-less c = search needs
-
 loop-again : tie.Need-loop-again Inv-loop μ-loop
 loop-again c = tt
 
@@ -36,7 +30,7 @@ with-rounds-spec =
     μ-loop
     loop-holds
     extend-from-ahead-requires
-    add-r
-    loop-less
+    (λ c. search needs)
+    (λ c. search needs)
     loop-again
     returns)

@@ -11,27 +11,6 @@ Inv-loop certs i₀ i-end i = (i-end ≡ length certs)
 abbrev μ-loop : tie.MeasureT-loop
 μ-loop certs i₀ i-end i = i-end - i
 
-loop-holds : tie.Need-loop-holds Inv-loop μ-loop
-loop-holds c = search needs
-
-mul-write-number : tie.Need-mul-write-number Inv-loop μ-loop
-mul-write-number c = search needs
-
-shared-slice-read-write-number : tie.Need-shared-slice-read-write-number Inv-loop μ-loop
-shared-slice-read-write-number c = search needs
-
-write-number-requires : tie.Need-write-number-requires Inv-loop μ-loop
-write-number-requires c κs = search needs
-
-add-i : tie.Need-add-i Inv-loop μ-loop
-add-i c = search needs
-
-loop-less : tie.Need-loop-less Inv-loop μ-loop
-loop-less c = search needs
-
-loop-again : tie.Need-loop-again Inv-loop μ-loop
-loop-again c = search needs
-
 returns : tie.Need-returns Inv-loop μ-loop
 returns c = tt
 
@@ -41,11 +20,11 @@ write-heights-spec =
     (tie.spec
     Inv-loop
     μ-loop
-    loop-holds
-    mul-write-number
-    shared-slice-read-write-number
-    write-number-requires
-    add-i
-    loop-less
-    loop-again
+    (λ c. search needs)
+    (λ c. search needs)
+    (λ c. search needs)
+    (λ c κs. search needs)
+    (λ c. search needs)
+    (λ c. search needs)
+    (λ c. search needs)
     returns)

@@ -4,26 +4,8 @@ use borrow.Author.Needs.{needs}
 use Rattle.cert_certify.proofs.certify_at.Statement.{statement}
 use Rattle.cert_certify.proofs.certify_at.Tie as tie
 
-top-height-requires : tie.Need-top-height-requires
-top-height-requires c κs = search needs
-
-mul-t11 : tie.Need-mul-t11
-mul-t11 c = search needs
-
-slice-read-t13 : tie.Need-slice-read-t13
-slice-read-t13 c = search needs
-
-set-top-requires : tie.Need-set-top-requires
-set-top-requires c κs = search needs
-
 with-height-requires : tie.Need-with-height-requires
 with-height-requires c κs = omega (arith, c .before .before .top-height .ensures, c .before .before .before .before .before .before .before .pre .0 .4)
-
-mul-certs : tie.Need-mul-certs
-mul-certs c = search needs
-
-slice-write-certs : tie.Need-slice-write-certs
-slice-write-certs c = search needs
 
 traverse-certify-requires : tie.Need-traverse-certify-requires
 traverse-certify-requires c κs =
@@ -42,4 +24,4 @@ same-length c =
 
 pub certify-at-spec : {M : Type 1} → statement M
 certify-at-spec =
-    tie.close (tie.spec top-height-requires mul-t11 slice-read-t13 set-top-requires with-height-requires mul-certs slice-write-certs traverse-certify-requires same-length returns)
+    tie.close (tie.spec (λ c κs. search needs) (λ c. search needs) (λ c. search needs) (λ c κs. search needs) with-height-requires (λ c. search needs) (λ c. search needs) traverse-certify-requires same-length returns)

@@ -9,39 +9,9 @@ use Rattle.cert_certify.proofs.certify_deeper.Tie as tie
 returns : tie.Need-returns
 returns c = deeper-none _ _ _ _ (c .if1 .taken)
 
-sub-t : tie.Need-sub-t
-sub-t c = search needs
-
-mul-t13 : tie.Need-mul-t13
-mul-t13 c = search needs
-
-slice-read-t12 : tie.Need-slice-read-t12
-slice-read-t12 c = search needs
-
-height-requires : tie.Need-height-requires
-height-requires c κs = search needs
-
 add-if2 : tie.Need-add-if2
 unfolding heightOf
 add-if2 c = search (needs, c .before .height .ensures)
-
-sub-queue : tie.Need-sub-queue
-sub-queue c = search needs
-
-with-height-requires : tie.Need-with-height-requires
-with-height-requires c κs = search needs
-
-mul-certs : tie.Need-mul-certs
-mul-certs c = search needs
-
-slice-write-certs : tie.Need-slice-write-certs
-slice-write-certs c = search needs
-
-sub-queue-2 : tie.Need-sub-queue-2
-sub-queue-2 c = search needs
-
-cast-queue : tie.Need-cast-queue
-cast-queue c = search needs
 
 mul-queue : tie.Need-mul-queue
 unfolding heightOf
@@ -55,12 +25,6 @@ add-result : tie.Need-add-result
 unfolding heightOf
 add-result c = search (needs, c .before .before .before .before .before .before .before .before .before .before .pre .1 .1 (omega arith) (omega (arith, c .before .before .before .before .before .height .ensures, c .before .before .if2 .taken)))
 
-same-length : tie.Need-same-length
-same-length c = search needs
-
-same-length-2 : tie.Need-same-length-2
-same-length-2 c = search needs
-
 returns-2 : tie.Need-returns-2
 returns-2 c = deeper-up _ _ _ _ _ _ (c .before .before .before .before .before .height .ensures) (c .with-height .ensures) (c .before .before .before .before .before .before .before .if1 .left) (c .before .before .if2 .taken)
 
@@ -69,4 +33,4 @@ returns-3 c = deeper-same _ _ _ _ _ (c .before .before .before .height .ensures)
 
 pub certify-deeper-spec : {M : Type 1} → statement M
 certify-deeper-spec =
-    tie.close (tie.spec returns sub-t mul-t13 slice-read-t12 height-requires add-if2 sub-queue with-height-requires mul-certs slice-write-certs sub-queue-2 cast-queue mul-queue slice-write-queue add-result same-length same-length-2 returns-2 returns-3)
+    tie.close (tie.spec returns (λ c. search needs) (λ c. search needs) (λ c. search needs) (λ c κs. search needs) add-if2 (λ c. search needs) (λ c κs. search needs) (λ c. search needs) (λ c. search needs) (λ c. search needs) (λ c. search needs) mul-queue slice-write-queue add-result (λ c. search needs) (λ c. search needs) returns-2 returns-3)

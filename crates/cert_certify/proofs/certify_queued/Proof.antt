@@ -24,9 +24,6 @@ mul-slot c = search (needs, ready-at _ _ _ _ _ _ _ (c .before .before .before .b
 slice-read-slot : tie.Need-slice-read-slot Inv-loop μ-loop
 slice-read-slot c = search (needs, ready-at _ _ _ _ _ _ _ (c .before .before .before .before .before .before .before .pre .1) (c .before .before .loop .inv .1) (c .before .loop-test .taken) refl)
 
-slot-requires : tie.Need-slot-requires Inv-loop μ-loop
-slot-requires c κs = search needs
-
 live-links-requires : tie.Need-live-links-requires Inv-loop μ-loop
 live-links-requires c κs = let r = ready-at _ _ _ _ _ _ _ (c .before .before .before .before .before .before .before .before .pre .1) (c .before .before .before .loop .inv .1) (c .before .before .loop-test .taken) (c .slot .ensures) in search needs
 
@@ -36,9 +33,6 @@ certify-deps-requires c κs =
     let r = ready-at _ _ _ _ _ _ _ (b .before .before .before .before .before .before .before .before .pre .1) (b .before .before .before .loop .inv .1) (b .before .before .loop-test .taken) (b .slot .ensures) in
     let size = ap (λ w. length (w .certs)) (b .before .before .before .loop .inv .1) ∙ visited-length _ _ _ _ _ .0 in
     (search (needs, size), ready-open _ _ _ _ _ _ _ _ (b .before .before .before .before .before .before .before .before .pre .1) (b .before .before .before .loop .inv .1) (b .before .before .loop-test .taken) (b .slot .ensures) (c .before .before .live-links .ensures .0))
-
-add-head : tie.Need-add-head Inv-loop μ-loop
-add-head c = search needs
 
 loop-less : tie.Need-loop-less Inv-loop μ-loop
 loop-less c =
@@ -70,10 +64,10 @@ certify-queued-spec =
     loop-holds
     mul-slot
     slice-read-slot
-    slot-requires
+    (λ c κs. search needs)
     live-links-requires
     certify-deps-requires
-    add-head
+    (λ c. search needs)
     loop-less
     loop-again
     same-length

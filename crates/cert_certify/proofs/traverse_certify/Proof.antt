@@ -8,21 +8,12 @@ use Rattle.cert_certify.proofs.traverse_certify.Tie as tie
 cast-queue : tie.Need-cast-queue
 cast-queue c = let l = placed-low _ _ _ _ _ (c .before .before .before .pre .1) in search needs
 
-array-write-queue : tie.Need-array-write-queue
-array-write-queue c = search needs
-
-slice-aggregate-certify-queued : tie.Need-slice-aggregate-certify-queued
-slice-aggregate-certify-queued c = search needs
-
 certify-queued-requires : tie.Need-certify-queued-requires
 unfolding start
 certify-queued-requires c κs =
     let p = c .before .before .before .before .before .pre in
     let a = c .before .before .before .before .before .args in
     (search (needs, placed-low _ _ _ _ _ (p .1)), start-ready (a .bottom .0) (a .keys .now) (a .links .now) (a .certs .now) (a .q) (p .1))
-
-same-length : tie.Need-same-length
-same-length c = search needs
 
 returns : tie.Need-returns
 unfolding start traversed
@@ -33,8 +24,8 @@ traverse-certify-spec =
     tie.close
     (tie.spec
     cast-queue
-    array-write-queue
-    slice-aggregate-certify-queued
+    (λ c. search needs)
+    (λ c. search needs)
     certify-queued-requires
-    same-length
+    (λ c. search needs)
     returns)

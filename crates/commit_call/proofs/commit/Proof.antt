@@ -9,15 +9,6 @@ use borrow.Author.Needs.{needs}
 use Rattle.commit_call.proofs.commit.Statement.{statement}
 use Rattle.commit_call.proofs.commit.Tie as tie
 
-counts-as-started-requires : tie.Need-counts-as-started-requires
-counts-as-started-requires c κs = search needs
-
-refused-requires : tie.Need-refused-requires
-refused-requires c κs = search needs
-
-same-length : tie.Need-same-length
-same-length c = search needs
-
 returns : tie.Need-returns
 unfolding whyFrom refusal
 returns c =
@@ -29,23 +20,11 @@ chain-of-requires c κs =
     let a = c .before .before .before .before .before .before .before .before .before .args in
     walked-counts (view (a .s) (a .keys .now) (a .links .now) (a .certs .now) (a .order .now)) (idOf (a .id)) _ (c .before .before .counts-as-started .ensures) (c .before .if1 .left)
 
-enum-known-check : tie.Need-enum-known-check
-enum-known-check c = search needs
-
-ended-requires : tie.Need-ended-requires
-ended-requires c κs = search needs
-
-same-length-2 : tie.Need-same-length-2
-same-length-2 c = search needs
-
 returns-2 : tie.Need-returns-2
 returns-2 c =
     let a = c .before .before .before .before .before .before .before .before .before .before .before .before .before .before .args in
     let h = c .before .before .before .before .chain-of in
     says-refused (a .s) (a .keys .now) (a .links .now) (a .certs .now) (a .order .now) (idOf (a .id)) (a .b .now) _ (walked-bad (view (a .s) (a .keys .now) (a .links .now) (a .certs .now) (a .order .now)) (idOf (a .id)) _ (c .before .before .before .before .before .before .before .counts-as-started .ensures) (c .before .before .before .before .before .before .if1 .left) (h .result) (h .ensures .0) _ (c .before .before .check .given .1)) _ (c .ended .ensures ∙ ended-why _ _ _)
-
-enum-told : tie.Need-enum-told
-enum-told c = search needs
 
 commit-chain-requires : tie.Need-commit-chain-requires
 commit-chain-requires c κs =
@@ -55,12 +34,6 @@ commit-chain-requires c κs =
     let h = c .before .before .before .before .chain-of in
     let n = walked-counts (view (a .s) (a .keys .now) (a .links .now) (a .certs .now) (a .order .now)) (idOf (a .id)) _ (c .before .before .before .before .before .before .before .counts-as-started .ensures) (c .before .before .before .before .before .before .if1 .left) in
     (n, (chain-rises (a .s) (a .keys .now) (a .links .now) (a .certs .now) (a .order .now) fk fl n (idOf (a .id)) _ (walked-good (view (a .s) (a .keys .now) (a .links .now) (a .certs .now) (a .order .now)) (idOf (a .id)) _ (c .before .before .before .before .before .before .before .counts-as-started .ensures) (c .before .before .before .before .before .before .if1 .left) (h .result) (h .ensures .0) (c .before .before .enum-told .given .1)), h .ensures .1))
-
-same-length-3 : tie.Need-same-length-3
-same-length-3 c = search needs
-
-same-length-4 : tie.Need-same-length-4
-same-length-4 c = search needs
 
 returns-3 : tie.Need-returns-3
 returns-3 c =
@@ -72,17 +45,17 @@ pub commit-spec : {M : Type 1} → statement M
 commit-spec =
     tie.close
     (tie.spec
-    counts-as-started-requires
-    refused-requires
-    same-length
+    (λ c κs. search needs)
+    (λ c κs. search needs)
+    (λ c. search needs)
     returns
     chain-of-requires
-    enum-known-check
-    ended-requires
-    same-length-2
+    (λ c. search needs)
+    (λ c κs. search needs)
+    (λ c. search needs)
     returns-2
-    enum-told
+    (λ c. search needs)
     commit-chain-requires
-    same-length-3
-    same-length-4
+    (λ c. search needs)
+    (λ c. search needs)
     returns-3)

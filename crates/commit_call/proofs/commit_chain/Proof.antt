@@ -7,15 +7,6 @@ use Rattle.commit_call.proofs.commit_chain.Tie as tie
 commit-all-requires : tie.Need-commit-all-requires
 commit-all-requires c κs = let p = c .before .before .before .before .before .before .before .before .pre in (p .0, (p .1 .0, omega (arith, p .1 .1)))
 
-ended-requires : tie.Need-ended-requires
-ended-requires c κs = search needs
-
-same-length : tie.Need-same-length
-same-length c = search needs
-
-same-length-2 : tie.Need-same-length-2
-same-length-2 c = search needs
-
 returns : tie.Need-returns
 returns c =
     let a = c .before .before .before .before .before .before .before .before .before .before .before .before .before .before .args in
@@ -24,4 +15,4 @@ returns c =
 
 pub commit-chain-spec : {M : Type 1} → statement M
 commit-chain-spec =
-    tie.close (tie.spec commit-all-requires ended-requires same-length same-length-2 returns)
+    tie.close (tie.spec commit-all-requires (λ c κs. search needs) (λ c. search needs) (λ c. search needs) returns)

@@ -3,12 +3,6 @@ use borrow.Author.Needs.{needs}
 use Rattle.commit_call.proofs.ended.Statement.{statement}
 use Rattle.commit_call.proofs.ended.Tie as tie
 
-enum-told : tie.Need-enum-told
-enum-told c = search needs
-
-enum-known-check : tie.Need-enum-known-check
-enum-known-check c = search needs
-
 returns : tie.Need-returns
 unfolding answerFrom
 returns c = ended-by-check _ _ _ _ (c .enum-told .given .1)
@@ -18,4 +12,4 @@ unfolding answerFrom
 returns-2 c = ended-by-check _ _ _ _ (c .before .check .given .1)
 
 pub ended-spec : {M : Type 1} → statement M
-ended-spec = tie.close (tie.spec enum-told enum-known-check returns returns-2)
+ended-spec = tie.close (tie.spec (λ c. search needs) (λ c. search needs) returns returns-2)

@@ -3,10 +3,6 @@ use Rattle.commit_rounds.specs.Round.{round-beyond, round-last, round-ol
 use Rattle.commit_rounds.proofs.check_round.Statement.{statement}
 use Rattle.commit_rounds.proofs.check_round.Tie as tie
 
--- src/calls.rt:51:8
-add-if1 : tie.Need-add-if1
-add-if1 c = search needs
-
 -- src/calls.rt:52:9
 returns : tie.Need-returns
 returns c = search round-beyond
@@ -19,14 +15,6 @@ returns-2 c = search round-last
 returns-3 : tie.Need-returns-3
 returns-3 c = search round-old
 
--- src/calls.rt:60:15
-add-if4 : tie.Need-add-if4
-add-if4 c = search needs
-
--- src/calls.rt:60:15
-sub-if4 : tie.Need-sub-if4
-sub-if4 c = search needs
-
 -- src/calls.rt:61:9
 returns-4 : tie.Need-returns-4
 returns-4 c = search round-full
@@ -37,4 +25,4 @@ returns-5 c = search round-new
 
 pub check-round-spec : {M : Type 1} → statement M
 check-round-spec =
-    tie.close (tie.spec add-if1 returns returns-2 returns-3 add-if4 sub-if4 returns-4 returns-5)
+    tie.close (tie.spec (λ c. search needs) returns returns-2 returns-3 (λ c. search needs) (λ c. search needs) returns-4 returns-5)

@@ -8,32 +8,8 @@ use Rattle.back_drain.specs.Model.{below-le}
 use Rattle.commit_rounds.proofs.drop_upto.Statement.{statement}
 use Rattle.commit_rounds.proofs.drop_upto.Tie as tie
 
-counts-as-started-requires : tie.Need-counts-as-started-requires
-counts-as-started-requires c κs = search needs
-
-refused-requires : tie.Need-refused-requires
-refused-requires c κs = search needs
-
-same-length : tie.Need-same-length
-same-length c = search needs
-
-same-length-2 : tie.Need-same-length-2
-same-length-2 c = search needs
-
-same-length-3 : tie.Need-same-length-3
-same-length-3 c = search needs
-
-same-length-4 : tie.Need-same-length-4
-same-length-4 c = search needs
-
 returns : tie.Need-returns
 returns c = drop-did _ _ (λ p. c .before .before .before .before .before .before .before .before .before .before .slice-known .given p .fits) (λ p. c .before .before .before .before .before .before .before .before .before .slice-known2 .given p .fits) _ (left-refused _ _ _ _ (tested-no _ _ _ (c .before .before .counts-as-started .ensures) (c .before .if1 .taken)) _ (c .refused .ensures))
-
-min-requires : tie.Need-min-requires
-min-requires c κs = search needs
-
-max-requires : tie.Need-max-requires
-max-requires c κs = search needs
 
 cut-requires : tie.Need-cut-requires
 cut-requires c κs =
@@ -66,18 +42,6 @@ drop-state-requires c κs =
     let g = given (a .s) (a .keys .now) (a .links .now) (a .certs .now) (a .order .now) fk fl _ (c .before .before .before .before .before .before .before .before .before .before .before .before .before .before .before .before .before .before .before .before .before .counts-as-started .ensures) (c .before .before .before .before .before .before .before .before .before .before .before .before .before .before .before .before .before .before .before .before .if1 .left) in
     (omega (arith, g .top, c .before .before .before .before .before .before .before .before .before .before .before .before .before .before .before .before .before .min .ensures), g .history, g .deduplicate)
 
-same-length-5 : tie.Need-same-length-5
-same-length-5 c = search needs
-
-same-length-6 : tie.Need-same-length-6
-same-length-6 c = search needs
-
-same-length-7 : tie.Need-same-length-7
-same-length-7 c = search needs
-
-same-length-8 : tie.Need-same-length-8
-same-length-8 c = search needs
-
 returns-2 : tie.Need-returns-2
 returns-2 c =
     let k = c .before .before .before .before .before .before .before .before .before .before .before .drain-upto .ensures in
@@ -87,21 +51,21 @@ pub drop-upto-spec : {M : Type 1} → statement M
 drop-upto-spec =
     tie.close
     (tie.spec
-    counts-as-started-requires
-    refused-requires
-    same-length
-    same-length-2
-    same-length-3
-    same-length-4
+    (λ c κs. search needs)
+    (λ c κs. search needs)
+    (λ c. search needs)
+    (λ c. search needs)
+    (λ c. search needs)
+    (λ c. search needs)
     returns
-    min-requires
-    max-requires
+    (λ c κs. search needs)
+    (λ c κs. search needs)
     cut-requires
     drain-upto-requires
     sub-drop-state
     drop-state-requires
-    same-length-5
-    same-length-6
-    same-length-7
-    same-length-8
+    (λ c. search needs)
+    (λ c. search needs)
+    (λ c. search needs)
+    (λ c. search needs)
     returns-2)

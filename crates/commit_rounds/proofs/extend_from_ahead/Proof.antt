@@ -10,29 +10,14 @@ use Rattle.commit_rounds.proofs.extend_from_ahead.Tie as tie
 long : (b : tie.Start) → length (b .args .s .rounds) ≡ 512
 long b = sym (length-map (b .args .s .rounds) _) ∙ b .good .0 .1 .1 .1 .1 .1 .1 .1 .1 .1 .1 .1 .1 .1 .1 .0 .1 .0 .1
 
-counts-as-started-requires : tie.Need-counts-as-started-requires
-counts-as-started-requires c κs = search needs
-
-refused-requires : tie.Need-refused-requires
-refused-requires c κs = search needs
-
 returns : tie.Need-returns
 returns c = round-did _ _ _ (long (c .before .before .before .before .before .before .before)) _ (left-refused _ _ _ _ (tested-no _ _ _ (c .before .before .counts-as-started .ensures) (c .before .if1 .taken)) _ (c .refused .ensures))
 
 check-round-requires : tie.Need-check-round-requires
 check-round-requires c κs = round-ready _ _ _ _ _ _ (c .before .before .before .counts-as-started .ensures) (c .before .before .if1 .left)
 
-enum-known-check : tie.Need-enum-known-check
-enum-known-check c = search needs
-
-refused-requires-2 : tie.Need-refused-requires-2
-refused-requires-2 c κs = search needs
-
 returns-2 : tie.Need-returns-2
 returns-2 c = round-did _ _ _ (long (c .before .before .before .before .before .before .before .before .before .before .before .before .before)) _ (left-refused _ _ _ _ (tested-by _ _ _ (c .before .before .before .before .before .before .before .before .counts-as-started .ensures) (c .before .before .before .before .before .before .before .if1 .left) _ (sym (c .before .before .before .before .check-round .ensures) ∙ c .before .before .check .given .1)) _ (c .refused2 .ensures))
-
-enum-told : tie.Need-enum-told
-enum-told c = search needs
 
 with-round-requires : tie.Need-with-round-requires
 with-round-requires c κs =
@@ -46,13 +31,13 @@ pub extend-from-ahead-spec : {M : Type 1} → statement M
 extend-from-ahead-spec =
     tie.close
     (tie.spec
-    counts-as-started-requires
-    refused-requires
+    (λ c κs. search needs)
+    (λ c κs. search needs)
     returns
     check-round-requires
-    enum-known-check
-    refused-requires-2
+    (λ c. search needs)
+    (λ c κs. search needs)
     returns-2
-    enum-told
+    (λ c. search needs)
     with-round-requires
     returns-3)

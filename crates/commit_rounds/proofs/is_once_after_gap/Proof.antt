@@ -5,20 +5,11 @@ use borrow.Author.Needs.{needs}
 use Rattle.commit_rounds.proofs.is_once_after_gap.Statement.{statement}
 use Rattle.commit_rounds.proofs.is_once_after_gap.Tie as tie
 
-counts-as-started-requires : tie.Need-counts-as-started-requires
-counts-as-started-requires c κs = search needs
-
-refused-requires : tie.Need-refused-requires
-refused-requires c κs = search needs
-
 returns : tie.Need-returns
 returns c = gap-did _ _ (left-refused _ _ _ _ (tested-no _ _ _ (c .before .before .counts-as-started .ensures) (c .before .if1 .taken)) _ (c .refused .ensures))
 
 returns-2 : tie.Need-returns-2
 returns-2 c = gap-did _ _ (left-done _ _ _ (tested-by _ _ _ (c .before .before .before .counts-as-started .ensures) (c .before .before .if1 .left) _ refl) _ (put-other _ (c .if2 .taken)))
-
-ask-state-requires : tie.Need-ask-state-requires
-ask-state-requires c κs = search needs
 
 returns-3 : tie.Need-returns-3
 returns-3 c = gap-did _ _ (left-done _ _ _ (tested-by _ _ _ (c .before .before .before .before .counts-as-started .ensures) (c .before .before .before .if1 .left) _ refl) _ (put-ask-state _ (c .before .if2 .left) _ (c .ask-state .ensures)))
@@ -27,9 +18,9 @@ pub is-once-after-gap-spec : {M : Type 1} → statement M
 is-once-after-gap-spec =
     tie.close
     (tie.spec
-    counts-as-started-requires
-    refused-requires
+    (λ c κs. search needs)
+    (λ c κs. search needs)
     returns
     returns-2
-    ask-state-requires
+    (λ c κs. search needs)
     returns-3)

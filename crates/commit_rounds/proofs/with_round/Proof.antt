@@ -6,11 +6,8 @@ use Rattle.commit_rounds.proofs.with_round.Tie as tie
 returns : tie.Need-returns
 returns c = search with-old
 
-extend-state-requires : tie.Need-extend-state-requires
-extend-state-requires c κs = search needs
-
 returns-2 : tie.Need-returns-2
 returns-2 c = with-new _ _ _ _ (c .before .if1 .left) (c .extend-state .ensures)
 
 pub with-round-spec : {M : Type 1} → statement M
-with-round-spec = tie.close (tie.spec returns extend-state-requires returns-2)
+with-round-spec = tie.close (tie.spec returns (λ c κs. search needs) returns-2)

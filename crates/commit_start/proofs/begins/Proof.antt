@@ -3,9 +3,6 @@ use Rattle.commit_start.specs.Start.{begins-conf, begins-genesis, begins
 use Rattle.commit_start.proofs.begins.Statement.{statement}
 use Rattle.commit_start.proofs.begins.Tie as tie
 
-conf-holds-requires : tie.Need-conf-holds-requires
-conf-holds-requires c κs = search needs
-
 returns : tie.Need-returns
 returns c = begins-conf _ _ _ (c .before .conf-holds .ensures) (c .if1 .taken)
 
@@ -18,14 +15,8 @@ returns-3 c = begins-bottom _ _ _ (c .before .before .before .before .before .co
 returns-4 : tie.Need-returns-4
 returns-4 c = begins-below _ _ _ (c .before .before .before .before .before .before .before .before .conf-holds .ensures) (c .before .before .before .before .before .before .before .if1 .left) (c .before .before .before .before .before .if2 .left) (c .before .before .before .if3 .left) (c .if4 .taken)
 
-used-ok-requires : tie.Need-used-ok-requires
-used-ok-requires c κs = search needs
-
 returns-5 : tie.Need-returns-5
 returns-5 c = begins-used _ _ _ (c .before .before .before .before .before .before .before .before .before .before .conf-holds .ensures) (c .before .before .before .before .before .before .before .before .before .if1 .left) (c .before .before .before .before .before .before .before .if2 .left) (c .before .before .before .before .before .if3 .left) (c .before .before .if4 .left) _ (c .before .used-ok .ensures) (c .if5 .taken)
-
-places-hold-requires : tie.Need-places-hold-requires
-places-hold-requires c κs = search needs
 
 returns-6 : tie.Need-returns-6
 returns-6 c = begins-places _ _ _ (c .before .before .before .before .before .before .before .before .before .before .before .conf-holds .ensures) (c .before .before .before .before .before .before .before .before .before .before .if1 .left) (c .before .before .before .before .before .before .before .before .if2 .left) (c .before .before .before .before .before .before .if3 .left) (c .before .before .before .if4 .left) _ (c .before .before .used-ok .ensures) (c .before .if5 .left) _ (c .places-hold .ensures)
@@ -34,12 +25,12 @@ pub begins-spec : {M : Type 1} → statement M
 begins-spec =
     tie.close
     (tie.spec
-    conf-holds-requires
+    (λ c κs. search needs)
     returns
     returns-2
     returns-3
     returns-4
-    used-ok-requires
+    (λ c κs. search needs)
     returns-5
-    places-hold-requires
+    (λ c κs. search needs)
     returns-6)

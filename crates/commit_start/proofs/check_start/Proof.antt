@@ -4,19 +4,10 @@ use Rattle.commit_start.specs.Start.{places-view, start-range, start-twi
 use Rattle.commit_start.proofs.check_start.Statement.{statement}
 use Rattle.commit_start.proofs.check_start.Tie as tie
 
-places-of-requires : tie.Need-places-of-requires
-places-of-requires c κs = search needs
-
-begins-requires : tie.Need-begins-requires
-begins-requires c κs = search needs
-
 returns : tie.Need-returns
 returns c =
     let a = c .before .before .before .before .before .before .before .args in
     start-range (view (a .s) (a .keys .now) (a .links .now) (a .certs .now) (a .order .now)) (a .with) _ _ (places-view _ _ _ _ _ _ (c .before .before .places-of .ensures)) (c .before .begins .ensures) (c .if1 .taken)
-
-counts-as-started-requires : tie.Need-counts-as-started-requires
-counts-as-started-requires c κs = search needs
 
 returns-2 : tie.Need-returns-2
 returns-2 c =
@@ -32,9 +23,9 @@ pub check-start-spec : {M : Type 1} → statement M
 check-start-spec =
     tie.close
     (tie.spec
-    places-of-requires
-    begins-requires
+    (λ c κs. search needs)
+    (λ c κs. search needs)
     returns
-    counts-as-started-requires
+    (λ c κs. search needs)
     returns-2
     returns-3)

@@ -3,20 +3,11 @@ use Rattle.commit_start.specs.Start.{kept-phase, kept-used, kept-long, k
 use Rattle.commit_start.proofs.kept_memory.Statement.{statement}
 use Rattle.commit_start.proofs.kept_memory.Tie as tie
 
-empty-memory-requires : tie.Need-empty-memory-requires
-empty-memory-requires c κs = search needs
-
 returns : tie.Need-returns
 returns c = kept-phase _ _ (c .empty-memory .ensures) (c .before .if1 .taken)
 
-empty-memory-requires-2 : tie.Need-empty-memory-requires-2
-empty-memory-requires-2 c κs = search needs
-
 returns-2 : tie.Need-returns-2
 returns-2 c = kept-used _ _ (c .empty-memory2 .ensures) (c .before .before .before .if1 .left) (c .before .if2 .taken)
-
-empty-memory-requires-3 : tie.Need-empty-memory-requires-3
-empty-memory-requires-3 c κs = search needs
 
 returns-3 : tie.Need-returns-3
 returns-3 c = kept-long _ _ (c .empty-memory3 .ensures) (c .before .before .before .before .before .before .if1 .left) (c .before .before .before .before .if2 .left) (c .before .if3 .taken)
@@ -28,10 +19,10 @@ pub kept-memory-spec : {M : Type 1} → statement M
 kept-memory-spec =
     tie.close
     (tie.spec
-    empty-memory-requires
+    (λ c κs. search needs)
     returns
-    empty-memory-requires-2
+    (λ c κs. search needs)
     returns-2
-    empty-memory-requires-3
+    (λ c κs. search needs)
     returns-3
     returns-4)

@@ -3,9 +3,6 @@ use Rattle.commit_start.specs.Start.{places-none, places-some}
 use Rattle.commit_start.proofs.places_of.Statement.{statement}
 use Rattle.commit_start.proofs.places_of.Tie as tie
 
-shape-holds-requires : tie.Need-shape-holds-requires
-shape-holds-requires c κs = search needs
-
 returns : tie.Need-returns
 returns c = places-none _ _ _ (c .before .shape-holds .ensures) (c .if1 .taken)
 
@@ -13,4 +10,4 @@ returns-2 : tie.Need-returns-2
 returns-2 c = places-some _ _ _ (c .before .shape-holds .ensures) (c .if1 .left)
 
 pub places-of-spec : {M : Type 1} → statement M
-places-of-spec = tie.close (tie.spec shape-holds-requires returns returns-2)
+places-of-spec = tie.close (tie.spec (λ c κs. search needs) returns returns-2)

@@ -11,18 +11,6 @@ use borrow.Author.Needs.{needs}
 use Rattle.dag_round_keys.proofs.find.Statement.{statement}
 use Rattle.dag_round_keys.proofs.find.Tie as tie
 
-seek-requires : tie.Need-seek-requires
-seek-requires c κs = search needs
-
-mul-slot : tie.Need-mul-slot
-mul-slot c = search needs
-
-shared-slice-read-slot : tie.Need-shared-slice-read-slot
-shared-slice-read-slot c = search needs
-
-slot-requires : tie.Need-slot-requires
-slot-requires c κs = search needs
-
 less-requires : tie.Need-less-requires
 less-requires c κs =
     let s = c .before .before .before .before .before .before .before in
@@ -56,10 +44,10 @@ pub find-spec : {M : Type 1} → statement M
 find-spec =
     tie.close
     (tie.spec
-    seek-requires
-    mul-slot
-    shared-slice-read-slot
-    slot-requires
+    (λ c κs. search needs)
+    (λ c. search needs)
+    (λ c. search needs)
+    (λ c κs. search needs)
     less-requires
     returns
     returns-2

@@ -10,27 +10,12 @@ use Rattle.dag_round_keys.proofs.find_point.Statement.{statement}
 use Rattle.dag_round_keys.proofs.find_point.Tie as tie
 use Rattle.models.specs.Tables.{authorAt}
 
-find-requires : tie.Need-find-requires
-find-requires c κs = search needs
-
-mul-slot : tie.Need-mul-slot
-mul-slot c = search needs
-
-shared-slice-read-slot : tie.Need-shared-slice-read-slot
-shared-slice-read-slot c = search needs
-
-slot-requires : tie.Need-slot-requires
-slot-requires c κs = search needs
-
 author-requires : tie.Need-author-requires
 author-requires c κs =
     let s = c .before .before .before .before .before .before .before in
     let p = c .before .before .before .find .result in
     let h : getD (s .args .order .now) p 0 < length (s .args .keys .now) / 8 = s .pre .0 .1 .1 p (omega arith) in
     search needs
-
-shared-slice-read-if2 : tie.Need-shared-slice-read-if2
-shared-slice-read-if2 c = search needs
 
 returns : tie.Need-returns
 returns c =
@@ -55,12 +40,12 @@ pub find-point-spec : {M : Type 1} → statement M
 find-point-spec =
     tie.close
     (tie.spec
-    find-requires
-    mul-slot
-    shared-slice-read-slot
-    slot-requires
+    (λ c κs. search needs)
+    (λ c. search needs)
+    (λ c. search needs)
+    (λ c κs. search needs)
     author-requires
-    shared-slice-read-if2
+    (λ c. search needs)
     returns
     returns-2
     returns-3)

@@ -4,17 +4,8 @@ use borrow.Author.Needs.{needs}
 use Rattle.dag_round_keys.proofs.place.Statement.{statement}
 use Rattle.dag_round_keys.proofs.place.Tie as tie
 
-mul-slot : tie.Need-mul-slot
-mul-slot c = search needs
-
-shared-slice-read-slot : tie.Need-shared-slice-read-slot
-shared-slice-read-slot c = search needs
-
-slot-requires : tie.Need-slot-requires
-slot-requires c κs = search needs
-
 returns : tie.Need-returns
 returns c = (c .slot .ensures, omega (arith, c .slot .ensures, c .before .before .before .pre .1 _ (c .before .before .before .pre .0 .0)))
 
 pub place-spec : {M : Type 1} → statement M
-place-spec = tie.close (tie.spec mul-slot shared-slice-read-slot slot-requires returns)
+place-spec = tie.close (tie.spec (λ c. search needs) (λ c. search needs) (λ c κs. search needs) returns)

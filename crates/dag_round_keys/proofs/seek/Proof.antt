@@ -20,21 +20,6 @@ abbrev μ-loop : tie.MeasureT-loop
 loop-holds : tie.Need-loop-holds Inv-loop μ-loop
 loop-holds c = (search needs, search needs, (λ j l. absurd (omega arith)), λ j l m. absurd (omega arith))
 
-sub-mid : tie.Need-sub-mid Inv-loop μ-loop
-sub-mid c = search needs
-
-add-mid : tie.Need-add-mid Inv-loop μ-loop
-add-mid c = search needs
-
-mul-slot : tie.Need-mul-slot Inv-loop μ-loop
-mul-slot c = search needs
-
-shared-slice-read-slot : tie.Need-shared-slice-read-slot Inv-loop μ-loop
-shared-slice-read-slot c = search needs
-
-slot-requires : tie.Need-slot-requires Inv-loop μ-loop
-slot-requires c κs = search needs
-
 less-requires : tie.Need-less-requires Inv-loop μ-loop
 less-requires c κs =
     let s = c .before .before .before .before .before .before .before in
@@ -42,12 +27,6 @@ less-requires c κs =
     let mid = l .lo + (l .hi - l .lo) / 2 in
     let h : getD (s .args .order .now) mid 0 < length (s .args .keys .now) / 8 = s .pre .0 .1 .1 mid (omega arith) in
     search needs
-
-add-lo : tie.Need-add-lo Inv-loop μ-loop
-add-lo c = search needs
-
-loop-less : tie.Need-loop-less Inv-loop μ-loop
-loop-less c = search needs
 
 loop-again : tie.Need-loop-again Inv-loop μ-loop
 loop-again c =
@@ -57,9 +36,6 @@ loop-again c =
     let mid = l .lo + (l .hi - l .lo) / 2 in
     let h : before (keyAt (a .keys .now) (a .order .now) mid) (key (a .id .now) 0) ≡ true = cc in
     (search needs, search needs, (λ j m. down-from (a .keys .now) (a .order .now) (a .n) (key (a .id .now) 0) mid j (s .pre .1) (omega arith) h m), l .inv .3)
-
-loop-less-2 : tie.Need-loop-less-2 Inv-loop μ-loop
-loop-less-2 c = search needs
 
 loop-again-2 : tie.Need-loop-again-2 Inv-loop μ-loop
 loop-again-2 c =
@@ -82,15 +58,15 @@ seek-spec =
     Inv-loop
     μ-loop
     loop-holds
-    sub-mid
-    add-mid
-    mul-slot
-    shared-slice-read-slot
-    slot-requires
+    (λ c. search needs)
+    (λ c. search needs)
+    (λ c. search needs)
+    (λ c. search needs)
+    (λ c κs. search needs)
     less-requires
-    add-lo
-    loop-less
+    (λ c. search needs)
+    (λ c. search needs)
     loop-again
-    loop-less-2
+    (λ c. search needs)
     loop-again-2
     returns)

@@ -20,27 +20,6 @@ abbrev μ-loop : tie.MeasureT-loop
 loop-holds : tie.Need-loop-holds Inv-loop μ-loop
 loop-holds c = (search needs, λ a b l m. absurd (omega arith))
 
-sub-slot : tie.Need-sub-slot Inv-loop μ-loop
-sub-slot c = search needs
-
-mul-slot : tie.Need-mul-slot Inv-loop μ-loop
-mul-slot c = search needs
-
-shared-slice-read-slot : tie.Need-shared-slice-read-slot Inv-loop μ-loop
-shared-slice-read-slot c = search needs
-
-slot-requires : tie.Need-slot-requires Inv-loop μ-loop
-slot-requires c κs = search needs
-
-mul-slot-2 : tie.Need-mul-slot-2 Inv-loop μ-loop
-mul-slot-2 c = search needs
-
-shared-slice-read-slot-2 : tie.Need-shared-slice-read-slot-2 Inv-loop μ-loop
-shared-slice-read-slot-2 c = search needs
-
-slot-requires-2 : tie.Need-slot-requires-2 Inv-loop μ-loop
-slot-requires-2 c κs = search needs
-
 less-requires : tie.Need-less-requires Inv-loop μ-loop
 less-requires c κs =
     let s = c .before .before .before .before .before .before .before .before in
@@ -56,12 +35,6 @@ returns c =
     let no = not-true (c .before .less .result) (c .if1 .taken) in
     let h : before (keyAt (a .keys .now) (a .order .now) (k - 1)) (keyAt (a .keys .now) (a .order .now) k) ≡ false = cc in
     sym (sorted-not _ _ _ _ _ (omega arith) (omega arith) h)
-
-add-k : tie.Need-add-k Inv-loop μ-loop
-add-k c = search needs
-
-loop-less : tie.Need-loop-less Inv-loop μ-loop
-loop-less c = search needs
 
 loop-again : tie.Need-loop-again Inv-loop μ-loop
 loop-again c =
@@ -81,16 +54,16 @@ sorted-spec =
     Inv-loop
     μ-loop
     loop-holds
-    sub-slot
-    mul-slot
-    shared-slice-read-slot
-    slot-requires
-    mul-slot-2
-    shared-slice-read-slot-2
-    slot-requires-2
+    (λ c. search needs)
+    (λ c. search needs)
+    (λ c. search needs)
+    (λ c κs. search needs)
+    (λ c. search needs)
+    (λ c. search needs)
+    (λ c κs. search needs)
     less-requires
     returns
-    add-k
-    loop-less
+    (λ c. search needs)
+    (λ c. search needs)
     loop-again
     returns-2)

@@ -33,21 +33,12 @@ zero-words-requires c κs =
     let l = place-inside (c .before .place .result) (s .args .width) (length (s .args .order .now)) (c .before .place .ensures .1) in
     omega (arith, s .pre .0 .1, c .before .before .before .loop .inv .1)
 
-add-i : tie.Need-add-i Inv-loop μ-loop
-add-i c = search needs
-
-loop-less : tie.Need-loop-less Inv-loop μ-loop
-loop-less c = search needs
-
 loop-again : tie.Need-loop-again Inv-loop μ-loop
 loop-again c =
     let l = c .before .before .before .before .before .before .loop in
     let a = c .before .before .before .before .before .before .before .before .before .args in
     let z = c .before .before .zero-words .ensures in
     (search needs, ap length z ∙ (filled-length _ (l .t) _ (a .width) ∙ l .inv .1), emptied-more (a .t .now) (l .t) _ (a .width) (a .order .now) (l .i) _ (l .inv .2) (c .before .before .before .before .place .ensures .0) z)
-
-same-length : tie.Need-same-length Inv-loop μ-loop
-same-length c = search needs
 
 returns : tie.Need-returns Inv-loop μ-loop
 returns c = emptied-end _ _ _ _ _ _ (c .before .loop .inv .2) (c .before .loop .inv .0) (c .loop-test .left)
@@ -62,8 +53,8 @@ zero-places-spec =
     place-requires
     mul-zero-words
     zero-words-requires
-    add-i
-    loop-less
+    (λ c. search needs)
+    (λ c. search needs)
     loop-again
-    same-length
+    (λ c. search needs)
     returns)

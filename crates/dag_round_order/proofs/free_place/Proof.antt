@@ -27,27 +27,12 @@ abbrev μ-loop2 : tie.MeasureT-loop2
 loop-holds : tie.Need-loop-holds Inv-loop μ-loop Inv-loop2 μ-loop2
 loop-holds c = (search needs, search needs, λ s l. getD-replicate 4096 s false false l ∙ sym (used-none _ s))
 
-mul-slot : tie.Need-mul-slot Inv-loop μ-loop Inv-loop2 μ-loop2
-mul-slot c = search needs
-
-shared-slice-read-slot : tie.Need-shared-slice-read-slot Inv-loop μ-loop Inv-loop2 μ-loop2
-shared-slice-read-slot c = search needs
-
-slot-requires : tie.Need-slot-requires Inv-loop μ-loop Inv-loop2 μ-loop2
-slot-requires c κs = search needs
-
 array-write-seen : tie.Need-array-write-seen Inv-loop μ-loop Inv-loop2 μ-loop2
 array-write-seen c =
     let s = c .before .before .before .before .before in
     let p = c .before .before .before .loop .p in
     let h : getD (s .args .order .now) p 0 < s .args .places = s .pre .1 .1 p (omega arith) in
     search needs
-
-add-p : tie.Need-add-p Inv-loop μ-loop Inv-loop2 μ-loop2
-add-p c = search needs
-
-loop-less : tie.Need-loop-less Inv-loop μ-loop Inv-loop2 μ-loop2
-loop-less c = search needs
 
 loop-again : tie.Need-loop-again Inv-loop μ-loop Inv-loop2 μ-loop2
 loop-again c =
@@ -59,21 +44,12 @@ loop-again c =
 loop2-holds : tie.Need-loop2-holds Inv-loop μ-loop Inv-loop2 μ-loop2
 loop2-holds c = (search needs, λ j l. absurd (omega arith))
 
-array-read-if1 : tie.Need-array-read-if1 Inv-loop μ-loop Inv-loop2 μ-loop2
-array-read-if1 c = search needs
-
 returns : tie.Need-returns Inv-loop μ-loop Inv-loop2 μ-loop2
 returns c =
     let l = c .before .before .loop2 in
     let e : c .before .before .before .before .loop .p ≡ c .before .before .before .before .before .before .args .n = omega arith in
     let h : isUsed (c .before .before .before .before .before .before .args .order .now) (c .before .before .before .before .before .before .args .n) (l .s) ≡ false = rw (sym e, sym (c .before .before .before .before .loop .inv .2 (l .s) (omega arith))) (not-true _ (c .if1 .taken)) in
     sym (free-here (c .before .before .before .before .before .before .args .order .now) (c .before .before .before .before .before .before .args .n) (c .before .before .before .before .before .before .args .places) (l .s) (omega arith) h (l .inv .1))
-
-add-s : tie.Need-add-s Inv-loop μ-loop Inv-loop2 μ-loop2
-add-s c = search needs
-
-loop2-less : tie.Need-loop2-less Inv-loop μ-loop Inv-loop2 μ-loop2
-loop2-less c = search needs
 
 loop2-again : tie.Need-loop2-again Inv-loop μ-loop Inv-loop2 μ-loop2
 loop2-again c =
@@ -97,17 +73,17 @@ free-place-spec =
     Inv-loop2
     μ-loop2
     loop-holds
-    mul-slot
-    shared-slice-read-slot
-    slot-requires
+    (λ c. search needs)
+    (λ c. search needs)
+    (λ c κs. search needs)
     array-write-seen
-    add-p
-    loop-less
+    (λ c. search needs)
+    (λ c. search needs)
     loop-again
     loop2-holds
-    array-read-if1
+    (λ c. search needs)
     returns
-    add-s
-    loop2-less
+    (λ c. search needs)
+    (λ c. search needs)
     loop2-again
     returns-2)

@@ -8,27 +8,12 @@ use borrow.Author.Needs.{needs}
 use Rattle.dag_round_order.proofs.put.Statement.{statement}
 use Rattle.dag_round_order.proofs.put.Tie as tie
 
-seek-requires : tie.Need-seek-requires
-seek-requires c κs = search needs
-
-mul-copy-words : tie.Need-mul-copy-words
-mul-copy-words c = search needs
-
-copy-words-requires : tie.Need-copy-words-requires
-copy-words-requires c κs = search needs
-
 insert-requires : tie.Need-insert-requires
 insert-requires c κs =
     let a = c .before .before .before .before .before .before .before .before .before .before .before .args in
     let f = c .before .before .before .before .before .seek in
     let h : f .result ≤ a .n = rw (f .ensures) (place-le (a .keys .now) (a .order .now) (a .n) (key (a .id .now) 0)) in
     search needs
-
-same-length : tie.Need-same-length
-same-length c = search needs
-
-same-length-2 : tie.Need-same-length-2
-same-length-2 c = search needs
 
 returns : tie.Need-returns
 returns c =
@@ -38,4 +23,4 @@ returns c =
 pub put-spec : {M : Type 1} → statement M
 put-spec =
     tie.close
-    (tie.spec seek-requires mul-copy-words copy-words-requires insert-requires same-length same-length-2 returns)
+    (tie.spec (λ c κs. search needs) (λ c. search needs) (λ c κs. search needs) insert-requires (λ c. search needs) (λ c. search needs) returns)

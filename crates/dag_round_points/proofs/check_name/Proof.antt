@@ -6,21 +6,9 @@ use Rattle.models.specs.Refusal.{numbered}
 use Rattle.dag_round_points.proofs.check_name.Statement.{statement}
 use Rattle.dag_round_points.proofs.check_name.Tie as tie
 
-id-code-requires : tie.Need-id-code-requires
-id-code-requires c κs = search needs
-
 returns : tie.Need-returns
 unfolding nameCode
 returns c = sym (numbered-else-first _ _ _ (c .before .id-code .ensures) (c .if1 .taken))
-
-id-words-requires : tie.Need-id-words-requires
-id-words-requires c κs = search needs
-
-slice-aggregate-check-table : tie.Need-slice-aggregate-check-table
-slice-aggregate-check-table c = search needs
-
-check-table-requires : tie.Need-check-table-requires
-check-table-requires c κs = search needs
 
 returns-2 : tie.Need-returns-2
 unfolding nameCode
@@ -33,9 +21,9 @@ pub check-name-spec : {M : Type 1} → statement M
 check-name-spec =
     tie.close
     (tie.spec
-    id-code-requires
+    (λ c κs. search needs)
     returns
-    id-words-requires
-    slice-aggregate-check-table
-    check-table-requires
+    (λ c κs. search needs)
+    (λ c. search needs)
+    (λ c κs. search needs)
     returns-2)

@@ -15,21 +15,9 @@ returns : tie.Need-returns
 unfolding numbered
 returns c = ap numbered (table-sameDigest _ _ _ _ _ (c .before .find .ensures) (c .if1 .taken))
 
-shared-slice-read-round : tie.Need-shared-slice-read-round
-shared-slice-read-round c = search needs
-
-shared-slice-read-author : tie.Need-shared-slice-read-author
-shared-slice-read-author c = search needs
-
-versions-requires : tie.Need-versions-requires
-versions-requires c κs = search needs
-
 returns-2 : tie.Need-returns-2
 unfolding numbered
 returns-2 c = ap numbered (table-fifth _ _ _ _ _ _ (c .before .before .before .before .before .find .ensures) (c .before .before .before .before .if1 .left) (c .before .versions .ensures) (c .if2 .taken))
-
-free-place-requires : tie.Need-free-place-requires
-free-place-requires c κs = search needs
 
 returns-3 : tie.Need-returns-3
 unfolding numbered
@@ -45,10 +33,10 @@ check-table-spec =
     (tie.spec
     find-requires
     returns
-    shared-slice-read-round
-    shared-slice-read-author
-    versions-requires
+    (λ c. search needs)
+    (λ c. search needs)
+    (λ c κs. search needs)
     returns-2
-    free-place-requires
+    (λ c κs. search needs)
     returns-3
     returns-4)

@@ -15,18 +15,6 @@ returns-2 c = search code-below
 returns-3 : tie.Need-returns-3
 returns-3 c = search code-above
 
-cast-x : tie.Need-cast-x
-cast-x c = search needs
-
-mul-x : tie.Need-mul-x
-mul-x c = search needs
-
-element-copy-out-x : tie.Need-element-copy-out-x
-element-copy-out-x c = search needs
-
-has-peer-requires : tie.Need-has-peer-requires
-has-peer-requires c κs = search needs
-
 returns-4 : tie.Need-returns-4
 unfolding recordOf
 returns-4 c =
@@ -48,9 +36,9 @@ id-code-spec =
     returns
     returns-2
     returns-3
-    cast-x
-    mul-x
-    element-copy-out-x
-    has-peer-requires
+    (λ c. search needs)
+    (λ c. search needs)
+    (λ c. search needs)
+    (λ c κs. search needs)
     returns-4
     returns-5)

@@ -14,15 +14,6 @@ use borrow.Author.Needs.{needs}
 use Rattle.dag_round_points.proofs.name_point.Statement.{statement}
 use Rattle.dag_round_points.proofs.name_point.Tie as tie
 
-id-words-requires : tie.Need-id-words-requires
-id-words-requires c κs = search needs
-
-free-place-requires : tie.Need-free-place-requires
-free-place-requires c κs = search needs
-
-slice-aggregate-put : tie.Need-slice-aggregate-put
-slice-aggregate-put c = search needs
-
 put-requires : tie.Need-put-requires
 put-requires c κs =
     let s = c .before .before .before .before .before .before .before .before .before in
@@ -54,15 +45,6 @@ named-requires c κs =
     let h = has-place (s .args .s) (s .args .keys .now) (s .args .order .now) (s .args .id) (s .pre .0) (s .pre .1 .1) in
     omega (arith, h .1, s .pre .0 .1)
 
-same-length : tie.Need-same-length
-same-length c = search needs
-
-same-length-2 : tie.Need-same-length-2
-same-length-2 c = search needs
-
-same-length-3 : tie.Need-same-length-3
-same-length-3 c = search needs
-
 returns : tie.Need-returns
 unfolding namedKeys namedCerts namedOrder
 returns c =
@@ -84,14 +66,14 @@ pub name-point-spec : {M : Type 1} → statement M
 name-point-spec =
     tie.close
     (tie.spec
-    id-words-requires
-    free-place-requires
-    slice-aggregate-put
+    (λ c κs. search needs)
+    (λ c κs. search needs)
+    (λ c. search needs)
     put-requires
     mul-certs
     slice-write-certs
     named-requires
-    same-length
-    same-length-2
-    same-length-3
+    (λ c. search needs)
+    (λ c. search needs)
+    (λ c. search needs)
     returns)

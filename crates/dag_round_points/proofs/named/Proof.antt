@@ -4,12 +4,9 @@ use Rattle.dag_round_points.specs.Model.{namedState}
 use Rattle.dag_round_points.proofs.named.Statement.{statement}
 use Rattle.dag_round_points.proofs.named.Tie as tie
 
-add-n : tie.Need-add-n
-add-n c = search needs
-
 returns : tie.Need-returns
 unfolding namedState
 returns c = refl
 
 pub named-spec : {M : Type 1} → statement M
-named-spec = tie.close (tie.spec add-n returns)
+named-spec = tie.close (tie.spec (λ c. search needs) returns)

@@ -4,18 +4,9 @@ use Rattle.dag_round_points.specs.Point.{pointCode, searchable, missing-
 use Rattle.dag_round_points.proofs.point_code.Statement.{statement}
 use Rattle.dag_round_points.proofs.point_code.Tie as tie
 
-id-code-requires : tie.Need-id-code-requires
-id-code-requires c κs = search needs
-
 returns : tie.Need-returns
 unfolding pointCode
 returns c = else-first _ _ _ (c .before .id-code .ensures) (c .if1 .taken)
-
-id-words-requires : tie.Need-id-words-requires
-id-words-requires c κs = search needs
-
-slice-aggregate-find-point : tie.Need-slice-aggregate-find-point
-slice-aggregate-find-point c = search needs
 
 find-point-requires : tie.Need-find-point-requires
 find-point-requires c κs =
@@ -38,10 +29,10 @@ pub point-code-spec : {M : Type 1} → statement M
 point-code-spec =
     tie.close
     (tie.spec
-    id-code-requires
+    (λ c κs. search needs)
     returns
-    id-words-requires
-    slice-aggregate-find-point
+    (λ c κs. search needs)
+    (λ c. search needs)
     find-point-requires
     returns-2
     returns-3)

@@ -3,12 +3,6 @@ use borrow.Author.Needs.{needs}
 use Rattle.dag_round_points.proofs.point_place.Statement.{statement}
 use Rattle.dag_round_points.proofs.point_place.Tie as tie
 
-id-words-requires : tie.Need-id-words-requires
-id-words-requires c κs = search needs
-
-slice-aggregate-find-point : tie.Need-slice-aggregate-find-point
-slice-aggregate-find-point c = search needs
-
 find-point-requires : tie.Need-find-point-requires
 find-point-requires c κs =
     let s = c .before .before .before .before in
@@ -31,8 +25,8 @@ pub point-place-spec : {M : Type 1} → statement M
 point-place-spec =
     tie.close
     (tie.spec
-    id-words-requires
-    slice-aggregate-find-point
+    (λ c κs. search needs)
+    (λ c. search needs)
     find-point-requires
     place-requires
     returns)

@@ -17,20 +17,8 @@ loop-holds : tie.Need-loop-holds Inv-loop μ-loop
 unfolding any
 loop-holds c = (search needs, refl)
 
-add-is-dangling : tie.Need-add-is-dangling Inv-loop μ-loop
-add-is-dangling c = search needs
-
-is-dangling-requires : tie.Need-is-dangling-requires Inv-loop μ-loop
-is-dangling-requires c κs = search needs
-
 returns : tie.Need-returns Inv-loop μ-loop
 returns c = sym (any-intro _ _ _ (c .before .before .loop-test .taken) (sym (c .before .is-dangling .ensures) ∙ c .if1 .taken))
-
-add-i : tie.Need-add-i Inv-loop μ-loop
-add-i c = search needs
-
-loop-less : tie.Need-loop-less Inv-loop μ-loop
-loop-less c = search needs
 
 loop-again : tie.Need-loop-again Inv-loop μ-loop
 loop-again c = (search needs, none-more _ _ (c .before .before .before .loop .inv .1) (sym (c .before .is-dangling .ensures) ∙ c .if1 .left))
@@ -45,10 +33,10 @@ any-dangling-spec =
     Inv-loop
     μ-loop
     loop-holds
-    add-is-dangling
-    is-dangling-requires
+    (λ c. search needs)
+    (λ c κs. search needs)
     returns
-    add-i
-    loop-less
+    (λ c. search needs)
+    (λ c. search needs)
     loop-again
     returns-2)

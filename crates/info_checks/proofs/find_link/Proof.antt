@@ -4,21 +4,6 @@ use borrow.Author.Needs.{needs}
 use Rattle.info_checks.proofs.find_link.Statement.{statement}
 use Rattle.info_checks.proofs.find_link.Tie as tie
 
-mul-id-at : tie.Need-mul-id-at
-mul-id-at c = search needs
-
-add-id-at : tie.Need-add-id-at
-add-id-at c = search needs
-
-peer-requires : tie.Need-peer-requires
-peer-requires c κs = search needs
-
-id-at-requires : tie.Need-id-at-requires
-id-at-requires c κs = search needs
-
-slice-aggregate-find-point : tie.Need-slice-aggregate-find-point
-slice-aggregate-find-point c = search needs
-
 find-point-requires : tie.Need-find-point-requires
 find-point-requires c κs =
     let s = c .before .before .before .before .before .before in
@@ -29,4 +14,4 @@ returns c = found-by _ _ _ _ _ _ _ _ _ (c .before .before .before .peer .ensures
 
 pub find-link-spec : {M : Type 1} → statement M
 find-link-spec =
-    tie.close (tie.spec mul-id-at add-id-at peer-requires id-at-requires slice-aggregate-find-point find-point-requires returns)
+    tie.close (tie.spec (λ c. search needs) (λ c. search needs) (λ c κs. search needs) (λ c κs. search needs) (λ c. search needs) find-point-requires returns)

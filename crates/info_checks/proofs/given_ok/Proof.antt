@@ -7,14 +7,8 @@ use borrow.Author.Needs.{needs}
 use Rattle.info_checks.proofs.given_ok.Statement.{statement}
 use Rattle.info_checks.proofs.given_ok.Tie as tie
 
-refs-ok-requires : tie.Need-refs-ok-requires
-refs-ok-requires c κs = search needs
-
 returns : tie.Need-returns
 returns c = chain-no _ _ _ (c .before .refs-ok .ensures) (c .if1 .taken) ∙ tests-are _ _ _ (c .before .before .before .pre)
-
-refs-ok-requires-2 : tie.Need-refs-ok-requires-2
-refs-ok-requires-2 c κs = search needs
 
 returns-2 : tie.Need-returns-2
 returns-2 c =
@@ -27,12 +21,6 @@ returns-3 c =
     chain-yes _ _ _ _ (d .before .before .before .refs-ok .ensures) (d .before .before .if1 .left) (chain-yes _ _ _ _ (d .before .refs-ok2 .ensures) (d .if2 .left) (sym (and-no _ (le-ltb _ _ (c .if3 .taken)))))
     ∙ tests-are _ _ _ (d .before .before .before .before .before .pre)
 
-is-bare-requires : tie.Need-is-bare-requires
-is-bare-requires c κs = search needs
-
-status-ok-requires : tie.Need-status-ok-requires
-status-ok-requires c κs = search needs
-
 returns-4 : tie.Need-returns-4
 returns-4 c =
     let d = c .before .before .before .before .before in
@@ -43,11 +31,11 @@ pub given-ok-spec : {M : Type 1} → statement M
 given-ok-spec =
     tie.close
     (tie.spec
-    refs-ok-requires
+    (λ c κs. search needs)
     returns
-    refs-ok-requires-2
+    (λ c κs. search needs)
     returns-2
     returns-3
-    is-bare-requires
-    status-ok-requires
+    (λ c κs. search needs)
+    (λ c κs. search needs)
     returns-4)

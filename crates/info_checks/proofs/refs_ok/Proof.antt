@@ -5,9 +5,6 @@ use borrow.Author.Needs.{needs}
 use Rattle.info_checks.proofs.refs_ok.Statement.{statement}
 use Rattle.info_checks.proofs.refs_ok.Tie as tie
 
-rises-requires : tie.Need-rises-requires
-rises-requires c κs = search needs
-
 returns : tie.Need-returns
 returns c = kind-falls _ _ _ _ _ (c .before .before .before .pre .1) (sym (c .before .rises .ensures) ∙ not-true _ (c .if1 .taken))
 
@@ -18,4 +15,4 @@ returns-3 : tie.Need-returns-3
 returns-3 c = kind-far _ _ _ _ _ (c .before .before .before .before .pre .1) (sym (c .before .before .rises .ensures) ∙ not-false _ (c .before .if1 .left)) (c .if2 .left)
 
 pub refs-ok-spec : {M : Type 1} → statement M
-refs-ok-spec = tie.close (tie.spec rises-requires returns returns-2 returns-3)
+refs-ok-spec = tie.close (tie.spec (λ c κs. search needs) returns returns-2 returns-3)

@@ -14,26 +14,11 @@ abbrev μ-loop : tie.MeasureT-loop
 loop-holds : tie.Need-loop-holds Inv-loop μ-loop
 loop-holds c = (search needs, search needs, rise-start _ _ _)
 
-add-peer : tie.Need-add-peer Inv-loop μ-loop
-add-peer c = search needs
-
-peer-requires : tie.Need-peer-requires Inv-loop μ-loop
-peer-requires c κs = search needs
-
 returns : tie.Need-returns Inv-loop μ-loop
 returns c = rise-low _ _ _ _ _ (c .before .before .before .loop .inv .2) (c .before .before .loop-test .taken) _ (c .before .peer .ensures) (c .if1 .taken)
 
 returns-2 : tie.Need-returns-2 Inv-loop μ-loop
 returns-2 c = rise-high _ _ _ _ _ (c .before .before .before .before .loop .inv .2) (c .before .before .before .loop-test .taken) _ (c .before .before .peer .ensures) (c .before .if1 .left) (c .if2 .taken)
-
-add-low : tie.Need-add-low Inv-loop μ-loop
-add-low c = search needs
-
-add-i : tie.Need-add-i Inv-loop μ-loop
-add-i c = search needs
-
-loop-less : tie.Need-loop-less Inv-loop μ-loop
-loop-less c = search needs
 
 loop-again : tie.Need-loop-again Inv-loop μ-loop
 loop-again c = (search needs, search needs, rise-more _ _ _ _ _ (c .before .before .before .before .loop .inv .2) (c .before .before .before .loop-test .taken) _ (c .before .before .peer .ensures) (c .before .if1 .left) (c .if2 .left))
@@ -48,12 +33,12 @@ rises-spec =
     Inv-loop
     μ-loop
     loop-holds
-    add-peer
-    peer-requires
+    (λ c. search needs)
+    (λ c κs. search needs)
     returns
     returns-2
-    add-low
-    add-i
-    loop-less
+    (λ c. search needs)
+    (λ c. search needs)
+    (λ c. search needs)
     loop-again
     returns-3)

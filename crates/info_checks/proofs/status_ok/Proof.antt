@@ -3,20 +3,8 @@ use borrow.Author.Needs.{needs}
 use Rattle.info_checks.proofs.status_ok.Statement.{statement}
 use Rattle.info_checks.proofs.status_ok.Tie as tie
 
-of-status-requires : tie.Need-of-status-requires
-of-status-requires c κs = search needs
-
-enum-known-case : tie.Need-enum-known-case
-enum-known-case c = search needs
-
-has-info-requires : tie.Need-has-info-requires
-has-info-requires c κs = search needs
-
 returns : tie.Need-returns
 returns c = status-full _ _ _ _ _ (c .before .before .before .before .before .of-status .ensures) (c .before .before .before .case .given .1) (c .before .has-info .ensures) (c .if1 .taken)
-
-enum-told : tie.Need-enum-told
-enum-told c = search needs
 
 returns-2 : tie.Need-returns-2
 returns-2 c = status-bare _ _ _ _ _ (c .before .before .before .before .before .of-status .ensures) (c .before .before .before .case .given .1) (c .before .has-info .ensures) (c .if1 .left)
@@ -28,10 +16,10 @@ pub status-ok-spec : {M : Type 1} → statement M
 status-ok-spec =
     tie.close
     (tie.spec
-    of-status-requires
-    enum-known-case
-    has-info-requires
+    (λ c κs. search needs)
+    (λ c. search needs)
+    (λ c κs. search needs)
     returns
-    enum-told
+    (λ c. search needs)
     returns-2
     returns-3)

@@ -10,21 +10,9 @@ returns c = not-shaped _ _ _ (λ h. omega (arith, h .0, c .if1 .taken))
 returns-2 : tie.Need-returns-2
 returns-2 c = not-shaped _ _ _ (λ h. omega (arith, h .1, c .if2 .taken))
 
-add-if3 : tie.Need-add-if3
-add-if3 c = search needs
-
-mul-if3 : tie.Need-mul-if3
-mul-if3 c = search needs
-
 returns-3 : tie.Need-returns-3
 returns-3 c = not-shaped _ _ _ (λ h. c .if3 .taken (h .2))
 
-given-ok-requires : tie.Need-given-ok-requires
-given-ok-requires c κs = search needs
-
-returns-4 : tie.Need-returns-4
-returns-4 c = search needs
-
 pub well-formed-spec : {M : Type 1} → statement M
 well-formed-spec =
-    tie.close (tie.spec returns returns-2 add-if3 mul-if3 returns-3 given-ok-requires returns-4)
+    tie.close (tie.spec returns returns-2 (λ c. search needs) (λ c. search needs) returns-3 (λ c κs. search needs) (λ c. search needs))

@@ -6,38 +6,11 @@ use Rattle.info_resolve.specs.Model.{info-resolved, info-unformed, info-
 use Rattle.info_resolve.proofs.check_resolution.Statement.{statement}
 use Rattle.info_resolve.proofs.check_resolution.Tie as tie
 
-mul-status : tie.Need-mul-status
-mul-status c = search needs
-
-add-status : tie.Need-add-status
-add-status c = search needs
-
-mul-status-2 : tie.Need-mul-status-2
-mul-status-2 c = search needs
-
-shared-slice-read-status : tie.Need-shared-slice-read-status
-shared-slice-read-status c = search needs
-
 returns : tie.Need-returns
 unfolding numbered
 returns c =
     let a = c .before .before .before .before .before .args in
     ap numbered (info-resolved (a .s) (a .keys .now) (a .order .now) (a .q) (a .info) (a .refs .now) (c .if1 .taken))
-
-mul-round : tie.Need-mul-round
-mul-round c = search needs
-
-add-round : tie.Need-add-round
-add-round c = search needs
-
-mul-round-2 : tie.Need-mul-round-2
-mul-round-2 c = search needs
-
-shared-slice-read-round : tie.Need-shared-slice-read-round
-shared-slice-read-round c = search needs
-
-well-formed-requires : tie.Need-well-formed-requires
-well-formed-requires c κs = search needs
 
 returns-2 : tie.Need-returns-2
 unfolding numbered
@@ -79,16 +52,16 @@ pub check-resolution-spec : {M : Type 1} → statement M
 check-resolution-spec =
     tie.close
     (tie.spec
-    mul-status
-    add-status
-    mul-status-2
-    shared-slice-read-status
+    (λ c. search needs)
+    (λ c. search needs)
+    (λ c. search needs)
+    (λ c. search needs)
     returns
-    mul-round
-    add-round
-    mul-round-2
-    shared-slice-read-round
-    well-formed-requires
+    (λ c. search needs)
+    (λ c. search needs)
+    (λ c. search needs)
+    (λ c. search needs)
+    (λ c κs. search needs)
     returns-2
     any-dangling-requires
     returns-3

@@ -4,15 +4,6 @@ use borrow.Author.Needs.{needs}
 use Rattle.info_store.proofs.marks.Statement.{statement}
 use Rattle.info_store.proofs.marks.Tie as tie
 
-weight-requires : tie.Need-weight-requires
-weight-requires c κs = search needs
-
-weight-requires-2 : tie.Need-weight-requires-2
-weight-requires-2 c κs = search needs
-
-weight-requires-3 : tie.Need-weight-requires-3
-weight-requires-3 c κs = search needs
-
 add-result : tie.Need-add-result
 add-result c =
     let a = c .before .before .before .args in
@@ -29,4 +20,4 @@ returns c = marks-by _ _ _ _ _ _ (c .before .before .weight .ensures) (c .before
 pub marks-spec : {M : Type 1} → statement M
 marks-spec =
     tie.close
-    (tie.spec weight-requires weight-requires-2 weight-requires-3 add-result add-result-2 returns)
+    (tie.spec (λ c κs. search needs) (λ c κs. search needs) (λ c κs. search needs) add-result add-result-2 returns)

@@ -7,39 +7,6 @@ use borrow.Author.Needs.{needs}
 use Rattle.info_store.proofs.put_link.Statement.{statement}
 use Rattle.info_store.proofs.put_link.Tie as tie
 
-mul-links : tie.Need-mul-links
-mul-links c = search needs
-
-add-links : tie.Need-add-links
-add-links c = search needs
-
-add-links-2 : tie.Need-add-links-2
-add-links-2 c = search needs
-
-mul-links-2 : tie.Need-mul-links-2
-mul-links-2 c = search needs
-
-slice-write-links : tie.Need-slice-write-links
-slice-write-links c = search needs
-
-mul-copy-words : tie.Need-mul-copy-words
-mul-copy-words c = search needs
-
-add-copy-words : tie.Need-add-copy-words
-add-copy-words c = search needs
-
-mul-copy-words-2 : tie.Need-mul-copy-words-2
-mul-copy-words-2 c = search needs
-
-add-copy-words-2 : tie.Need-add-copy-words-2
-add-copy-words-2 c = search needs
-
-mul-copy-words-3 : tie.Need-mul-copy-words-3
-mul-copy-words-3 c = search needs
-
-add-copy-words-3 : tie.Need-add-copy-words-3
-add-copy-words-3 c = search needs
-
 copy-words-requires : tie.Need-copy-words-requires
 copy-words-requires c κs =
     let s = c .before .before .before in
@@ -59,17 +26,17 @@ pub put-link-spec : {M : Type 1} → statement M
 put-link-spec =
     tie.close
     (tie.spec
-    mul-links
-    add-links
-    add-links-2
-    mul-links-2
-    slice-write-links
-    mul-copy-words
-    add-copy-words
-    mul-copy-words-2
-    add-copy-words-2
-    mul-copy-words-3
-    add-copy-words-3
+    (λ c. search needs)
+    (λ c. search needs)
+    (λ c. search needs)
+    (λ c. search needs)
+    (λ c. search needs)
+    (λ c. search needs)
+    (λ c. search needs)
+    (λ c. search needs)
+    (λ c. search needs)
+    (λ c. search needs)
+    (λ c. search needs)
     copy-words-requires
     same-length
     returns)

@@ -13,30 +13,9 @@ Inv-loop s keys links₀ order q refs from m d round base i₀ links i = (i ≤ 
 abbrev μ-loop : tie.MeasureT-loop
 μ-loop s keys links₀ order q refs from m d round base i₀ links i = m - i
 
-sub-slot : tie.Need-sub-slot Inv-loop μ-loop
-sub-slot c = search needs
-
-mul-slot : tie.Need-mul-slot Inv-loop μ-loop
-mul-slot c = search needs
-
-slot-requires : tie.Need-slot-requires Inv-loop μ-loop
-slot-requires c κs = search needs
-
 loop-holds : tie.Need-loop-holds Inv-loop μ-loop
 unfolding linksPut
 loop-holds c = (search needs, refl, refl)
-
-add-j : tie.Need-add-j Inv-loop μ-loop
-add-j c = search needs
-
-peer-requires : tie.Need-peer-requires Inv-loop μ-loop
-peer-requires c κs = search needs
-
-slot-requires-2 : tie.Need-slot-requires-2 Inv-loop μ-loop
-slot-requires-2 c κs = search needs
-
-target-word-requires : tie.Need-target-word-requires Inv-loop μ-loop
-target-word-requires c κs = search needs
 
 add-put-link : tie.Need-add-put-link Inv-loop μ-loop
 add-put-link c =
@@ -51,21 +30,12 @@ put-link-requires c κs =
     let p = s .pre .1 .1 (l .i) (c .before .before .before .before .loop-test .taken) in
     (omega (arith, s .pre .1 .0 .0, l .inv .1), omega (arith, s .pre .1 .0 .3, p, c .before .before .slot2 .ensures, c .before .before .before .before .before .before .slot .ensures), omega (arith, s .pre .1 .0 .1, c .before .before .before .before .loop-test .taken))
 
-add-i : tie.Need-add-i Inv-loop μ-loop
-add-i c = search needs
-
-loop-less : tie.Need-loop-less Inv-loop μ-loop
-loop-less c = search needs
-
 loop-again : tie.Need-loop-again Inv-loop μ-loop
 loop-again c =
     let l = c .before .before .before .before .before .before .before .before .loop in
     let z = c .before .before .put-link .ensures in
     let k = ap₂ _+_ (c .before .before .before .before .before .before .before .before .before .slot .ensures) (c .before .before .before .before .before .slot2 .ensures ∙ c .before .before .before .before .before .before .peer .ensures) in
     (search needs, ap length z ∙ (link-length (l .links) _ _ _ _ _ ∙ l .inv .1), links-more _ _ _ _ _ _ _ _ _ _ _ (l .inv .2) k (c .before .before .before .before .target-word .ensures) z)
-
-same-length : tie.Need-same-length Inv-loop μ-loop
-same-length c = search needs
 
 returns : tie.Need-returns Inv-loop μ-loop
 returns c = links-end _ _ _ _ _ _ _ _ _ (c .before .loop .inv .2) (c .before .loop .inv .0) (c .loop-test .left)
@@ -76,18 +46,18 @@ put-links-spec =
     (tie.spec
     Inv-loop
     μ-loop
-    sub-slot
-    mul-slot
-    slot-requires
+    (λ c. search needs)
+    (λ c. search needs)
+    (λ c κs. search needs)
     loop-holds
-    add-j
-    peer-requires
-    slot-requires-2
-    target-word-requires
+    (λ c. search needs)
+    (λ c κs. search needs)
+    (λ c κs. search needs)
+    (λ c κs. search needs)
     add-put-link
     put-link-requires
-    add-i
-    loop-less
+    (λ c. search needs)
+    (λ c. search needs)
     loop-again
-    same-length
+    (λ c. search needs)
     returns)

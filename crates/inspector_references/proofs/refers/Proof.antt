@@ -19,21 +19,9 @@ loop-holds : tie.Need-loop-holds Inv-loop μ-loop
 unfolding any
 loop-holds c = (search needs, refl)
 
-add-refers-by : tie.Need-add-refers-by Inv-loop μ-loop
-add-refers-by c = search needs
-
-refers-by-requires : tie.Need-refers-by-requires Inv-loop μ-loop
-refers-by-requires c κs = search needs
-
 returns : tie.Need-returns Inv-loop μ-loop
 unfolding refersAt
 returns c = sym (any-intro _ _ _ (c .before .before .loop-test .taken) (sym (c .before .refers-by .ensures) ∙ c .if1 .taken))
-
-add-k : tie.Need-add-k Inv-loop μ-loop
-add-k c = search needs
-
-loop-less : tie.Need-loop-less Inv-loop μ-loop
-loop-less c = search needs
 
 loop-again : tie.Need-loop-again Inv-loop μ-loop
 loop-again c = (search needs, none-more _ _ (c .before .before .before .loop .inv .1) (sym (c .before .refers-by .ensures) ∙ c .if1 .left))
@@ -49,10 +37,10 @@ refers-spec =
     Inv-loop
     μ-loop
     loop-holds
-    add-refers-by
-    refers-by-requires
+    (λ c. search needs)
+    (λ c κs. search needs)
     returns
-    add-k
-    loop-less
+    (λ c. search needs)
+    (λ c. search needs)
     loop-again
     returns-2)

@@ -12,17 +12,11 @@ Inv-loop input₀ number₀ input number = 65536 ≡ length input
 abbrev μ-loop : tie.MeasureT-loop
 μ-loop input₀ number₀ input number = 18446744073709551615 - number
 
-large-buffer-requires : tie.Need-large-buffer-requires Inv-loop μ-loop
-large-buffer-requires c κs = search needs
-
 loop-holds : tie.Need-loop-holds Inv-loop μ-loop
 loop-holds c = c .large-buffer .ensures
 
 slice-aggregate-play-next : tie.Need-slice-aggregate-play-next Inv-loop μ-loop
 slice-aggregate-play-next c = c .before .before .loop .inv
-
-play-next-requires : tie.Need-play-next-requires Inv-loop μ-loop
-play-next-requires c κs = search needs
 
 add-number : tie.Need-add-number Inv-loop μ-loop
 add-number c = omega (arith, c .before .before .before .before .loop-test .taken)
@@ -45,10 +39,10 @@ main-spec =
     (tie.spec
     Inv-loop
     μ-loop
-    large-buffer-requires
+    (λ c κs. search needs)
     loop-holds
     slice-aggregate-play-next
-    play-next-requires
+    (λ c κs. search needs)
     add-number
     loop-less
     loop-again

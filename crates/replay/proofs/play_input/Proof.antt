@@ -13,9 +13,6 @@ Inv-loop keys₀ links₀ certs₀ order₀ answer₀ input₀ now₀ base₀ he
 abbrev μ-loop : tie.MeasureT-loop
 μ-loop keys₀ links₀ certs₀ order₀ answer₀ input₀ now₀ base₀ held₀ turns₀ keys links certs order answer input now base held turns = turns
 
-unstarted-requires : tie.Need-unstarted-requires Inv-loop μ-loop
-unstarted-requires c κs = search needs
-
 loop-holds : tie.Need-loop-holds Inv-loop μ-loop
 loop-holds c = (search needs, refl, refl, refl, refl, refl, refl)
 
@@ -79,7 +76,7 @@ play-input-spec =
     (tie.spec
     Inv-loop
     μ-loop
-    unstarted-requires
+    (λ c κs. search needs)
     loop-holds
     play-some-requires
     sub-turns

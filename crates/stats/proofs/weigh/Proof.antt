@@ -3,9 +3,6 @@ use borrow.Author.Needs.{needs}
 use Rattle.stats.proofs.weigh.Statement.{statement}
 use Rattle.stats.proofs.weigh.Tie as tie
 
-weight-of-requires : tie.Need-weight-of-requires
-weight-of-requires c κs = search needs
-
 mul-result : tie.Need-mul-result
 mul-result c = let h = weighed _ _ _ (c .before .fits .count .fits) (c .weight-of .ensures) in search needs
 
@@ -13,4 +10,4 @@ returns : tie.Need-returns
 returns c = weighed _ _ _ (c .before .fits .count .fits) (c .weight-of .ensures)
 
 pub weigh-spec : {M : Type 1} → statement M
-weigh-spec = tie.close (tie.spec weight-of-requires mul-result returns)
+weigh-spec = tie.close (tie.spec (λ c κs. search needs) mul-result returns)

@@ -23,35 +23,11 @@ loop-holds c = (search needs, below-none _)
 place-requires : tie.Need-place-requires Inv-loop μ-loop
 place-requires c κs = (search needs, c .before .before .before .before .before .pre .1)
 
-mul-t10 : tie.Need-mul-t10 Inv-loop μ-loop
-mul-t10 c = search needs
-
-shared-slice-read-t12 : tie.Need-shared-slice-read-t12 Inv-loop μ-loop
-shared-slice-read-t12 c = search needs
-
-height-requires : tie.Need-height-requires Inv-loop μ-loop
-height-requires c κs = search needs
-
-add-if1 : tie.Need-add-if1 Inv-loop μ-loop
-add-if1 c = search needs
-
-mul-if1 : tie.Need-mul-if1 Inv-loop μ-loop
-mul-if1 c = search needs
-
-shared-slice-read-if1 : tie.Need-shared-slice-read-if1 Inv-loop μ-loop
-shared-slice-read-if1 c = search needs
-
 returns : tie.Need-returns Inv-loop μ-loop
 unfolding agrees
 returns c =
     let at-args = c .before .before .before .before .before .before .before .before .before .before .before .args in
     sym (every-not _ _ _ (c .before .before .before .before .before .before .loop-test .taken) (sym (ap (agreesAt (at-args .cells .now) (at-args .certs .now)) (c .before .before .before .before .before .place .ensures .0)) ∙ agrees-no (at-args .cells .now) (at-args .certs .now) (c .before .before .before .before .before .place .result) _ (c .before .before .before .height .ensures) (c .if1 .taken)))
-
-add-i : tie.Need-add-i Inv-loop μ-loop
-add-i c = search needs
-
-loop-less : tie.Need-loop-less Inv-loop μ-loop
-loop-less c = search needs
 
 loop-again : tie.Need-loop-again Inv-loop μ-loop
 loop-again c =
@@ -70,14 +46,14 @@ agree-spec =
     μ-loop
     loop-holds
     place-requires
-    mul-t10
-    shared-slice-read-t12
-    height-requires
-    add-if1
-    mul-if1
-    shared-slice-read-if1
+    (λ c. search needs)
+    (λ c. search needs)
+    (λ c κs. search needs)
+    (λ c. search needs)
+    (λ c. search needs)
+    (λ c. search needs)
     returns
-    add-i
-    loop-less
+    (λ c. search needs)
+    (λ c. search needs)
     loop-again
     returns-2)

@@ -4,14 +4,8 @@ use borrow.Author.Needs.{needs}
 use Rattle.tables_heights.proofs.heights_hold.Statement.{statement}
 use Rattle.tables_heights.proofs.heights_hold.Tie as tie
 
-slice-aggregate-push-all : tie.Need-slice-aggregate-push-all
-slice-aggregate-push-all c = search needs
-
 push-all-requires : tie.Need-push-all-requires
 push-all-requires c κs = (search needs, c .before .before .before .before .before .pre .1)
-
-slice-aggregate-agree : tie.Need-slice-aggregate-agree
-slice-aggregate-agree c = search needs
 
 agree-requires : tie.Need-agree-requires
 agree-requires c κs = (search needs, c .before .before .before .before .before .before .before .before .pre .1)
@@ -24,8 +18,8 @@ pub heights-hold-spec : {M : Type 1} → statement M
 heights-hold-spec =
     tie.close
     (tie.spec
-    slice-aggregate-push-all
+    (λ c. search needs)
     push-all-requires
-    slice-aggregate-agree
+    (λ c. search needs)
     agree-requires
     returns)

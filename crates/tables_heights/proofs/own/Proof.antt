@@ -6,9 +6,6 @@ use borrow.Author.Needs.{needs}
 use Rattle.tables_heights.proofs.own.Statement.{statement}
 use Rattle.tables_heights.proofs.own.Tie as tie
 
-is-top-requires : tie.Need-is-top-requires
-is-top-requires c κs = search needs
-
 returns : tie.Need-returns
 unfolding flagsOf
 returns c = sym (own-top _ _ (sym (c .before .is-top .ensures) ∙ c .if1 .taken))
@@ -18,4 +15,4 @@ unfolding flagsOf
 returns-2 c = sym (own-none _ _ (sym (c .before .is-top .ensures) ∙ c .if1 .left))
 
 pub own-spec : {M : Type 1} → statement M
-own-spec = tie.close (tie.spec is-top-requires returns returns-2)
+own-spec = tie.close (tie.spec (λ c κs. search needs) returns returns-2)

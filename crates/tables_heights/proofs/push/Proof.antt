@@ -22,39 +22,6 @@ loop-holds : tie.Need-loop-holds Inv-loop μ-loop
 unfolding pushed
 loop-holds c = (search needs, refl)
 
-add-d : tie.Need-add-d Inv-loop μ-loop
-add-d c = search needs
-
-cast-d : tie.Need-cast-d Inv-loop μ-loop
-cast-d c = search needs
-
-mul-raise : tie.Need-mul-raise Inv-loop μ-loop
-mul-raise c = search needs
-
-add-raise : tie.Need-add-raise Inv-loop μ-loop
-add-raise c = search needs
-
-add-raise-2 : tie.Need-add-raise-2 Inv-loop μ-loop
-add-raise-2 c = search needs
-
-mul-raise-2 : tie.Need-mul-raise-2 Inv-loop μ-loop
-mul-raise-2 c = search needs
-
-shared-slice-read-raise : tie.Need-shared-slice-read-raise Inv-loop μ-loop
-shared-slice-read-raise c = search needs
-
-less-requires : tie.Need-less-requires Inv-loop μ-loop
-less-requires c κs = search needs
-
-raise-requires : tie.Need-raise-requires Inv-loop μ-loop
-raise-requires c κs = search needs
-
-add-k : tie.Need-add-k Inv-loop μ-loop
-add-k c = search needs
-
-loop-less : tie.Need-loop-less Inv-loop μ-loop
-loop-less c = search needs
-
 loop-again : tie.Need-loop-again Inv-loop μ-loop
 loop-again c = (search needs, pushed-more _ _ _ _ _ _ _ (c .before .before .before .before .before .before .before .loop .inv .1) (c .before .before .raise .ensures) (c .before .before .before .less .ensures))
 
@@ -72,17 +39,17 @@ push-spec =
     μ-loop
     returns
     loop-holds
-    add-d
-    cast-d
-    mul-raise
-    add-raise
-    add-raise-2
-    mul-raise-2
-    shared-slice-read-raise
-    less-requires
-    raise-requires
-    add-k
-    loop-less
+    (λ c. search needs)
+    (λ c. search needs)
+    (λ c. search needs)
+    (λ c. search needs)
+    (λ c. search needs)
+    (λ c. search needs)
+    (λ c. search needs)
+    (λ c κs. search needs)
+    (λ c κs. search needs)
+    (λ c. search needs)
+    (λ c. search needs)
     loop-again
     same-length
     returns-2)

@@ -22,24 +22,6 @@ loop-holds c = (search needs, refl)
 place-requires : tie.Need-place-requires Inv-loop μ-loop
 place-requires c κs = (search needs, c .before .before .before .before .before .before .before .pre .1)
 
-mul-t13 : tie.Need-mul-t13 Inv-loop μ-loop
-mul-t13 c = search needs
-
-shared-slice-read-t15 : tie.Need-shared-slice-read-t15 Inv-loop μ-loop
-shared-slice-read-t15 c = search needs
-
-live-links-requires : tie.Need-live-links-requires Inv-loop μ-loop
-live-links-requires c κs = search needs
-
-push-one-requires : tie.Need-push-one-requires Inv-loop μ-loop
-push-one-requires c κs = search needs
-
-add-i : tie.Need-add-i Inv-loop μ-loop
-add-i c = search needs
-
-loop-less : tie.Need-loop-less Inv-loop μ-loop
-loop-less c = search needs
-
 loop-again : tie.Need-loop-again Inv-loop μ-loop
 unfolding heightOf
 loop-again c = (search needs, all-more _ _ _ _ _ _ _ _ _ _ _ _ (c .before .before .before .before .before .before .before .before .loop .inv .1) (c .before .before .before .before .before .before .place .ensures .0) (c .before .before .before .live-links .ensures .0) (c .before .before .push-one .ensures))
@@ -58,12 +40,12 @@ push-all-spec =
     μ-loop
     loop-holds
     place-requires
-    mul-t13
-    shared-slice-read-t15
-    live-links-requires
-    push-one-requires
-    add-i
-    loop-less
+    (λ c. search needs)
+    (λ c. search needs)
+    (λ c κs. search needs)
+    (λ c κs. search needs)
+    (λ c. search needs)
+    (λ c. search needs)
     loop-again
     same-length
     returns)

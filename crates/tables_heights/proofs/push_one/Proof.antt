@@ -6,21 +6,6 @@ use borrow.Author.Needs.{needs}
 use Rattle.tables_heights.proofs.push_one.Statement.{statement}
 use Rattle.tables_heights.proofs.push_one.Tie as tie
 
-add-raise : tie.Need-add-raise
-add-raise c = search needs
-
-own-requires : tie.Need-own-requires
-own-requires c κs = search needs
-
-raise-requires : tie.Need-raise-requires
-raise-requires c κs = search needs
-
-height-requires : tie.Need-height-requires
-height-requires c κs = search needs
-
-push-requires : tie.Need-push-requires
-push-requires c κs = search needs
-
 same-length : tie.Need-same-length
 same-length c = ap length (c .before .before .push .ensures) ∙ pushed-length _ _ _ _ ∙ ap length (c .before .before .before .before .before .before .before .raise .ensures) ∙ raised-length _ _ _
 
@@ -29,4 +14,4 @@ returns c = one-more _ _ _ _ _ _ _ _ _ _ (c .before .before .before .before .bef
 
 pub push-one-spec : {M : Type 1} → statement M
 push-one-spec =
-    tie.close (tie.spec add-raise own-requires raise-requires height-requires push-requires same-length returns)
+    tie.close (tie.spec (λ c. search needs) (λ c κs. search needs) (λ c κs. search needs) (λ c κs. search needs) (λ c κs. search needs) same-length returns)

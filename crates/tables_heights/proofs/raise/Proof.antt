@@ -5,21 +5,6 @@ use borrow.Author.Needs.{needs}
 use Rattle.tables_heights.proofs.raise.Statement.{statement}
 use Rattle.tables_heights.proofs.raise.Tie as tie
 
-mul-if2 : tie.Need-mul-if2
-mul-if2 c = search needs
-
-slice-read-if2 : tie.Need-slice-read-if2
-slice-read-if2 c = search needs
-
-mul-cells : tie.Need-mul-cells
-mul-cells c = search needs
-
-slice-write-cells : tie.Need-slice-write-cells
-slice-write-cells c = search needs
-
-same-length : tie.Need-same-length
-same-length c = search needs
-
 returns : tie.Need-returns
 returns c = sym (raised-up _ _ _ (c .if2 .taken))
 
@@ -33,11 +18,11 @@ pub raise-spec : {M : Type 1} → statement M
 raise-spec =
     tie.close
     (tie.spec
-    mul-if2
-    slice-read-if2
-    mul-cells
-    slice-write-cells
-    same-length
+    (λ c. search needs)
+    (λ c. search needs)
+    (λ c. search needs)
+    (λ c. search needs)
+    (λ c. search needs)
     returns
     returns-2
     returns-3)

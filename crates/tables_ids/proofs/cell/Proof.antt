@@ -4,15 +4,9 @@ use borrow.Author.Needs.{needs}
 use Rattle.tables_ids.proofs.cell.Statement.{statement}
 use Rattle.tables_ids.proofs.cell.Tie as tie
 
-mul-result : tie.Need-mul-result
-mul-result c = search needs
-
-add-result : tie.Need-add-result
-add-result c = search needs
-
 returns : tie.Need-returns
 unfolding cellOf
 returns c = search needs
 
 pub cell-spec : {M : Type 1} → statement M
-cell-spec = tie.close (tie.spec mul-result add-result returns)
+cell-spec = tie.close (tie.spec (λ c. search needs) (λ c. search needs) returns)

@@ -26,21 +26,12 @@ place-requires c κs = (search needs, c .before .before .before .before .before 
 count-one-requires : tie.Need-count-one-requires Inv-loop μ-loop
 count-one-requires c κs = (c .before .before .before .loop .inv .2 .0, search needs)
 
-same-length : tie.Need-same-length Inv-loop μ-loop
-same-length c = search needs
-
 returns : tie.Need-returns Inv-loop μ-loop
 unfolding versionsHold
 returns c =
     let at-args = c .before .before .before .before .before .before .before .before .before .before .before .args in
     let at-loop = c .before .before .before .before .before .before .before .loop in
     sym (every-not _ _ _ (c .before .before .before .before .before .before .loop-test .taken) (sym (room-fits (at-args .keys .now) (at-args .order .now) (at-loop .seen) _ _ (at-loop .inv .2) (c .before .before .before .before .before .place .ensures .0)) ∙ sym (c .before .before .before .count-one .ensures .0) ∙ not-true _ (c .if1 .taken)))
-
-add-i : tie.Need-add-i Inv-loop μ-loop
-add-i c = search needs
-
-loop-less : tie.Need-loop-less Inv-loop μ-loop
-loop-less c = search needs
 
 loop-again : tie.Need-loop-again Inv-loop μ-loop
 loop-again c =
@@ -51,9 +42,6 @@ loop-again c =
     let a = c .before .before .before .before .before .place .ensures .0 in
     let r = sym (at-count-one .ensures .0) ∙ not-false _ (c .if1 .left) in
     (search needs, below-more _ _ (at-loop .inv .1) (sym (room-fits (at-args .keys .now) (at-args .order .now) (at-loop .seen) _ _ t a) ∙ r), tallied-more (at-args .keys .now) (at-args .order .now) (at-loop .seen) _ _ t a _ (at-count-one .ensures .1) r)
-
-same-length-2 : tie.Need-same-length-2 Inv-loop μ-loop
-same-length-2 c = search needs
 
 returns-2 : tie.Need-returns-2 Inv-loop μ-loop
 unfolding versionsHold
@@ -68,10 +56,10 @@ count-all-spec =
     loop-holds
     place-requires
     count-one-requires
-    same-length
+    (λ c. search needs)
     returns
-    add-i
-    loop-less
+    (λ c. search needs)
+    (λ c. search needs)
     loop-again
-    same-length-2
+    (λ c. search needs)
     returns-2)

@@ -12,15 +12,9 @@ returns-2 c = search id-above
 returns-3 : tie.Need-returns-3
 returns-3 c = search id-author
 
-cast-has-peer : tie.Need-cast-has-peer
-cast-has-peer c = search needs
-
-has-peer-requires : tie.Need-has-peer-requires
-has-peer-requires c κs = search needs
-
 returns-4 : tie.Need-returns-4
 returns-4 c = search id-peer
 
 pub id-holds-spec : {M : Type 1} → statement M
 id-holds-spec =
-    tie.close (tie.spec returns returns-2 returns-3 cast-has-peer has-peer-requires returns-4)
+    tie.close (tie.spec returns returns-2 returns-3 (λ c. search needs) (λ c κs. search needs) returns-4)

@@ -19,18 +19,9 @@ abbrev μ-loop : tie.MeasureT-loop
 loop-holds : tie.Need-loop-holds Inv-loop μ-loop
 loop-holds c = (search needs, search needs, empty-below _ _ _)
 
-target-requires : tie.Need-target-requires Inv-loop μ-loop
-target-requires c κs = search needs
-
 returns : tie.Need-returns Inv-loop μ-loop
 unfolding emptyFrom
 returns c = sym (every-not _ _ _ (c .before .before .loop-test .taken) (empty-fails _ _ _ _ (c .before .before .before .loop .inv .0) (λ e. c .if1 .taken (c .before .target .ensures ∙ e))))
-
-add-k : tie.Need-add-k Inv-loop μ-loop
-add-k c = search needs
-
-loop-less : tie.Need-loop-less Inv-loop μ-loop
-loop-less c = search needs
 
 loop-again : tie.Need-loop-again Inv-loop μ-loop
 loop-again c = (search needs, search needs, below-more _ _ (c .before .before .before .loop .inv .2) (empty-more _ _ _ _ (sym (c .before .target .ensures) ∙ c .if1 .left)))
@@ -46,9 +37,9 @@ empty-from-spec =
     Inv-loop
     μ-loop
     loop-holds
-    target-requires
+    (λ c κs. search needs)
     returns
-    add-k
-    loop-less
+    (λ c. search needs)
+    (λ c. search needs)
     loop-again
     returns-2)

@@ -27,12 +27,6 @@ returns : tie.Need-returns Inv-loop μ-loop
 unfolding linksRight
 returns c = sym (every-not _ _ _ (c .before .before .loop-test .taken) (sym (c .before .link-right .ensures) ∙ not-true _ (c .if1 .taken)))
 
-add-k : tie.Need-add-k Inv-loop μ-loop
-add-k c = search needs
-
-loop-less : tie.Need-loop-less Inv-loop μ-loop
-loop-less c = search needs
-
 loop-again : tie.Need-loop-again Inv-loop μ-loop
 loop-again c = (search needs, below-more _ _ (c .before .before .before .loop .inv .1) (sym (c .before .link-right .ensures) ∙ not-false _ (c .if1 .left)))
 
@@ -49,7 +43,7 @@ links-right-spec =
     loop-holds
     link-right-requires
     returns
-    add-k
-    loop-less
+    (λ c. search needs)
+    (λ c. search needs)
     loop-again
     returns-2)

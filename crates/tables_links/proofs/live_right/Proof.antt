@@ -4,9 +4,6 @@ use borrow.Author.Needs.{needs}
 use Rattle.tables_links.proofs.live_right.Statement.{statement}
 use Rattle.tables_links.proofs.live_right.Tie as tie
 
-live-links-requires : tie.Need-live-links-requires
-live-links-requires c κs = search needs
-
 links-right-requires : tie.Need-links-right-requires
 links-right-requires c κs = (search needs, live-dist _ _ _ _ (c .live-links .ensures .0))
 
@@ -14,4 +11,4 @@ returns : tie.Need-returns
 returns c = c .links-right .ensures ∙ ap (linksRight _ _ _ _ _) (c .before .live-links .ensures .0)
 
 pub live-right-spec : {M : Type 1} → statement M
-live-right-spec = tie.close (tie.spec live-links-requires links-right-requires returns)
+live-right-spec = tie.close (tie.spec (λ c κs. search needs) links-right-requires returns)

@@ -24,12 +24,6 @@ place-requires c κs = (search needs, c .before .before .before .before .pre .1)
 slice-write-marks : tie.Need-slice-write-marks Inv-loop μ-loop
 slice-write-marks c = omega (arith, ap length (c .before .before .loop .inv .1) ∙ marked-length _ _ _, c .place .ensures .1)
 
-add-i : tie.Need-add-i Inv-loop μ-loop
-add-i c = search needs
-
-loop-less : tie.Need-loop-less Inv-loop μ-loop
-loop-less c = search needs
-
 loop-again : tie.Need-loop-again Inv-loop μ-loop
 loop-again c = (search needs, marked-more _ _ _ _ _ _ (c .before .before .loop .inv .1) (c .place .ensures .0) refl)
 
@@ -48,8 +42,8 @@ mark-spec =
     loop-holds
     place-requires
     slice-write-marks
-    add-i
-    loop-less
+    (λ c. search needs)
+    (λ c. search needs)
     loop-again
     same-length
     returns)

@@ -4,15 +4,9 @@ use borrow.Author.Needs.{needs}
 use Rattle.tables_links.proofs.resolution_in_range.Statement.{statement}
 use Rattle.tables_links.proofs.resolution_in_range.Tie as tie
 
-and-requires : tie.Need-and-requires
-and-requires c κs = search needs
-
-and-requires-2 : tie.Need-and-requires-2
-and-requires-2 c κs = search needs
-
 returns : tie.Need-returns
 unfolding resolutionInRange
 returns c = cc
 
 pub resolution-in-range-spec : {M : Type 1} → statement M
-resolution-in-range-spec = tie.close (tie.spec and-requires and-requires-2 returns)
+resolution-in-range-spec = tie.close (tie.spec (λ c κs. search needs) (λ c κs. search needs) returns)

@@ -4,15 +4,9 @@ use borrow.Author.Needs.{needs}
 use Rattle.tables_test.proofs.all_hold.Statement.{statement}
 use Rattle.tables_test.proofs.all_hold.Tie as tie
 
-shape-holds-requires : tie.Need-shape-holds-requires
-shape-holds-requires c κs = search needs
-
 returns : tie.Need-returns
 unfolding tested
 returns c = chain-no _ _ _ (c .before .shape-holds .ensures) (c .if1 .taken)
-
-state-holds-requires : tie.Need-state-holds-requires
-state-holds-requires c κs = search needs
 
 returns-2 : tie.Need-returns-2
 unfolding tested
@@ -42,9 +36,9 @@ pub all-hold-spec : {M : Type 1} → statement M
 all-hold-spec =
     tie.close
     (tie.spec
-    shape-holds-requires
+    (λ c κs. search needs)
     returns
-    state-holds-requires
+    (λ c κs. search needs)
     returns-2
     order-holds-requires
     returns-3

@@ -4,10 +4,6 @@ use Rattle.tables_test.specs.Refines.{countsAsStarted-is}
 use Rattle.tables_test.proofs.counts_as_started.Statement.{statement}
 use Rattle.tables_test.proofs.counts_as_started.Tie as tie
 
--- src/lib.rt:170:5
-all-hold-requires : tie.Need-all-hold-requires
-all-hold-requires c κs = search needs
-
 -- src/lib.rt:161:1
 returns : tie.Need-returns
 returns c =
@@ -16,4 +12,4 @@ returns c =
     ∙ sym (countsAsStarted-is (a .s) (a .keys .now) (a .links .now) (a .certs .now) (a .order .now) (λ p. c .before .before .before .before .shared-slice-known .given p .fits) (λ p. c .before .before .before .shared-slice-known2 .given p .fits))
 
 pub counts-as-started-spec : {M : Type 1} → statement M
-counts-as-started-spec = tie.close (tie.spec all-hold-requires returns)
+counts-as-started-spec = tie.close (tie.spec (λ c κs. search needs) returns)

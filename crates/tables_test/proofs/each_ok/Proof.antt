@@ -25,30 +25,12 @@ loop-holds c = (search needs, below-none _)
 place-requires : tie.Need-place-requires Inv-loop μ-loop
 place-requires c κs = (search needs, c .before .before .before .before .before .before .before .before .before .pre .1)
 
-round-word-requires : tie.Need-round-word-requires Inv-loop μ-loop
-round-word-requires c κs = search needs
-
-mul-x : tie.Need-mul-x Inv-loop μ-loop
-mul-x c = search needs
-
-element-copy-out-x : tie.Need-element-copy-out-x Inv-loop μ-loop
-element-copy-out-x c = search needs
-
-place-ok-requires : tie.Need-place-ok-requires Inv-loop μ-loop
-place-ok-requires c κs = search needs
-
 returns : tie.Need-returns Inv-loop μ-loop
 unfolding eachOk recordOf
 returns c =
     let l = c .before .before .before .before .before .before .loop in
     let a = c .before .before .before .before .before .before .before .before .before .before .before .before .before .before .args in
     sym (every-not _ _ (l .i) (c .before .before .before .before .before .loop-test .taken) (sym (ok-by (a .t1) (a .keys .now) (a .links .now) (a .certs .now) (a .order .now) (a .marks .now) (length (a .order .now)) (l .i) _ _ _ (c .before .before .before .before .place .ensures .0) (c .before .before .before .round-word .ensures) (c .before .place-ok .ensures)) ∙ not-true _ (c .if1 .taken)))
-
-add-i : tie.Need-add-i Inv-loop μ-loop
-add-i c = search needs
-
-loop-less : tie.Need-loop-less Inv-loop μ-loop
-loop-less c = search needs
 
 loop-again : tie.Need-loop-again Inv-loop μ-loop
 unfolding recordOf
@@ -69,12 +51,12 @@ each-ok-spec =
     μ-loop
     loop-holds
     place-requires
-    round-word-requires
-    mul-x
-    element-copy-out-x
-    place-ok-requires
+    (λ c κs. search needs)
+    (λ c. search needs)
+    (λ c. search needs)
+    (λ c κs. search needs)
     returns
-    add-i
-    loop-less
+    (λ c. search needs)
+    (λ c. search needs)
     loop-again
     returns-2)

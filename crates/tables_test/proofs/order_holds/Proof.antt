@@ -4,9 +4,6 @@ use borrow.Author.Needs.{needs}
 use Rattle.tables_test.proofs.order_holds.Statement.{statement}
 use Rattle.tables_test.proofs.order_holds.Tie as tie
 
-inside-requires : tie.Need-inside-requires
-inside-requires c κs = search needs
-
 returns : tie.Need-returns
 unfolding orderHolds
 returns c = chain-no _ _ _ (c .before .inside .ensures) (c .if1 .taken)
@@ -30,4 +27,4 @@ returns-3 c = chain-yes _ _ _ _ (c .before .before .before .before .inside .ensu
 pub order-holds-spec : {M : Type 1} → statement M
 order-holds-spec =
     tie.close
-    (tie.spec inside-requires returns sorted-requires returns-2 versions-hold-requires returns-3)
+    (tie.spec (λ c κs. search needs) returns sorted-requires returns-2 versions-hold-requires returns-3)

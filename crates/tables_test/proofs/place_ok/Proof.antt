@@ -3,35 +3,17 @@ use borrow.Author.Needs.{needs}
 use Rattle.tables_test.proofs.place_ok.Statement.{statement}
 use Rattle.tables_test.proofs.place_ok.Tie as tie
 
-round-word-requires : tie.Need-round-word-requires
-round-word-requires c κs = search needs
-
-author-requires : tie.Need-author-requires
-author-requires c κs = search needs
-
-id-holds-requires : tie.Need-id-holds-requires
-id-holds-requires c κs = search needs
-
 returns : tie.Need-returns
 unfolding placeOk
 returns c = chain-no _ _ _ (id-by _ _ _ _ _ _ _ _ (c .before .before .before .round-word .ensures) (c .before .before .author .ensures) (c .before .id-holds .ensures)) (c .if1 .taken)
-
-live-right-requires : tie.Need-live-right-requires
-live-right-requires c κs = search needs
 
 returns-2 : tie.Need-returns-2
 unfolding placeOk
 returns-2 c = chain-yes _ _ _ _ (id-by _ _ _ _ _ _ _ _ (c .before .before .before .before .before .round-word .ensures) (c .before .before .before .before .author .ensures) (c .before .before .before .id-holds .ensures)) (c .before .before .if1 .left) (chain-no _ _ _ (c .before .live-right .ensures) (c .if2 .taken))
 
-bare-one-requires : tie.Need-bare-one-requires
-bare-one-requires c κs = search needs
-
 returns-3 : tie.Need-returns-3
 unfolding placeOk
 returns-3 c = chain-yes _ _ _ _ (id-by _ _ _ _ _ _ _ _ (c .before .before .before .before .before .before .before .round-word .ensures) (c .before .before .before .before .before .before .author .ensures) (c .before .before .before .before .before .id-holds .ensures)) (c .before .before .before .before .if1 .left) (chain-yes _ _ _ _ (c .before .before .before .live-right .ensures) (c .before .before .if2 .left) (chain-no _ _ _ (c .before .bare-one .ensures) (c .if3 .taken)))
-
-words-one-requires : tie.Need-words-one-requires
-words-one-requires c κs = search needs
 
 returns-4 : tie.Need-returns-4
 unfolding placeOk
@@ -41,13 +23,13 @@ pub place-ok-spec : {M : Type 1} → statement M
 place-ok-spec =
     tie.close
     (tie.spec
-    round-word-requires
-    author-requires
-    id-holds-requires
+    (λ c κs. search needs)
+    (λ c κs. search needs)
+    (λ c κs. search needs)
     returns
-    live-right-requires
+    (λ c κs. search needs)
     returns-2
-    bare-one-requires
+    (λ c κs. search needs)
     returns-3
-    words-one-requires
+    (λ c κs. search needs)
     returns-4)

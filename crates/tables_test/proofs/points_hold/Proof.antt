@@ -6,18 +6,9 @@ use borrow.Author.Needs.{needs}
 use Rattle.tables_test.proofs.points_hold.Statement.{statement}
 use Rattle.tables_test.proofs.points_hold.Tie as tie
 
-used-ok-requires : tie.Need-used-ok-requires
-used-ok-requires c κs = search needs
-
 returns : tie.Need-returns
 unfolding pointsHold
 returns c = chain-no _ _ _ (c .before .used-ok .ensures) (c .if1 .taken)
-
-top-height-requires : tie.Need-top-height-requires
-top-height-requires c κs = search needs
-
-heights-hold-requires : tie.Need-heights-hold-requires
-heights-hold-requires c κs = search needs
 
 returns-2 : tie.Need-returns-2
 unfolding pointsHold
@@ -26,4 +17,4 @@ returns-2 c =
     chain-yes _ _ _ _ (c .before .before .before .before .used-ok .ensures) (c .before .before .before .if1 .left) (c .heights-hold .ensures ∙ ap (λ (t : ℕ). heightsHold (a .s .bottom .0) t (a .keys .now) (a .links .now) (a .certs .now) (a .order .now) (a .s .count)) (c .before .top-height .ensures))
 
 pub points-hold-spec : {M : Type 1} → statement M
-points-hold-spec = tie.close (tie.spec used-ok-requires returns top-height-requires heights-hold-requires returns-2)
+points-hold-spec = tie.close (tie.spec (λ c κs. search needs) returns (λ c κs. search needs) (λ c κs. search needs) returns-2)

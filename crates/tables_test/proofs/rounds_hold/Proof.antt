@@ -5,9 +5,6 @@ use borrow.Author.Needs.{needs}
 use Rattle.tables_test.proofs.rounds_hold.Statement.{statement}
 use Rattle.tables_test.proofs.rounds_hold.Tie as tie
 
-range-holds-requires : tie.Need-range-holds-requires
-range-holds-requires c κs = search needs
-
 returns : tie.Need-returns
 returns c = rounds-no _ _ (c .before .range-holds .ensures) (c .if1 .taken)
 
@@ -33,7 +30,7 @@ pub rounds-hold-spec : {M : Type 1} → statement M
 rounds-hold-spec =
     tie.close
     (tie.spec
-    range-holds-requires
+    (λ c κs. search needs)
     returns
     sub-used-hold
     add-used-hold

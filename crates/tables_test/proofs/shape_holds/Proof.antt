@@ -5,15 +5,9 @@ use borrow.Author.Needs.{needs}
 use Rattle.tables_test.proofs.shape_holds.Statement.{statement}
 use Rattle.tables_test.proofs.shape_holds.Tie as tie
 
-key-words-requires : tie.Need-key-words-requires
-key-words-requires c κs = search needs
-
 returns : tie.Need-returns
 unfolding shape
 returns c = chain-no _ _ _ (c .before .key-words .ensures) (c .if1 .taken)
-
-link-words-requires : tie.Need-link-words-requires
-link-words-requires c κs = search needs
 
 returns-2 : tie.Need-returns-2
 unfolding shape
@@ -25,4 +19,4 @@ returns-3 c = chain-yes _ _ _ _ (c .before .before .before .key-words .ensures) 
 
 pub shape-holds-spec : {M : Type 1} → statement M
 shape-holds-spec =
-    tie.close (tie.spec key-words-requires returns link-words-requires returns-2 returns-3)
+    tie.close (tie.spec (λ c κs. search needs) returns (λ c κs. search needs) returns-2 returns-3)

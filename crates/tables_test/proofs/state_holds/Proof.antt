@@ -11,22 +11,13 @@ returns : tie.Need-returns
 unfolding stateHolds
 returns c = sym (and-no _ (ne-eqb _ _ (c .if1 .taken)))
 
-places-hold-requires : tie.Need-places-hold-requires
-places-hold-requires c κs = search needs
-
 returns-2 : tie.Need-returns-2
 unfolding stateHolds
 returns-2 c = test-yes _ _ _ (eq-eqb _ _ (c .before .before .if1 .left)) (chain-no _ _ _ (c .before .places-hold .ensures) (c .if2 .taken))
 
-conf-holds-requires : tie.Need-conf-holds-requires
-conf-holds-requires c κs = search needs
-
 returns-3 : tie.Need-returns-3
 unfolding stateHolds
 returns-3 c = test-yes _ _ _ (eq-eqb _ _ (c .before .before .before .before .if1 .left)) (chain-yes _ _ _ _ (c .before .before .before .places-hold .ensures) (c .before .before .if2 .left) (chain-no _ _ _ (c .before .conf-holds .ensures) (c .if3 .taken)))
-
-rounds-hold-requires : tie.Need-rounds-hold-requires
-rounds-hold-requires c κs = search needs
 
 returns-4 : tie.Need-returns-4
 unfolding stateHolds
@@ -45,11 +36,11 @@ state-holds-spec =
     tie.close
     (tie.spec
     returns
-    places-hold-requires
+    (λ c κs. search needs)
     returns-2
-    conf-holds-requires
+    (λ c κs. search needs)
     returns-3
-    rounds-hold-requires
+    (λ c κs. search needs)
     returns-4
     returns-5
     returns-6)

@@ -8,30 +8,15 @@ returns c =
     let a = c .before .before .before .before .before .before .before .args in
     code-genesis (a .s) (a .keys .now) (a .certs .now) (a .order .now) (a .marks .now) (a .span) (a .round .0) (c .if1 .taken)
 
-history-fault-requires : tie.Need-history-fault-requires
-history-fault-requires c κs = search needs
-
-enum-known-check : tie.Need-enum-known-check
-enum-known-check c = search needs
-
 returns-2 : tie.Need-returns-2
 returns-2 c =
     let a = c .before .before .before .before .before .before .before .before .before .before .before .args in
     code-fault (a .s) (a .keys .now) (a .certs .now) (a .order .now) (a .marks .now) (a .span) (a .round .0) (c .before .before .before .before .if1 .left) _ (c .before .before .before .history-fault .ensures) _ (c .before .check .given .1)
 
-enum-told : tie.Need-enum-told
-enum-told c = search needs
-
-rounds-missing-requires : tie.Need-rounds-missing-requires
-rounds-missing-requires c κs = search needs
-
 returns-3 : tie.Need-returns-3
 returns-3 c =
     let a = c .before .before .before .before .before .before .before .before .before .before .before .before .before .before .before .args in
     code-missing (a .s) (a .keys .now) (a .certs .now) (a .order .now) (a .marks .now) (a .span) (a .round .0) (c .before .before .before .before .before .before .before .before .if1 .left) _ (c .before .before .before .before .before .before .before .history-fault .ensures) (c .before .before .before .before .before .enum-told .given .1) _ (c .before .rounds-missing .ensures) (c .if2 .taken)
-
-any-uncertified-requires : tie.Need-any-uncertified-requires
-any-uncertified-requires c κs = search needs
 
 returns-4 : tie.Need-returns-4
 returns-4 c =
@@ -48,12 +33,12 @@ anchor-code-spec =
     tie.close
     (tie.spec
     returns
-    history-fault-requires
-    enum-known-check
+    (λ c κs. search needs)
+    (λ c. search needs)
     returns-2
-    enum-told
-    rounds-missing-requires
+    (λ c. search needs)
+    (λ c κs. search needs)
     returns-3
-    any-uncertified-requires
+    (λ c κs. search needs)
     returns-4
     returns-5)

@@ -10,69 +10,9 @@ use Rattle.dag_round_keys.proofs.case_at.Reads as case-at-reads
 use Rattle.models.proofs.cert.Cert.has_proof.Reads as has-proof-reads
 use Rattle.models.proofs.refusal.not_valid.Reads as not-valid-reads
 
--- src/fault.rt:32:9
-case-at-requires : tie.Need-case-at-requires
-case-at-requires c κs = search needs
-
--- src/fault.rt:33:9
-round-at-requires : tie.Need-round-at-requires
-round-at-requires c κs = search needs
-
--- src/fault.rt:34:21
-mul-t8 : tie.Need-mul-t8
-mul-t8 c = search needs
-
--- src/fault.rt:34:21
-shared-slice-read-t10 : tie.Need-shared-slice-read-t10
-shared-slice-read-t10 c = search needs
-
--- src/fault.rt:36:44
-enum-told : tie.Need-enum-told
-enum-told c = search needs
-
--- src/fault.rt:37:24
-enum-known-case : tie.Need-enum-known-case
-enum-known-case c = search needs
-
--- src/fault.rt:38:32
-enum-told-2 : tie.Need-enum-told-2
-enum-told-2 c = search needs
-
--- src/fault.rt:40:20
-enum-told-3 : tie.Need-enum-told-3
-enum-told-3 c = search needs
-
--- src/fault.rt:40:20
-has-proof-requires : tie.Need-has-proof-requires
-has-proof-requires c κs = search needs
-
 -- src/fault.rt:41:21
 returns : tie.Need-returns
 returns c = fault-by _ _ _ _ (c .before .before .before .before .before .before .before .before .before .case-at .ensures) _ _ (c .before .before .before .before .before .case .given .1) (c .before .before .enum-told3 .given .1) _ (c .before .before .before .before .before .before .before .before .round-at .ensures) _ (trans-proved _ _ _ (c .before .has-proof .ensures) (c .if1 .taken))
-
--- src/fault.rt:45:34
-enum-told-4 : tie.Need-enum-told-4
-enum-told-4 c = search needs
-
--- src/fault.rt:45:34
-not-valid-requires : tie.Need-not-valid-requires
-not-valid-requires c κs = search needs
-
--- src/fault.rt:46:36
-enum-told-5 : tie.Need-enum-told-5
-enum-told-5 c = search needs
-
--- src/fault.rt:46:36
-not-valid-requires-2 : tie.Need-not-valid-requires-2
-not-valid-requires-2 c κs = search needs
-
--- src/fault.rt:47:35
-enum-told-6 : tie.Need-enum-told-6
-enum-told-6 c = search needs
-
--- src/fault.rt:47:35
-not-valid-requires-3 : tie.Need-not-valid-requires-3
-not-valid-requires-3 c κs = search needs
 
 -- src/fault.rt:28:1
 returns-2 : tie.Need-returns-2
@@ -106,22 +46,22 @@ pub committable-point-spec : {M : Type 1} → statement M
 committable-point-spec =
     tie.close
     (tie.spec
-    case-at-requires
-    round-at-requires
-    mul-t8
-    shared-slice-read-t10
-    enum-told
-    enum-known-case
-    enum-told-2
-    enum-told-3
-    has-proof-requires
+    (λ c κs. search needs)
+    (λ c κs. search needs)
+    (λ c. search needs)
+    (λ c. search needs)
+    (λ c. search needs)
+    (λ c. search needs)
+    (λ c. search needs)
+    (λ c. search needs)
+    (λ c κs. search needs)
     returns
-    enum-told-4
-    not-valid-requires
-    enum-told-5
-    not-valid-requires-2
-    enum-told-6
-    not-valid-requires-3
+    (λ c. search needs)
+    (λ c κs. search needs)
+    (λ c. search needs)
+    (λ c κs. search needs)
+    (λ c. search needs)
+    (λ c κs. search needs)
     returns-2
     returns-3
     returns-4

@@ -18,9 +18,6 @@ loop-holds : tie.Need-loop-holds Inv-loop μ-loop
 unfolding scanned
 loop-holds c = (search needs, search needs, down-none _ _ _)
 
-sub-p : tie.Need-sub-p Inv-loop μ-loop
-sub-p c = search needs
-
 place-requires : tie.Need-place-requires Inv-loop μ-loop
 place-requires c κs = (search needs, c .before .before .before .before .before .pre .0 .4)
 
@@ -32,14 +29,8 @@ is-faulty-requires c κs =
 sooner-requires : tie.Need-sooner-requires Inv-loop μ-loop
 sooner-requires c κs = (search needs, scanned-most _ _ _ _ _ (c .before .before .before .before .loop .inv .2), search needs, search needs, c .before .before .before .before .before .before .before .before .pre .0 .4)
 
-loop-less : tie.Need-loop-less Inv-loop μ-loop
-loop-less c = search needs
-
 loop-again : tie.Need-loop-again Inv-loop μ-loop
 loop-again c = (search needs, search needs, scanned-hit _ _ _ _ _ _ _ (c .before .before .before .before .before .loop .inv .2) (omega arith) (omega arith) (faulty-at _ _ _ _ _ _ _ (c .before .before .before .place .ensures .0) (c .before .before .is-faulty .ensures)) (c .before .if1 .taken) (c .sooner .ensures))
-
-loop-less-2 : tie.Need-loop-less-2 Inv-loop μ-loop
-loop-less-2 c = search needs
 
 loop-again-2 : tie.Need-loop-again-2 Inv-loop μ-loop
 loop-again-2 c = (search needs, search needs, scanned-miss _ _ _ _ _ _ (c .before .before .before .before .loop .inv .2) (omega arith) (omega arith) (faulty-at _ _ _ _ _ _ _ (c .before .before .place .ensures .0) (c .before .is-faulty .ensures)) (c .if1 .left))
@@ -55,12 +46,12 @@ first-fault-spec =
     Inv-loop
     μ-loop
     loop-holds
-    sub-p
+    (λ c. search needs)
     place-requires
     is-faulty-requires
     sooner-requires
-    loop-less
+    (λ c. search needs)
     loop-again
-    loop-less-2
+    (λ c. search needs)
     loop-again-2
     returns)

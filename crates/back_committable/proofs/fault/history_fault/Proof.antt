@@ -8,17 +8,9 @@ use Rattle.back_committable.proofs.fault.committable_point.Reads as fau
 use Rattle.back_committable.proofs.fault.first_fault.Reads as first-fault-reads
 use Rattle.dag_round_keys.proofs.place.Reads as place-reads
 
--- src/fault.rt:123:9
-first-fault-requires : tie.Need-first-fault-requires
-first-fault-requires c κs = search needs
-
 -- src/fault.rt:125:9
 returns : tie.Need-returns
 returns c = found-none _ _ _ _ _ _ _ (c .before .first-fault .ensures) (c .if1 .taken)
-
--- src/fault.rt:127:9
-place-requires : tie.Need-place-requires
-place-requires c κs = search needs
 
 -- src/fault.rt:128:5
 committable-point-requires : tie.Need-committable-point-requires
@@ -32,4 +24,4 @@ returns-2 c = found-at _ _ _ _ _ _ _ (c .before .before .before .first-fault .en
 
 pub history-fault-spec : {M : Type 1} → statement M
 history-fault-spec =
-    tie.close (tie.spec first-fault-requires returns place-requires committable-point-requires returns-2)
+    tie.close (tie.spec (λ c κs. search needs) returns (λ c κs. search needs) committable-point-requires returns-2)

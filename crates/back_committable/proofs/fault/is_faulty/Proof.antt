@@ -8,25 +8,9 @@ use Rattle.back_committable.proofs.fault.is_faulty.Reads as reads
 use Rattle.back_committable.proofs.fault.is_faulty.Lts as lts
 use Rattle.back_committable.proofs.fault.committable_point.Reads as fault-at-reads
 
--- src/fault.rt:57:9
-element-copy-out-if1 : tie.Need-element-copy-out-if1
-element-copy-out-if1 c = search needs
-
 -- src/fault.rt:58:9
 returns : tie.Need-returns
 returns c = faulty-not _ _ _ _ (not-true _ (c .if1 .taken))
-
--- src/fault.rt:60:9
-committable-point-requires : tie.Need-committable-point-requires
-committable-point-requires c κs = search needs
-
--- src/fault.rt:62:26
-enum-told : tie.Need-enum-told
-enum-told c = search needs
-
--- src/fault.rt:63:29
-enum-told-2 : tie.Need-enum-told-2
-enum-told-2 c = search needs
 
 -- src/fault.rt:53:1
 returns-2 : tie.Need-returns-2
@@ -42,10 +26,10 @@ pub is-faulty-spec : {M : Type 1} → statement M
 is-faulty-spec =
     tie.close
     (tie.spec
-    element-copy-out-if1
+    (λ c. search needs)
     returns
-    committable-point-requires
-    enum-told
-    enum-told-2
+    (λ c κs. search needs)
+    (λ c. search needs)
+    (λ c. search needs)
     returns-2
     returns-3)

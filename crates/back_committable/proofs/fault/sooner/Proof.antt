@@ -8,36 +8,6 @@ use Rattle.back_committable.proofs.fault.sooner.Tie as tie
 returns : tie.Need-returns
 returns c = sooner-first _ _ _ _ (c .if1 .taken)
 
-place-requires : tie.Need-place-requires
-place-requires c κs = search needs
-
-place-requires-2 : tie.Need-place-requires-2
-place-requires-2 c κs = search needs
-
-mul-u : tie.Need-mul-u
-mul-u c = search needs
-
-add-u : tie.Need-add-u
-add-u c = search needs
-
-mul-u-2 : tie.Need-mul-u-2
-mul-u-2 c = search needs
-
-shared-slice-read-u : tie.Need-shared-slice-read-u
-shared-slice-read-u c = search needs
-
-mul-v : tie.Need-mul-v
-mul-v c = search needs
-
-add-v : tie.Need-add-v
-add-v c = search needs
-
-mul-v-2 : tie.Need-mul-v-2
-mul-v-2 c = search needs
-
-shared-slice-read-v : tie.Need-shared-slice-read-v
-shared-slice-read-v c = search needs
-
 returns-2 : tie.Need-returns-2
 returns-2 c = sooner-same _ _ _ _ (c .before .before .before .before .before .if1 .left) (sym (round-of _ _ _ _ (c .before .before .before .before .place .ensures .0)) ∙ (c .if2 .taken ∙ round-of _ _ _ _ (c .before .before .before .place2 .ensures .0)))
 
@@ -49,15 +19,15 @@ sooner-spec =
     tie.close
     (tie.spec
     returns
-    place-requires
-    place-requires-2
-    mul-u
-    add-u
-    mul-u-2
-    shared-slice-read-u
-    mul-v
-    add-v
-    mul-v-2
-    shared-slice-read-v
+    (λ c κs. search needs)
+    (λ c κs. search needs)
+    (λ c. search needs)
+    (λ c. search needs)
+    (λ c. search needs)
+    (λ c. search needs)
+    (λ c. search needs)
+    (λ c. search needs)
+    (λ c. search needs)
+    (λ c. search needs)
     returns-2
     returns-3)

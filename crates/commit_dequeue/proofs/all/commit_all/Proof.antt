@@ -18,12 +18,6 @@ loop-holds c =
     let a = c .before .before .before .before .before .args in
     (refl, refl, going-first (a .keys .now) (a .links .now) (a .order .now) (a .s) (a .certs .now) (a .b .now) _ (a .count) (c .before .before .before .before .before .pre .0) (c .before .before .before .before .before .pre .1 .0))
 
-sub-k : tie.Need-sub-k Inv-loop μ-loop
-sub-k c = search needs
-
-mul-e : tie.Need-mul-e Inv-loop μ-loop
-mul-e c = search needs
-
 array-copy-out-e : tie.Need-array-copy-out-e Inv-loop μ-loop
 array-copy-out-e c = let h = c .before .loop .inv .2 .number in let m = c .before .before .before .before .before .before .before .pre .1 .1 in search needs
 
@@ -33,9 +27,6 @@ dequeue-anchor-requires c κs =
     let l = c .before .before .before .before .loop in
     let g = l .inv .2 in
     (g .started, (going-anchored (a .keys .now) (a .links .now) (a .order .now) (a .s) (a .certs .now) (a .b .now) _ (a .count) (l .cur) (l .certs) (l .b) (l .end) (l .finished) (l .k) (l .inv .2) (c .before .before .before .loop-test .taken), g .within))
-
-enum-known-check : tie.Need-enum-known-check Inv-loop μ-loop
-enum-known-check c = search needs
 
 same-length : tie.Need-same-length Inv-loop μ-loop
 same-length c = let l = c .before .before .before .before .before .before .before .before .before .before .before .before .before .loop .inv in omega (arith, l .0, l .1)
@@ -50,14 +41,8 @@ returns c =
     let o = c .before .before .before .before .before .before .before .before .dequeue-anchor in
     going-refused (a .keys .now) (a .links .now) (a .order .now) (a .s) (a .certs .now) (a .b .now) _ (a .count) (l .cur) (l .certs) (l .b) (l .end) (l .finished) (l .k) (l .inv .2) (c .before .before .before .before .before .before .before .before .before .before .before .before .loop-test .taken) _ (o .ensures .0) (o .ensures .1) _ (c .before .check .given .1)
 
-enum-told : tie.Need-enum-told Inv-loop μ-loop
-enum-told c = search needs
-
 add-finished : tie.Need-add-finished Inv-loop μ-loop
 add-finished c = omega (arith, c .before .before .before .before .before .before .before .before .before .before .before .before .loop .inv .2 .number, c .before .before .before .before .before .before .before .before .before .before .before .before .before .before .before .before .before .before .pre .1 .1)
-
-loop-less : tie.Need-loop-less Inv-loop μ-loop
-loop-less c = search needs
 
 loop-again : tie.Need-loop-again Inv-loop μ-loop
 loop-again c =
@@ -85,17 +70,17 @@ commit-all-spec =
     Inv-loop
     μ-loop
     loop-holds
-    sub-k
-    mul-e
+    (λ c. search needs)
+    (λ c. search needs)
     array-copy-out-e
     dequeue-anchor-requires
-    enum-known-check
+    (λ c. search needs)
     same-length
     same-length-2
     returns
-    enum-told
+    (λ c. search needs)
     add-finished
-    loop-less
+    (λ c. search needs)
     loop-again
     same-length-3
     same-length-4

@@ -21,9 +21,6 @@ test-anchor-requires c κs =
     let fl : Fit (a .links .now) = λ p. c .before .before .before .before .shared-slice-known2 .given p .fits in
     (held (a .s) (a .keys .now) (a .links .now) (a .certs .now) (a .order .now) fk fl (c .before .before .before .before .before .before .pre .0) (enqueuedOf (a .e)) (c .before .before .before .before .before .before .pre .1 .0), anchor-used (a .s) (a .keys .now) (a .links .now) (a .certs .now) (a .order .now) fk fl (c .before .before .before .before .before .before .pre .0) (enqueuedOf (a .e)) (c .before .before .before .before .before .before .pre .1 .0))
 
-sub-number-for : tie.Need-sub-number-for
-sub-number-for c = search needs
-
 number-for-requires : tie.Need-number-for-requires
 number-for-requires c κs =
     let a = c .before .before .before .before .before .before .before .args in
@@ -32,12 +29,6 @@ number-for-requires c κs =
     let (n, p, q) = picked-ready (a .s) (a .keys .now) (a .links .now) (a .certs .now) (a .order .now) fk fl (c .before .before .before .before .before .before .before .pre .0) (enqueuedOf (a .e)) (c .before .before .before .before .before .before .before .pre .1 .0) (c .test-anchor .result) (c .test-anchor .ensures .0) in
     n
 
-enum-known-check : tie.Need-enum-known-check
-enum-known-check c = search needs
-
-same-length : tie.Need-same-length
-same-length c = search needs
-
 returns : tie.Need-returns
 returns c =
     let a = c .before .before .before .before .before .before .before .before .before .before .before .args in
@@ -45,9 +36,6 @@ returns c =
     let fl : Fit (a .links .now) = λ p. c .before .before .before .before .before .before .before .before .before .shared-slice-known2 .given p .fits in
     let w = one-refused (a .s) (a .keys .now) (a .links .now) (a .certs .now) (a .order .now) (a .b .now) (a .at) (enqueuedOf (a .e)) (c .before .before .before .before .test-anchor .result) (c .before .before .before .before .test-anchor .ensures .0) _ (c .before .before .before .number-for .ensures) _ (c .before .check .given .1) in
     (w, one-says (a .s) (a .keys .now) (a .links .now) (a .certs .now) (a .order .now) fk fl (c .before .before .before .before .before .before .before .before .before .before .before .pre .0) (enqueuedOf (a .e)) (c .before .before .before .before .before .before .before .before .before .before .before .pre .1 .0) (long (c .before .before .before .before .before .before .before .before .before .before .before)) (a .b .now) (a .at) (c .before .before .before .before .before .before .before .before .before .before .before .pre .1 .1) _ w)
-
-enum-told : tie.Need-enum-told
-enum-told c = search needs
 
 put-anchor-requires : tie.Need-put-anchor-requires
 put-anchor-requires c κs =
@@ -74,12 +62,6 @@ mark-all-requires c κs =
     let (n, p, q) = picked-ready (a .s) (a .keys .now) (a .links .now) (a .certs .now) (a .order .now) fk fl (c .before .before .before .before .before .before .before .before .before .before .before .before .before .before .before .before .before .before .before .before .before .pre .0) (enqueuedOf (a .e)) (c .before .before .before .before .before .before .before .before .before .before .before .before .before .before .before .before .before .before .before .before .before .pre .1 .0) (c .before .before .before .before .before .before .before .before .before .before .before .before .before .before .test-anchor .result) (c .before .before .before .before .before .before .before .before .before .before .before .before .before .before .test-anchor .ensures .0) in
     (p .0, p .1, p .2, p .4, q)
 
-same-length-2 : tie.Need-same-length-2
-same-length-2 c = search needs
-
-same-length-3 : tie.Need-same-length-3
-same-length-3 c = search needs
-
 returns-2 : tie.Need-returns-2
 returns-2 c =
     let a = c .before .before .before .before .before .before .before .before .before .before .before .before .before .before .before .before .before .before .before .before .before .before .before .before .args in
@@ -93,15 +75,15 @@ dequeue-anchor-spec =
     tie.close
     (tie.spec
     test-anchor-requires
-    sub-number-for
+    (λ c. search needs)
     number-for-requires
-    enum-known-check
-    same-length
+    (λ c. search needs)
+    (λ c. search needs)
     returns
-    enum-told
+    (λ c. search needs)
     put-anchor-requires
     next-state-requires
     mark-all-requires
-    same-length-2
-    same-length-3
+    (λ c. search needs)
+    (λ c. search needs)
     returns-2)

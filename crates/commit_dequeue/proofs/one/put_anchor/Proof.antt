@@ -6,21 +6,6 @@ use borrow.Author.Needs.{needs}
 use Rattle.commit_dequeue.proofs.one.put_anchor.Statement.{statement}
 use Rattle.commit_dequeue.proofs.one.put_anchor.Tie as tie
 
-round-at-requires : tie.Need-round-at-requires
-round-at-requires c κs = search needs
-
-executable-requires : tie.Need-executable-requires
-executable-requires c κs = search needs
-
-previous-anchor-requires : tie.Need-previous-anchor-requires
-previous-anchor-requires c κs = search needs
-
-put-record-requires : tie.Need-put-record-requires
-put-record-requires c κs = search needs
-
-same-length : tie.Need-same-length
-same-length c = search needs
-
 returns : tie.Need-returns
 returns c =
     let p = c .before .before .put-record .ensures in
@@ -31,9 +16,9 @@ pub put-anchor-spec : {M : Type 1} → statement M
 put-anchor-spec =
     tie.close
     (tie.spec
-    round-at-requires
-    executable-requires
-    previous-anchor-requires
-    put-record-requires
-    same-length
+    (λ c κs. search needs)
+    (λ c κs. search needs)
+    (λ c κs. search needs)
+    (λ c κs. search needs)
+    (λ c. search needs)
     returns)

@@ -17,12 +17,6 @@ abbrev μ-loop : tie.MeasureT-loop
 loop-holds : tie.Need-loop-holds Inv-loop μ-loop
 loop-holds c = let a = c .before .before .before .before .args in looking-first (view (a .s) (a .keys .now) (a .links .now) (a .certs .now) (a .order .now)) _ (a .count) (a .room) _ refl
 
-sub-k : tie.Need-sub-k Inv-loop μ-loop
-sub-k c = search needs
-
-mul-e : tie.Need-mul-e Inv-loop μ-loop
-mul-e c = search needs
-
 array-copy-out-e : tie.Need-array-copy-out-e Inv-loop μ-loop
 array-copy-out-e c = let h = c .before .loop .inv .most in let m = c .before .before .before .before .before .before .pre .1 .1 in search needs
 
@@ -35,9 +29,6 @@ look-one-requires c κs =
     let fl : Fit (a .links .now) = λ q. c .before .before .before .before .before .shared-slice-known2 .given q .fits in
     (p .0, looking-anchored (a .s) (a .keys .now) (a .links .now) (a .certs .now) (a .order .now) fk fl (p .0) _ (a .count) (p .1 .0) (a .room) (l .numbers) (l .left) (l .k) (l .inv) (c .before .loop-test .taken))
 
-enum-known-check : tie.Need-enum-known-check Inv-loop μ-loop
-enum-known-check c = search needs
-
 returns : tie.Need-returns Inv-loop μ-loop
 returns c =
     let a = c .before .before .before .before .before .before .before .before .before .before .before .args in
@@ -46,12 +37,6 @@ returns c =
     let fk : Fit (a .keys .now) = λ q. c .before .before .before .before .before .before .before .before .before .before .shared-slice-known .given q .fits in
     let fl : Fit (a .links .now) = λ q. c .before .before .before .before .before .before .before .before .before .shared-slice-known2 .given q .fits in
     looked-refused (a .s) (a .keys .now) (a .links .now) (a .certs .now) (a .order .now) fk fl (p .0) _ (a .count) (p .1 .0) (a .room) (l .numbers) (l .left) (l .k) (l .inv) (c .before .before .before .before .before .loop-test .taken) _ (c .before .before .before .look-one .ensures .0) _ (c .before .check .given .1)
-
-enum-told : tie.Need-enum-told Inv-loop μ-loop
-enum-told c = search needs
-
-mul-numbers : tie.Need-mul-numbers Inv-loop μ-loop
-mul-numbers c = search needs
 
 array-write-numbers : tie.Need-array-write-numbers Inv-loop μ-loop
 array-write-numbers c =
@@ -65,9 +50,6 @@ sub-left c =
     let l = c .before .before .before .before .before .loop in
     let h = look-room (view (a .s) (a .keys .now) (a .links .now) (a .certs .now) (a .order .now)) (l .left) _ _ (c .before .before .look-one .ensures .0) (c .enum-told .given .1) in
     search needs
-
-loop-less : tie.Need-loop-less Inv-loop μ-loop
-loop-less c = search needs
 
 loop-again : tie.Need-loop-again Inv-loop μ-loop
 loop-again c =
@@ -92,16 +74,16 @@ look-all-spec =
     Inv-loop
     μ-loop
     loop-holds
-    sub-k
-    mul-e
+    (λ c. search needs)
+    (λ c. search needs)
     array-copy-out-e
     look-one-requires
-    enum-known-check
+    (λ c. search needs)
     returns
-    enum-told
-    mul-numbers
+    (λ c. search needs)
+    (λ c. search needs)
     array-write-numbers
     sub-left
-    loop-less
+    (λ c. search needs)
     loop-again
     returns-2)

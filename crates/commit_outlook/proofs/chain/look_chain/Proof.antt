@@ -5,19 +5,10 @@ use borrow.Author.Needs.{needs}
 use Rattle.commit_outlook.proofs.chain.look_chain.Statement.{statement}
 use Rattle.commit_outlook.proofs.chain.look_chain.Tie as tie
 
-look-all-requires : tie.Need-look-all-requires
-look-all-requires c κs = search needs
-
-enum-known-check : tie.Need-enum-known-check
-enum-known-check c = search needs
-
 returns : tie.Need-returns
 returns c =
     let a = c .before .before .before .before .before .before .before .before .before .args in
     resolution-refused (view (a .s) (a .keys .now) (a .links .now) (a .certs .now) (a .order .now)) (a .keys .now) (a .b .now) _ (a .count) _ _ (c .before .before .before .look-all .ensures) _ (c .before .check .given .1)
-
-enum-told : tie.Need-enum-told
-enum-told c = search needs
 
 put-looks-requires : tie.Need-put-looks-requires
 put-looks-requires c κs =
@@ -27,9 +18,6 @@ put-looks-requires c κs =
     let fl : Fit (a .links .now) = λ q. c .before .before .before .before .before .before .before .before .shared-slice-known2 .given q .fits in
     (p .1 .1, (c .before .before .before .before .look-all .ensures .fits (c .before .before .enum-told .given .1), looks-placed (a .s) (a .keys .now) (a .links .now) (a .certs .now) (a .order .now) fk fl (p .0) _ (a .count) (p .1 .0)))
 
-same-length : tie.Need-same-length
-same-length c = search needs
-
 returns-2 : tie.Need-returns-2
 returns-2 c =
     let a = c .before .before .before .before .before .before .before .before .before .before .before .before .before .args in
@@ -37,4 +25,4 @@ returns-2 c =
 
 pub look-chain-spec : {M : Type 1} → statement M
 look-chain-spec =
-    tie.close (tie.spec look-all-requires enum-known-check returns enum-told put-looks-requires same-length returns-2)
+    tie.close (tie.spec (λ c κs. search needs) (λ c. search needs) returns (λ c. search needs) put-looks-requires (λ c. search needs) returns-2)

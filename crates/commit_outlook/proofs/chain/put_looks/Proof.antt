@@ -15,17 +15,8 @@ abbrev μ-loop : tie.MeasureT-loop
 loop-holds : tie.Need-loop-holds Inv-loop μ-loop
 loop-holds c = let a = c .before .before .args in putting-first (a .keys .now) _ _ (a .count) (a .b .now)
 
-sub-k : tie.Need-sub-k Inv-loop μ-loop
-sub-k c = search needs
-
-mul-e : tie.Need-mul-e Inv-loop μ-loop
-mul-e c = search needs
-
 array-copy-out-e : tie.Need-array-copy-out-e Inv-loop μ-loop
 array-copy-out-e c = let h = c .before .loop .inv .most in let m = c .before .before .before .before .pre .0 in search needs
-
-mul-n : tie.Need-mul-n Inv-loop μ-loop
-mul-n c = search needs
 
 array-read-n : tie.Need-array-read-n Inv-loop μ-loop
 array-read-n c = let h = c .before .before .loop .inv .most in let m = c .before .before .before .before .before .pre .0 in search needs
@@ -37,18 +28,12 @@ put-id-requires c κs =
     let t = c .before .before .loop-test .taken in
     (omega (arith, l .inv .place, l .inv .long, l .inv .most, p .1 .0, t), p .1 .1 (l .k - 1) (omega (arith, l .inv .most, t)))
 
-cast-put-number : tie.Need-cast-put-number Inv-loop μ-loop
-cast-put-number c = search needs
-
 put-number-requires : tie.Need-put-number-requires Inv-loop μ-loop
 put-number-requires c κs =
     let p = c .before .before .before .before .before .before .before .before .before .before .pre in
     let l = c .before .before .before .before .before .before .before .loop in
     let t = c .before .before .before .before .before .before .loop-test .taken in
     omega (arith, l .inv .place, l .inv .long, l .inv .most, p .1 .0, t, c .before .before .before .put-id .ensures .0)
-
-loop-less : tie.Need-loop-less Inv-loop μ-loop
-loop-less c = search needs
 
 loop-again : tie.Need-loop-again Inv-loop μ-loop
 loop-again c =
@@ -72,15 +57,15 @@ put-looks-spec =
     Inv-loop
     μ-loop
     loop-holds
-    sub-k
-    mul-e
+    (λ c. search needs)
+    (λ c. search needs)
     array-copy-out-e
-    mul-n
+    (λ c. search needs)
     array-read-n
     put-id-requires
-    cast-put-number
+    (λ c. search needs)
     put-number-requires
-    loop-less
+    (λ c. search needs)
     loop-again
     same-length
     returns)

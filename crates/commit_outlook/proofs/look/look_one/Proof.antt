@@ -25,9 +25,6 @@ cast-count c =
     let m : c .before .test-anchor .result .count ≤ 4096 = look-points (a .s) (a .keys .now) (a .links .now) (a .certs .now) (a .order .now) fk fl (p .0) (enqueuedOf (a .e)) (p .1) (c .before .test-anchor .result) (c .before .test-anchor .ensures .0) .1 in
     search needs
 
-enum-known-check : tie.Need-enum-known-check
-enum-known-check c = search needs
-
 returns : tie.Need-returns
 returns c =
     let a = c .before .before .before .before .before .before .before .before .before .args in
@@ -35,9 +32,6 @@ returns c =
     let fk : Fit (a .keys .now) = λ q. c .before .before .before .before .before .before .before .before .shared-slice-known .given q .fits in
     let fl : Fit (a .links .now) = λ q. c .before .before .before .before .before .before .before .shared-slice-known2 .given q .fits in
     (look-tested (view (a .s) (a .keys .now) (a .links .now) (a .certs .now) (a .order .now)) (a .left) (a .e .anchor) _ (c .before .before .before .before .test-anchor .ensures .1) _ (c .before .check .given .1), look-points (a .s) (a .keys .now) (a .links .now) (a .certs .now) (a .order .now) fk fl (p .0) (enqueuedOf (a .e)) (p .1) (c .before .before .before .before .test-anchor .result) (c .before .before .before .before .test-anchor .ensures .0) .0)
-
-enum-told : tie.Need-enum-told
-enum-told c = search needs
 
 returns-2 : tie.Need-returns-2
 returns-2 c =
@@ -56,4 +50,4 @@ returns-3 c =
     (look-pass (view (a .s) (a .keys .now) (a .links .now) (a .certs .now) (a .order .now)) (a .left) (a .e .anchor) _ (c .before .before .before .before .test-anchor .ensures .1) (c .before .enum-told .given .1) (c .if1 .left), look-points (a .s) (a .keys .now) (a .links .now) (a .certs .now) (a .order .now) fk fl (p .0) (enqueuedOf (a .e)) (p .1) (c .before .before .before .before .test-anchor .result) (c .before .before .before .before .test-anchor .ensures .0) .0)
 
 pub look-one-spec : {M : Type 1} → statement M
-look-one-spec = tie.close (tie.spec test-anchor-requires cast-count enum-known-check returns enum-told returns-2 returns-3)
+look-one-spec = tie.close (tie.spec test-anchor-requires cast-count (λ c. search needs) returns (λ c. search needs) returns-2 returns-3)

@@ -9,15 +9,6 @@ use borrow.Author.Needs.{needs}
 use Rattle.commit_points.proofs.certify.certify.Statement.{statement}
 use Rattle.commit_points.proofs.certify.certify.Tie as tie
 
-counts-as-started-requires : tie.Need-counts-as-started-requires
-counts-as-started-requires c κs = search needs
-
-refused-requires : tie.Need-refused-requires
-refused-requires c κs = search needs
-
-same-length : tie.Need-same-length
-same-length c = search needs
-
 returns : tie.Need-returns
 returns c = certify-did _ _ (λ p. c .before .before .before .before .before .before .before .shared-slice-known .given p .fits) (λ p. c .before .before .before .before .before .before .shared-slice-known2 .given p .fits) (id-fit _ _ (c .before .before .before .before .before .before .before .before .good .1 .1 .1 .1 .1 .0)) _ (left-refused _ _ _ _ (tested-no _ _ _ (c .before .before .counts-as-started .ensures) (c .before .if1 .taken)) _ (c .refused .ensures))
 
@@ -25,12 +16,6 @@ point-code-requires : tie.Need-point-code-requires
 point-code-requires c κs =
     let a = c .before .before .before .before .before .before .before .args in
     name-ready (tables (a .s) (a .keys .now) (a .links .now) (a .certs .now) (a .order .now)) (λ p. c .before .before .before .before .before .before .shared-slice-known .given p .fits) (λ p. c .before .before .before .before .before .shared-slice-known2 .given p .fits) _ (c .before .counts-as-started .ensures) (c .if1 .left)
-
-refused-requires-2 : tie.Need-refused-requires-2
-refused-requires-2 c κs = search needs
-
-same-length-2 : tie.Need-same-length-2
-same-length-2 c = search needs
 
 returns-2 : tie.Need-returns-2
 returns-2 c = certify-did _ _ (λ p. c .before .before .before .before .before .before .before .before .before .shared-slice-known .given p .fits) (λ p. c .before .before .before .before .before .before .before .before .shared-slice-known2 .given p .fits) (id-fit _ _ (c .before .before .before .before .before .before .before .before .before .before .good .1 .1 .1 .1 .1 .0)) _ (left-refused _ _ _ _ (tested-by _ _ _ (c .before .before .before .before .counts-as-started .ensures) (c .before .before .before .if1 .left) _ (number-refused _ _ (c .before .before .point-code .ensures) (c .before .if2 .taken))) _ (c .refused2 .ensures))
@@ -45,9 +30,6 @@ certify-at-requires c κs =
     let a = c .before .before .before .before .before .before .before .before .before .before .before .args in
     certify-ready (a .id) (tables (a .s) (a .keys .now) (a .links .now) (a .certs .now) (a .order .now)) (λ p. c .before .before .before .before .before .before .before .before .before .before .shared-slice-known .given p .fits) (λ p. c .before .before .before .before .before .before .before .before .before .shared-slice-known2 .given p .fits) _ (c .before .before .before .before .before .counts-as-started .ensures) (c .before .before .before .before .if1 .left) _ _ (c .before .before .before .point-code .ensures) (c .before .before .if2 .left) (c .before .point-place .ensures)
 
-same-length-3 : tie.Need-same-length-3
-same-length-3 c = search needs
-
 returns-3 : tie.Need-returns-3
 returns-3 c =
     let a = c .before .before .before .before .before .before .before .before .before .before .before .before .before .before .args in
@@ -57,15 +39,15 @@ pub certify-spec : {M : Type 1} → statement M
 certify-spec =
     tie.close
     (tie.spec
-    counts-as-started-requires
-    refused-requires
-    same-length
+    (λ c κs. search needs)
+    (λ c κs. search needs)
+    (λ c. search needs)
     returns
     point-code-requires
-    refused-requires-2
-    same-length-2
+    (λ c κs. search needs)
+    (λ c. search needs)
     returns-2
     point-place-requires
     certify-at-requires
-    same-length-3
+    (λ c. search needs)
     returns-3)

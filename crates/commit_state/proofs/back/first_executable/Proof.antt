@@ -6,10 +6,6 @@ use Rattle.commit_state.proofs.back.first_executable.Tie as tie
 use Rattle.commit_state.proofs.back.first_executable.Reads as reads
 use Rattle.commit_state.proofs.back.first_executable.Lts as lts
 
--- src/back.rt:64:20
-plus-requires : tie.Need-plus-requires
-plus-requires c κs = search needs
-
 -- src/back.rt:60:1
 returns : tie.Need-returns
 unfolding firstOf
@@ -21,4 +17,4 @@ unfolding firstOf
 returns-2 c = rw (c .if1 .left) refl
 
 pub first-executable-spec : {M : Type 1} → statement M
-first-executable-spec = tie.close (tie.spec plus-requires returns returns-2)
+first-executable-spec = tie.close (tie.spec (λ c κs. search needs) returns returns-2)

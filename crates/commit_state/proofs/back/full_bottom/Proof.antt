@@ -6,21 +6,13 @@ use Rattle.commit_state.proofs.back.full_bottom.Tie as tie
 use Rattle.commit_state.proofs.back.full_bottom.Reads as reads
 use Rattle.commit_state.proofs.back.full_bottom.Lts as lts
 
--- src/back.rt:53:18
-add-if1 : tie.Need-add-if1
-add-if1 c = search needs
-
 -- src/back.rt:54:9
 returns : tie.Need-returns
 returns c = search full-low
-
--- src/back.rt:56:5
-plus-requires : tie.Need-plus-requires
-plus-requires c κs = search needs
 
 -- src/back.rt:49:1
 returns-2 : tie.Need-returns-2
 returns-2 c = c .plus .ensures ∙ full-high _ _ _ (c .before .if1 .left)
 
 pub full-bottom-spec : {M : Type 1} → statement M
-full-bottom-spec = tie.close (tie.spec add-if1 returns plus-requires returns-2)
+full-bottom-spec = tie.close (tie.spec (λ c. search needs) returns (λ c κs. search needs) returns-2)

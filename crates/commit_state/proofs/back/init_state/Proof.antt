@@ -10,36 +10,12 @@ use Rattle.commit_state.proofs.back.first_executable.Reads as first-exe
 use Rattle.commit_state.proofs.back.full_bottom.Reads as full-bottom-reads
 use Rattle.commit_state.proofs.back.used_word.Reads as used-word-reads
 
--- src/back.rt:83:9
-used-word-requires : tie.Need-used-word-requires
-used-word-requires c κs = search needs
-
--- src/back.rt:84:9
-full-bottom-requires : tie.Need-full-bottom-requires
-full-bottom-requires c κs = search needs
-
 -- src/back.rt:85:9
 first-executable-requires : tie.Need-first-executable-requires
 first-executable-requires c κs =
     let s = c .before .before .before .before in
     let b = s .args .with in
     omega (arith, c .full-bottom .ensures, full-bound (b .genesis .0) (b .«commit_history_rounds») (b .bottom .0), s .pre)
-
--- src/back.rt:86:9
-armed-requires : tie.Need-armed-requires
-armed-requires c κs = search needs
-
--- src/back.rt:92:12
-cast-rounds : tie.Need-cast-rounds
-cast-rounds c = search needs
-
--- src/back.rt:92:5
-mul-rounds : tie.Need-mul-rounds
-mul-rounds c = search needs
-
--- src/back.rt:92:5
-array-set-from-rounds : tie.Need-array-set-from-rounds
-array-set-from-rounds c = search needs
 
 -- src/back.rt:75:1
 returns : tie.Need-returns
@@ -51,11 +27,11 @@ pub init-state-spec : {M : Type 1} → statement M
 init-state-spec =
     tie.close
     (tie.spec
-    used-word-requires
-    full-bottom-requires
+    (λ c κs. search needs)
+    (λ c κs. search needs)
     first-executable-requires
-    armed-requires
-    cast-rounds
-    mul-rounds
-    array-set-from-rounds
+    (λ c κs. search needs)
+    (λ c. search needs)
+    (λ c. search needs)
+    (λ c. search needs)
     returns)

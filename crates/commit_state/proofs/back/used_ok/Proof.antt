@@ -5,14 +5,6 @@ use Rattle.commit_state.proofs.back.used_ok.Tie as tie
 use Rattle.commit_state.proofs.back.used_ok.Reads as reads
 use Rattle.commit_state.proofs.back.used_ok.Lts as lts
 
--- src/back.rt:32:31
-enum-told : tie.Need-enum-told
-enum-told c = search needs
-
--- src/back.rt:33:26
-enum-known-used : tie.Need-enum-known-used
-enum-known-used c = search needs
-
 -- src/back.rt:28:1
 returns : tie.Need-returns
 returns c = search ok-nobody
@@ -22,4 +14,4 @@ returns-2 : tie.Need-returns-2
 returns-2 c = search ok-peer
 
 pub used-ok-spec : {M : Type 1} → statement M
-used-ok-spec = tie.close (tie.spec enum-told enum-known-used returns returns-2)
+used-ok-spec = tie.close (tie.spec (λ c. search needs) (λ c. search needs) returns returns-2)

@@ -5,14 +5,6 @@ use Rattle.commit_state.proofs.back.used_word.Tie as tie
 use Rattle.commit_state.proofs.back.used_word.Reads as reads
 use Rattle.commit_state.proofs.back.used_word.Lts as lts
 
--- src/back.rt:43:31
-enum-told : tie.Need-enum-told
-enum-told c = search needs
-
--- src/back.rt:44:26
-enum-known-used : tie.Need-enum-known-used
-enum-known-used c = search needs
-
 -- src/back.rt:44:37
 add-result : tie.Need-add-result
 add-result c = let l = used-small _ _ (c .before .before .before .pre) (c .before .used .given .1) in search needs
@@ -26,4 +18,4 @@ returns-2 : tie.Need-returns-2
 returns-2 c = search word-peer
 
 pub used-word-spec : {M : Type 1} → statement M
-used-word-spec = tie.close (tie.spec enum-told enum-known-used add-result returns returns-2)
+used-word-spec = tie.close (tie.spec (λ c. search needs) (λ c. search needs) add-result returns returns-2)

@@ -24,34 +24,10 @@ abbrev μ-loop : tie.MeasureT-loop
 loop-holds : tie.Need-loop-holds Inv-loop μ-loop
 loop-holds c = (search needs, below-none _)
 
--- src/state.rt:109:19
-add-i : tie.Need-add-i Inv-loop μ-loop
-add-i c = search needs
-
--- src/state.rt:109:17
-cast-i : tie.Need-cast-i Inv-loop μ-loop
-cast-i c = search needs
-
--- src/state.rt:110:17
-mul-x : tie.Need-mul-x Inv-loop μ-loop
-mul-x c = search needs
-
--- src/state.rt:110:17
-element-copy-out-x : tie.Need-element-copy-out-x Inv-loop μ-loop
-element-copy-out-x c = search needs
-
 -- src/state.rt:112:13
 returns : tie.Need-returns Inv-loop μ-loop
 unfolding usedHold recordOf
 returns c = sym (every-not _ _ (c .before .before .before .before .loop .k) (c .before .before .before .loop-test .taken) (lt-leb _ 32 (c .if1 .taken)))
-
--- src/state.rt:114:9
-add-k : tie.Need-add-k Inv-loop μ-loop
-add-k c = search needs
-
--- src/state.rt:108:5
-loop-less : tie.Need-loop-less Inv-loop μ-loop
-loop-less c = search needs
 
 -- src/state.rt:108:5
 loop-again : tie.Need-loop-again Inv-loop μ-loop
@@ -70,12 +46,12 @@ used-hold-spec =
     Inv-loop
     μ-loop
     loop-holds
-    add-i
-    cast-i
-    mul-x
-    element-copy-out-x
+    (λ c. search needs)
+    (λ c. search needs)
+    (λ c. search needs)
+    (λ c. search needs)
     returns
-    add-k
-    loop-less
+    (λ c. search needs)
+    (λ c. search needs)
     loop-again
     returns-2)

@@ -3,27 +3,6 @@ use borrow.Author.Needs.{needs}
 use Rattle.committer.proofs.reply.reply_of.Statement.{statement}
 use Rattle.committer.proofs.reply.reply_of.Tie as tie
 
-enum-told : tie.Need-enum-told
-enum-told c = search needs
-
-enum-known-answer : tie.Need-enum-known-answer
-enum-known-answer c = search needs
-
-yes-requires : tie.Need-yes-requires
-yes-requires c κs = search needs
-
-enum-known-answer-2 : tie.Need-enum-known-answer-2
-enum-known-answer-2 c = search needs
-
-enum-known-answer-3 : tie.Need-enum-known-answer-3
-enum-known-answer-3 c = search needs
-
-number-of-requires : tie.Need-number-of-requires
-number-of-requires c κs = search needs
-
-round-in-requires : tie.Need-round-in-requires
-round-in-requires c κs = search needs
-
 returns : tie.Need-returns
 returns c = reply-done _ (c .enum-told .given .1)
 
@@ -40,13 +19,13 @@ pub reply-of-spec : {M : Type 1} → statement M
 reply-of-spec =
     tie.close
     (tie.spec
-    enum-told
-    enum-known-answer
-    yes-requires
-    enum-known-answer-2
-    enum-known-answer-3
-    number-of-requires
-    round-in-requires
+    (λ c. search needs)
+    (λ c. search needs)
+    (λ c κs. search needs)
+    (λ c. search needs)
+    (λ c. search needs)
+    (λ c κs. search needs)
+    (λ c κs. search needs)
     returns
     returns-2
     returns-3

@@ -3,11 +3,8 @@ use borrow.Author.Needs.{needs}
 use Rattle.committer.proofs.rounds.start_args_in.Statement.{statement}
 use Rattle.committer.proofs.rounds.start_args_in.Tie as tie
 
-used-in-requires : tie.Need-used-in-requires
-used-in-requires c κs = search needs
-
 returns : tie.Need-returns
 returns c = begins-is _ _ (c .before .used-in .ensures)
 
 pub start-args-in-spec : {M : Type 1} → statement M
-start-args-in-spec = tie.close (tie.spec used-in-requires returns)
+start-args-in-spec = tie.close (tie.spec (λ c κs. search needs) returns)

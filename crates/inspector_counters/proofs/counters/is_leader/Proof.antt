@@ -6,11 +6,8 @@ use Rattle.inspector_counters.proofs.counters.is_leader.Tie as tie
 returns : tie.Need-returns
 returns c = leads-none _ _ (c .if1 .taken)
 
-sub-result : tie.Need-sub-result
-sub-result c = search needs
-
 returns-2 : tie.Need-returns-2
 returns-2 c = leads-some _ _ (c .if1 .left)
 
 pub is-leader-spec : {M : Type 1} → statement M
-is-leader-spec = tie.close (tie.spec returns sub-result returns-2)
+is-leader-spec = tie.close (tie.spec returns (λ c. search needs) returns-2)

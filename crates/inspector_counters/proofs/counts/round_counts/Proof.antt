@@ -12,65 +12,17 @@ Inv-loop keys certs order low high counts₀ k₀ counts k = (k ≤ high - low) 
 abbrev μ-loop : tie.MeasureT-loop
 μ-loop keys certs order low high counts₀ k₀ counts k = high - low - k
 
-new-requires : tie.Need-new-requires Inv-loop μ-loop
-new-requires c κs = search needs
-
 loop-holds : tie.Need-loop-holds Inv-loop μ-loop
 loop-holds c = (search needs, counted-start _ _ _ _ _ (c .new .ensures))
 
-sub-loop : tie.Need-sub-loop Inv-loop μ-loop
-sub-loop c = search needs
-
-add-place : tie.Need-add-place Inv-loop μ-loop
-add-place c = search needs
-
 place-requires : tie.Need-place-requires Inv-loop μ-loop
 place-requires c κs = (search needs, c .before .before .before .before .before .before .pre .0 .4)
-
-mul-slot : tie.Need-mul-slot Inv-loop μ-loop
-mul-slot c = search needs
-
-add-slot : tie.Need-add-slot Inv-loop μ-loop
-add-slot c = search needs
-
-mul-slot-2 : tie.Need-mul-slot-2 Inv-loop μ-loop
-mul-slot-2 c = search needs
-
-shared-slice-read-slot : tie.Need-shared-slice-read-slot Inv-loop μ-loop
-shared-slice-read-slot c = search needs
-
-slot-requires : tie.Need-slot-requires Inv-loop μ-loop
-slot-requires c κs = search needs
-
-version-at-requires : tie.Need-version-at-requires Inv-loop μ-loop
-version-at-requires c κs = search needs
-
-inspect-requires : tie.Need-inspect-requires Inv-loop μ-loop
-inspect-requires c κs = search needs
-
-mul-cell : tie.Need-mul-cell Inv-loop μ-loop
-mul-cell c = search needs
-
-array-copy-out-cell : tie.Need-array-copy-out-cell Inv-loop μ-loop
-array-copy-out-cell c = search needs
 
 add-requires : tie.Need-add-requires Inv-loop μ-loop
 add-requires c κs =
     let l = c .before .before .before .before .before .before .before .before .loop in
     let p = c .before .before .before .before .before .before .before .before .before .before .before .before .before .pre in
     cell-few _ _ _ _ (l .k) _ _ (omega (arith, c .before .before .before .before .before .before .before .loop-test .taken, p .0 .1, p .0 .2)) (l .inv .1 .cells _ (c .before .before .before .if1 .taken))
-
-mul-counts : tie.Need-mul-counts Inv-loop μ-loop
-mul-counts c = search needs
-
-array-set-from-counts : tie.Need-array-set-from-counts Inv-loop μ-loop
-array-set-from-counts c = search needs
-
-add-k : tie.Need-add-k Inv-loop μ-loop
-add-k c = search needs
-
-loop-less : tie.Need-loop-less Inv-loop μ-loop
-loop-less c = search needs
 
 loop-again : tie.Need-loop-again Inv-loop μ-loop
 loop-again c =
@@ -91,24 +43,24 @@ round-counts-spec =
     (tie.spec
     Inv-loop
     μ-loop
-    new-requires
+    (λ c κs. search needs)
     loop-holds
-    sub-loop
-    add-place
+    (λ c. search needs)
+    (λ c. search needs)
     place-requires
-    mul-slot
-    add-slot
-    mul-slot-2
-    shared-slice-read-slot
-    slot-requires
-    version-at-requires
-    inspect-requires
-    mul-cell
-    array-copy-out-cell
+    (λ c. search needs)
+    (λ c. search needs)
+    (λ c. search needs)
+    (λ c. search needs)
+    (λ c κs. search needs)
+    (λ c κs. search needs)
+    (λ c κs. search needs)
+    (λ c. search needs)
+    (λ c. search needs)
     add-requires
-    mul-counts
-    array-set-from-counts
-    add-k
-    loop-less
+    (λ c. search needs)
+    (λ c. search needs)
+    (λ c. search needs)
+    (λ c. search needs)
     loop-again
     returns)

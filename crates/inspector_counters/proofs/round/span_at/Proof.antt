@@ -5,19 +5,10 @@ use borrow.Author.Needs.{needs}
 use Rattle.inspector_counters.proofs.round.span_at.Statement.{statement}
 use Rattle.inspector_counters.proofs.round.span_at.Tie as tie
 
-cut-requires : tie.Need-cut-requires
-cut-requires c κs = search needs
-
-plus-requires : tie.Need-plus-requires
-plus-requires c κs = search needs
-
-cut-requires-2 : tie.Need-cut-requires-2
-cut-requires-2 c κs = search needs
-
 returns : tie.Need-returns
 returns c =
     let a = c .before .before .before .before .before .args in
     span-is _ _ _ _ _ _ (c .before .before .cut .ensures) (c .cut2 .ensures ∙ ap (below (a .keys .now) (a .order .now) (a .n)) (c .before .plus .ensures))
 
 pub span-at-spec : {M : Type 1} → statement M
-span-at-spec = tie.close (tie.spec cut-requires plus-requires cut-requires-2 returns)
+span-at-spec = tie.close (tie.spec (λ c κs. search needs) (λ c κs. search needs) (λ c κs. search needs) returns)

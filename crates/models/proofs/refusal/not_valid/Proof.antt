@@ -6,10 +6,6 @@ use Rattle.models.proofs.refusal.not_valid.Reads as reads
 use Rattle.models.proofs.refusal.not_valid.Lts as lts
 use Rattle.models.proofs.cert.Cert.is_certified.Reads as is-certified-reads
 
--- src/refusal.rt:89:8
-is-certified-requires : tie.Need-is-certified-requires
-is-certified-requires c κs = search needs
-
 -- src/refusal.rt:90:9
 returns : tie.Need-returns
 returns c = invalid-certified _ _ _ (c .before .is-certified .ensures) (c .if1 .taken)
@@ -19,4 +15,4 @@ returns-2 : tie.Need-returns-2
 returns-2 c = invalid-flat _ _ _ (c .before .is-certified .ensures) (c .if1 .left)
 
 pub not-valid-spec : {M : Type 1} → statement M
-not-valid-spec = tie.close (tie.spec is-certified-requires returns returns-2)
+not-valid-spec = tie.close (tie.spec (λ c κs. search needs) returns returns-2)

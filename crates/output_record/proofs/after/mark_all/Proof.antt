@@ -17,15 +17,6 @@ abbrev μ-loop : tie.MeasureT-loop
 loop-holds : tie.Need-loop-holds Inv-loop μ-loop
 loop-holds c = (omega arith, search needs, refl, marks-none _ _ _ _)
 
-mul-slot : tie.Need-mul-slot Inv-loop μ-loop
-mul-slot c = search needs
-
-shared-slice-read-slot : tie.Need-shared-slice-read-slot Inv-loop μ-loop
-shared-slice-read-slot c = search needs
-
-slot-requires : tie.Need-slot-requires Inv-loop μ-loop
-slot-requires c κs = search needs
-
 is-uncommitted-requires : tie.Need-is-uncommitted-requires Inv-loop μ-loop
 is-uncommitted-requires c κs =
     let s = c .before .before .before .before .before .before .before in
@@ -69,12 +60,6 @@ slice-write-certs c =
     let h : getD (s .args .order .now) (l .i) 0 < length (s .args .certs .now) = s .pre .3 (l .i) (omega arith) in
     omega (arith, h, c .before .before .before .before .before .slot .ensures, l .inv .2)
 
-add-i : tie.Need-add-i Inv-loop μ-loop
-add-i c = search needs
-
-loop-less : tie.Need-loop-less Inv-loop μ-loop
-loop-less c = search needs
-
 loop-again : tie.Need-loop-again Inv-loop μ-loop
 unfolding committedWord
 loop-again c =
@@ -85,9 +70,6 @@ loop-again c =
     (λ w. (omega arith, omega arith, ap length (w .3) ∙ (length-set (l .certs) _ _ ∙ l .inv .2), marks-yes _ _ _ _ _ _ (l .i) _ (l .inv .3) x (l .inv .0) (sym is ∙ w .0 .taken) _ (w .2 .ensures) (w .3)))
     (λ w. (omega arith, omega arith, ap length (w .1) ∙ l .inv .2, marks-no _ _ _ _ _ _ (l .i) _ (l .inv .3) x (sym is ∙ w .0 .left) (w .1)))
     (c .if1 .came)
-
-same-length : tie.Need-same-length Inv-loop μ-loop
-same-length c = search needs
 
 returns : tie.Need-returns Inv-loop μ-loop
 returns c =
@@ -103,17 +85,17 @@ mark-all-spec =
     Inv-loop
     μ-loop
     loop-holds
-    mul-slot
-    shared-slice-read-slot
-    slot-requires
+    (λ c. search needs)
+    (λ c. search needs)
+    (λ c κs. search needs)
     is-uncommitted-requires
     mul-t17
     slice-read-t19
     set-committed-requires
     mul-certs
     slice-write-certs
-    add-i
-    loop-less
+    (λ c. search needs)
+    (λ c. search needs)
     loop-again
-    same-length
+    (λ c. search needs)
     returns)

@@ -3,14 +3,8 @@ use borrow.Author.Needs.{needs}
 use Rattle.output_record.proofs.record.previous_anchor.Statement.{statement}
 use Rattle.output_record.proofs.record.previous_anchor.Tie as tie
 
-prev-requires : tie.Need-prev-requires
-prev-requires c κs = search needs
-
 returns : tie.Need-returns
 returns c = previous-genesis _ _ _ _ (c .before .before .before .prev .ensures) (c .if1 .taken)
-
-is-first-executable-requires : tie.Need-is-first-executable-requires
-is-first-executable-requires c κs = search needs
 
 returns-2 : tie.Need-returns-2
 returns-2 c =
@@ -22,4 +16,4 @@ returns-3 c =
 
 pub previous-anchor-spec : {M : Type 1} → statement M
 previous-anchor-spec =
-    tie.close (tie.spec prev-requires returns is-first-executable-requires returns-2 returns-3)
+    tie.close (tie.spec (λ c κs. search needs) returns (λ c κs. search needs) returns-2 returns-3)

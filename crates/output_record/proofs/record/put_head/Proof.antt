@@ -6,30 +6,6 @@ use borrow.Author.Needs.{needs}
 use Rattle.output_record.proofs.record.put_head.Statement.{statement}
 use Rattle.output_record.proofs.record.put_head.Tie as tie
 
-put-id-requires : tie.Need-put-id-requires
-put-id-requires c κs = search needs
-
-put-id-requires-2 : tie.Need-put-id-requires-2
-put-id-requires-2 c κs = search needs
-
-flag-requires : tie.Need-flag-requires
-flag-requires c κs = search needs
-
-put-number-requires : tie.Need-put-number-requires
-put-number-requires c κs = search needs
-
-wide-requires : tie.Need-wide-requires
-wide-requires c κs = search needs
-
-put-number-requires-2 : tie.Need-put-number-requires-2
-put-number-requires-2 c κs = search needs
-
-put-number-requires-3 : tie.Need-put-number-requires-3
-put-number-requires-3 c κs = search needs
-
-same-length : tie.Need-same-length
-same-length c = search needs
-
 returns : tie.Need-returns
 unfolding headOf
 returns c = (
@@ -45,12 +21,12 @@ pub put-head-spec : {M : Type 1} → statement M
 put-head-spec =
     tie.close
     (tie.spec
-    put-id-requires
-    put-id-requires-2
-    flag-requires
-    put-number-requires
-    wide-requires
-    put-number-requires-2
-    put-number-requires-3
-    same-length
+    (λ c κs. search needs)
+    (λ c κs. search needs)
+    (λ c κs. search needs)
+    (λ c κs. search needs)
+    (λ c κs. search needs)
+    (λ c κs. search needs)
+    (λ c κs. search needs)
+    (λ c. search needs)
     returns)

@@ -21,15 +21,6 @@ abbrev μ-loop : tie.MeasureT-loop
 loop-holds : tie.Need-loop-holds Inv-loop μ-loop
 loop-holds c = (omega arith, search needs, refl, sofar-none _ _ _ _ _ _)
 
-mul-slot : tie.Need-mul-slot Inv-loop μ-loop
-mul-slot c = search needs
-
-shared-slice-read-slot : tie.Need-shared-slice-read-slot Inv-loop μ-loop
-shared-slice-read-slot c = search needs
-
-slot-requires : tie.Need-slot-requires Inv-loop μ-loop
-slot-requires c κs = search needs
-
 is-uncommitted-requires : tie.Need-is-uncommitted-requires Inv-loop μ-loop
 is-uncommitted-requires c κs =
     let s = c .before .before .before .before .before .before .before .before in
@@ -46,12 +37,6 @@ put-id-requires c κs =
     let p : s .args .at + length (picked (s .args .order .now) (isUncommitted (s .args .certs .now) (s .args .marks .now)) (s .args .low) ((s .args .high) - (s .args .low))) * 37 ≤ length (s .args .b .now) = s .pre .1 in
     (omega (arith, r, p, l .inv .2, l .inv .3 .0), omega (arith, h, c .before .before .before .slot .ensures, s .pre .0 .3))
 
-add-i : tie.Need-add-i Inv-loop μ-loop
-add-i c = search needs
-
-loop-less : tie.Need-loop-less Inv-loop μ-loop
-loop-less c = search needs
-
 loop-again : tie.Need-loop-again Inv-loop μ-loop
 loop-again c =
     let l = c .before .before .before .before .before .loop in
@@ -62,9 +47,6 @@ loop-again c =
     (omega arith, omega arith, ap length e ∙ (written-length _ _ _ ∙ l .inv .2), sofar-yes _ _ _ _ _ _ (l .i) _ _ _ _ _ (l .inv .0) (l .inv .3) x (sym is ∙ w .0 .taken) (w .6 ∙ w .2 .ensures .0) e))
     (λ w. (omega arith, omega arith, ap length (w .1) ∙ l .inv .2, sofar-no _ _ _ _ _ _ (l .i) _ _ _ _ _ (l .inv .0) (l .inv .3) x (sym is ∙ w .0 .left) (w .2) (w .1)))
     (c .if1 .came)
-
-same-length : tie.Need-same-length Inv-loop μ-loop
-same-length c = search needs
 
 returns : tie.Need-returns Inv-loop μ-loop
 unfolding pointsOf
@@ -81,13 +63,13 @@ put-points-spec =
     Inv-loop
     μ-loop
     loop-holds
-    mul-slot
-    shared-slice-read-slot
-    slot-requires
+    (λ c. search needs)
+    (λ c. search needs)
+    (λ c κs. search needs)
     is-uncommitted-requires
     put-id-requires
-    add-i
-    loop-less
+    (λ c. search needs)
+    (λ c. search needs)
     loop-again
-    same-length
+    (λ c. search needs)
     returns)

@@ -3,18 +3,6 @@ use borrow.Author.Needs.{needs}
 use Rattle.play.proofs.line.anchors_of.Statement.{statement}
 use Rattle.play.proofs.line.anchors_of.Tie as tie
 
-enum-told : tie.Need-enum-told
-enum-told c = search needs
-
-enum-known-answer : tie.Need-enum-known-answer
-enum-known-answer c = search needs
-
-enum-known-answer-2 : tie.Need-enum-known-answer-2
-enum-known-answer-2 c = search needs
-
-enum-known-answer-3 : tie.Need-enum-known-answer-3
-enum-known-answer-3 c = search needs
-
 returns : tie.Need-returns
 returns c = anchors-done _ (c .enum-told .given .1)
 
@@ -31,10 +19,10 @@ pub anchors-of-spec : {M : Type 1} → statement M
 anchors-of-spec =
     tie.close
     (tie.spec
-    enum-told
-    enum-known-answer
-    enum-known-answer-2
-    enum-known-answer-3
+    (λ c. search needs)
+    (λ c. search needs)
+    (λ c. search needs)
+    (λ c. search needs)
     returns
     returns-2
     returns-3

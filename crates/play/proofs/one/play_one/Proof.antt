@@ -8,14 +8,8 @@ use borrow.Author.Needs.{needs}
 use Rattle.play.proofs.one.play_one.Statement.{statement}
 use Rattle.play.proofs.one.play_one.Tie as tie
 
-unmade-requires : tie.Need-unmade-requires
-unmade-requires c κs = search needs
-
 returns : tie.Need-returns
 returns c = let e = head-beyond _ _ (c .before .if1 .taken) in ((ap (λ (x : Record). x .end) e, head-after _ _ _ e, λ l. l), (plays-head _ _ _ _ _ _ _ _ e (plays-unmade _ kind.Broken _ _ _ (c .unmade .result) refl refl (c .unmade .ensures)), head-moves _ _ _ e))
-
-record-at-requires : tie.Need-record-at-requires
-record-at-requires c κs = search needs
 
 sub-play-fields : tie.Need-sub-play-fields
 sub-play-fields c = head-inside _ _ _ (c .before .before .before .before .before .record-at .ensures) (c .before .before .before .before .before .before .if1 .left) .0
@@ -29,21 +23,6 @@ part-play-fields-end c = head-inside _ _ _ (c .before .before .before .before .b
 play-fields-requires : tie.Need-play-fields-requires
 play-fields-requires c κs = sized-head _ _ _ (c .before .before .before .before .before .before .record-at .ensures)
 
-same-length : tie.Need-same-length
-same-length c = search needs
-
-same-length-2 : tie.Need-same-length-2
-same-length-2 c = search needs
-
-same-length-3 : tie.Need-same-length-3
-same-length-3 c = search needs
-
-same-length-4 : tie.Need-same-length-4
-same-length-4 c = search needs
-
-same-length-5 : tie.Need-same-length-5
-same-length-5 c = search needs
-
 returns-2 : tie.Need-returns-2
 returns-2 c = let e = c .before .before .before .before .before .before .before .before .before .before .before .before .before .before .before .before .before .record-at .ensures in ((ap (λ (x : Record). x .end) e, head-after _ _ _ e, λ _. head-inside _ _ _ e (c .before .before .before .before .before .before .before .before .before .before .before .before .before .before .before .before .before .before .if1 .left) .1), (plays-head _ _ _ _ _ _ _ _ e (c .before .before .before .before .before .before .before .before .before .before .play-fields .ensures), head-moves _ _ _ e))
 
@@ -51,16 +30,16 @@ pub play-one-spec : {M : Type 1} → statement M
 play-one-spec =
     tie.close
     (tie.spec
-    unmade-requires
+    (λ c κs. search needs)
     returns
-    record-at-requires
+    (λ c κs. search needs)
     sub-play-fields
     part-play-fields-start
     part-play-fields-end
     play-fields-requires
-    same-length
-    same-length-2
-    same-length-3
-    same-length-4
-    same-length-5
+    (λ c. search needs)
+    (λ c. search needs)
+    (λ c. search needs)
+    (λ c. search needs)
+    (λ c. search needs)
     returns-2)

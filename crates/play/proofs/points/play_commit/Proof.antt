@@ -8,25 +8,10 @@ use borrow.Author.Needs.{needs}
 use Rattle.play.proofs.points.play_commit.Statement.{statement}
 use Rattle.play.proofs.points.play_commit.Tie as tie
 
-id-of-requires : tie.Need-id-of-requires
-id-of-requires c κs = search needs
-
-commit-requires : tie.Need-commit-requires
-commit-requires c κs = search needs
-
-step-of-requires : tie.Need-step-of-requires
-step-of-requires c κs = search needs
-
-same-length : tie.Need-same-length
-same-length c = search needs
-
-same-length-2 : tie.Need-same-length-2
-same-length-2 c = search needs
-
 returns : tie.Need-returns
 unfolding callBy
 returns c = plays-bufferOf kind.Commit _ _ _ _ _ _ _ _ (c .step-of .result) refl (c .step-of .ensures) _ _ refl (made-two _ _ _ calls.commit _ _ _ _ (c .before .before .before .before .before .commit .ensures) (c .before .before .before .before .before .before .before .before .id-of .ensures) refl)
 
 pub play-commit-spec : {M : Type 1} → statement M
 play-commit-spec =
-    tie.close (tie.spec id-of-requires commit-requires step-of-requires same-length same-length-2 returns)
+    tie.close (tie.spec (λ c κs. search needs) (λ c κs. search needs) (λ c κs. search needs) (λ c. search needs) (λ c. search needs) returns)

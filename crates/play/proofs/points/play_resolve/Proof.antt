@@ -8,44 +8,8 @@ use borrow.Author.Needs.{needs}
 use Rattle.play.proofs.points.play_resolve.Statement.{statement}
 use Rattle.play.proofs.points.play_resolve.Tie as tie
 
-id-of-requires : tie.Need-id-of-requires
-id-of-requires c κs = search needs
-
-info-of-requires : tie.Need-info-of-requires
-info-of-requires c κs = search needs
-
-add-n : tie.Need-add-n
-add-n c = search needs
-
-slice-aggregate-refs-of : tie.Need-slice-aggregate-refs-of
-slice-aggregate-refs-of c = search needs
-
-refs-of-requires : tie.Need-refs-of-requires
-refs-of-requires c κs = search needs
-
-mul-refs : tie.Need-mul-refs
-mul-refs c = search needs
-
-array-share-prefix-refs : tie.Need-array-share-prefix-refs
-array-share-prefix-refs c = search needs
-
 slice-aggregate-resolve : tie.Need-slice-aggregate-resolve
 slice-aggregate-resolve c = refs-count _ _ _ (c .before .before .before .before .before .before .before .before .info-of .result) (c .before .before .before .before .before .refs-of .ensures) refl (c .before .before .before .before .before .before .before .before .info-of .ensures .1) (c .before .before .before .before .before .before .before .before .before .before .before .before .before .before .before .pre .1)
-
-resolve-requires : tie.Need-resolve-requires
-resolve-requires c κs = search needs
-
-step-of-requires : tie.Need-step-of-requires
-step-of-requires c κs = search needs
-
-same-length : tie.Need-same-length
-same-length c = search needs
-
-same-length-2 : tie.Need-same-length-2
-same-length-2 c = search needs
-
-same-length-3 : tie.Need-same-length-3
-same-length-3 c = search needs
 
 returns : tie.Need-returns
 unfolding callBy
@@ -55,17 +19,17 @@ pub play-resolve-spec : {M : Type 1} → statement M
 play-resolve-spec =
     tie.close
     (tie.spec
-    id-of-requires
-    info-of-requires
-    add-n
-    slice-aggregate-refs-of
-    refs-of-requires
-    mul-refs
-    array-share-prefix-refs
+    (λ c κs. search needs)
+    (λ c κs. search needs)
+    (λ c. search needs)
+    (λ c. search needs)
+    (λ c κs. search needs)
+    (λ c. search needs)
+    (λ c. search needs)
     slice-aggregate-resolve
-    resolve-requires
-    step-of-requires
-    same-length
-    same-length-2
-    same-length-3
+    (λ c κs. search needs)
+    (λ c κs. search needs)
+    (λ c. search needs)
+    (λ c. search needs)
+    (λ c. search needs)
     returns)

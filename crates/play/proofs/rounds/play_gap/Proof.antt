@@ -6,15 +6,9 @@ use borrow.Author.Needs.{needs}
 use Rattle.play.proofs.rounds.play_gap.Statement.{statement}
 use Rattle.play.proofs.rounds.play_gap.Tie as tie
 
-is-once-after-gap-requires : tie.Need-is-once-after-gap-requires
-is-once-after-gap-requires c κs = search needs
-
-step-of-requires : tie.Need-step-of-requires
-step-of-requires c κs = search needs
-
 returns : tie.Need-returns
 unfolding callBy
 returns c w = plays-plain kind.Gap _ _ _ _ _ _ _ _ (c .step-of .result) refl (c .step-of .ensures) w _ refl (c .before .is-once-after-gap .ensures)
 
 pub play-gap-spec : {M : Type 1} → statement M
-play-gap-spec = tie.close (tie.spec is-once-after-gap-requires step-of-requires returns)
+play-gap-spec = tie.close (tie.spec (λ c κs. search needs) (λ c κs. search needs) returns)

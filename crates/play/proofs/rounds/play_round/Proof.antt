@@ -8,19 +8,10 @@ use borrow.Author.Needs.{needs}
 use Rattle.play.proofs.rounds.play_round.Statement.{statement}
 use Rattle.play.proofs.rounds.play_round.Tie as tie
 
-round-of-requires : tie.Need-round-of-requires
-round-of-requires c κs = search needs
-
-extend-from-ahead-requires : tie.Need-extend-from-ahead-requires
-extend-from-ahead-requires c κs = search needs
-
-step-of-requires : tie.Need-step-of-requires
-step-of-requires c κs = search needs
-
 returns : tie.Need-returns
 unfolding callBy
 returns c w = plays-plain kind.Round _ _ _ _ _ _ _ _ (c .step-of .result) refl (c .step-of .ensures) w _ refl (made-two _ _ _ calls.round _ _ _ _ (c .before .extend-from-ahead .ensures) (c .before .before .before .round-of .ensures .0) (c .before .before .before .round-of .ensures .1))
 
 pub play-round-spec : {M : Type 1} → statement M
 play-round-spec =
-    tie.close (tie.spec round-of-requires extend-from-ahead-requires step-of-requires returns)
+    tie.close (tie.spec (λ c κs. search needs) (λ c κs. search needs) (λ c κs. search needs) returns)

@@ -29,26 +29,11 @@ Inv-loop keys₀ links₀ certs₀ order₀ b₀ bytes base last now₀ at₀ br
 abbrev μ-loop : tie.MeasureT-loop
 μ-loop keys₀ links₀ certs₀ order₀ b₀ bytes base last now₀ at₀ broken₀ n least keys links certs order b now at broken = n - at
 
-least-left-requires : tie.Need-least-left-requires Inv-loop μ-loop
-least-left-requires c κs = search needs
-
 loop-holds : tie.Need-loop-holds Inv-loop μ-loop
 loop-holds c = (search needs, search needs, refl, c .least-left .ensures, refl, refl, refl, refl, refl, none-yet)
 
 sub-loop : tie.Need-sub-loop Inv-loop μ-loop
 sub-loop c = c .loop .inv .1
-
-play-one-requires : tie.Need-play-one-requires Inv-loop μ-loop
-play-one-requires c κs = search needs
-
-write-anchors-requires : tie.Need-write-anchors-requires Inv-loop μ-loop
-write-anchors-requires c κs = search needs
-
-wrapping-add-u64-requires : tie.Need-wrapping-add-u64-requires Inv-loop μ-loop
-wrapping-add-u64-requires c κs = search needs
-
-write-line-requires : tie.Need-write-line-requires Inv-loop μ-loop
-write-line-requires c κs = search needs
 
 loop-less : tie.Need-loop-less Inv-loop μ-loop
 loop-less c = let i = c .before .before .before .before .before .before .before .before .before .before .before .before .before .before .before .before .before .before .before .before .before .before .before .before .loop .inv in fewer _ _ _ _ (i .0) (c .if1 .left) (c .before .before .before .before .before .before .before .before .before .before .before .before .before .before .before .before .before .play-one .ensures .0 .2 (inside _ _ _ (i .0) (i .1)))
@@ -98,13 +83,13 @@ play-part-spec =
     (tie.spec
     Inv-loop
     μ-loop
-    least-left-requires
+    (λ c κs. search needs)
     loop-holds
     sub-loop
-    play-one-requires
-    write-anchors-requires
-    wrapping-add-u64-requires
-    write-line-requires
+    (λ c κs. search needs)
+    (λ c κs. search needs)
+    (λ c κs. search needs)
+    (λ c κs. search needs)
     loop-less
     loop-again
     same-length

@@ -20,9 +20,6 @@ mul-slot c = let h = reads-order _ _ _ _ _ (c .before .before .before .before .b
 shared-slice-read-slot : tie.Need-shared-slice-read-slot Inv-loop μ-loop
 shared-slice-read-slot c = reads-order _ _ _ _ _ (c .before .before .before .before .before .before .pre) (c .before .loop-test .taken)
 
-slot-requires : tie.Need-slot-requires Inv-loop μ-loop
-slot-requires c κs = search needs
-
 mul-word : tie.Need-mul-word Inv-loop μ-loop
 mul-word c = let h = reads-cert _ _ _ _ _ (c .before .before .before .before .before .before .before .pre) (c .before .before .loop-test .taken) _ (c .slot .ensures) in search needs
 
@@ -31,9 +28,6 @@ shared-slice-read-word c = reads-cert _ _ _ _ _ (c .before .before .before .befo
 
 write-point-requires : tie.Need-write-point-requires Inv-loop μ-loop
 write-point-requires c κs = reads-key _ _ _ _ _ (c .before .before .before .before .before .before .before .before .pre) (c .before .before .before .loop-test .taken) _ (c .before .slot .ensures)
-
-add-i : tie.Need-add-i Inv-loop μ-loop
-add-i c = search needs
 
 loop-less : tie.Need-loop-less Inv-loop μ-loop
 loop-less c = omega (arith, c .before .before .before .before .loop-test .taken)
@@ -53,11 +47,11 @@ write-points-spec =
     loop-holds
     mul-slot
     shared-slice-read-slot
-    slot-requires
+    (λ c κs. search needs)
     mul-word
     shared-slice-read-word
     write-point-requires
-    add-i
+    (λ c. search needs)
     loop-less
     loop-again
     returns)

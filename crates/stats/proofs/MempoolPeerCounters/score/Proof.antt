@@ -12,30 +12,9 @@ Inv-loop counts sum₀ counter₀ sum counter = (counter ≤ 9) × (sum ≤ coun
 abbrev μ-loop : tie.MeasureT-loop
 μ-loop counts sum₀ counter₀ sum counter = 9 - counter
 
-counts-requires : tie.Need-counts-requires Inv-loop μ-loop
-counts-requires c κs = search needs
-
 loop-holds : tie.Need-loop-holds Inv-loop μ-loop
 unfolding scoreTo
 loop-holds c = (search needs, search needs, refl)
-
-mul-weigh : tie.Need-mul-weigh Inv-loop μ-loop
-mul-weigh c = search needs
-
-array-read-weigh : tie.Need-array-read-weigh Inv-loop μ-loop
-array-read-weigh c = search needs
-
-weigh-requires : tie.Need-weigh-requires Inv-loop μ-loop
-weigh-requires c κs = search needs
-
-add-sum : tie.Need-add-sum Inv-loop μ-loop
-add-sum c = search needs
-
-add-counter : tie.Need-add-counter Inv-loop μ-loop
-add-counter c = search needs
-
-loop-less : tie.Need-loop-less Inv-loop μ-loop
-loop-less c = search needs
 
 loop-again : tie.Need-loop-again Inv-loop μ-loop
 loop-again c = (search needs, search needs, score-more _ _ _ _ _ (c .before .before .loop .inv .2) (c .weigh .ensures .0) refl)
@@ -49,13 +28,13 @@ score-spec =
     (tie.spec
     Inv-loop
     μ-loop
-    counts-requires
+    (λ c κs. search needs)
     loop-holds
-    mul-weigh
-    array-read-weigh
-    weigh-requires
-    add-sum
-    add-counter
-    loop-less
+    (λ c. search needs)
+    (λ c. search needs)
+    (λ c κs. search needs)
+    (λ c. search needs)
+    (λ c. search needs)
+    (λ c. search needs)
     loop-again
     returns)

@@ -18,39 +18,15 @@ abbrev μ-loop : tie.MeasureT-loop
 byte-of-requires : tie.Need-byte-of-requires Inv-loop μ-loop
 byte-of-requires c κs = omega arith
 
-cast-includes : tie.Need-cast-includes Inv-loop μ-loop
-cast-includes c = search needs
-
 byte-of-requires-2 : tie.Need-byte-of-requires-2 Inv-loop μ-loop
 byte-of-requires-2 c κs = omega arith
-
-cast-witness : tie.Need-cast-witness Inv-loop μ-loop
-cast-witness c = search needs
-
-add-n : tie.Need-add-n Inv-loop μ-loop
-add-n c = search needs
 
 loop-holds : tie.Need-loop-holds Inv-loop μ-loop
 unfolding linksWords written
 loop-holds c = (refl, omega arith)
 
-mul-put-link : tie.Need-mul-put-link Inv-loop μ-loop
-mul-put-link c = search needs
-
-add-put-link : tie.Need-add-put-link Inv-loop μ-loop
-add-put-link c = search needs
-
-mul-put-link-2 : tie.Need-mul-put-link-2 Inv-loop μ-loop
-mul-put-link-2 c = search needs
-
 put-link-requires : tie.Need-put-link-requires Inv-loop μ-loop
 put-link-requires c κs = link-fits _ _ _ _ _ _ (c .before .before .before .before .byte-of .ensures .0) (c .before .before .before .byte-of2 .ensures .0) (c .before .before .loop .inv .0) (c .before .before .before .before .before .before .before .pre .0) (c .before .before .before .before .before .before .before .pre .1) (c .before .loop-test .taken)
-
-add-k : tie.Need-add-k Inv-loop μ-loop
-add-k c = search needs
-
-loop-less : tie.Need-loop-less Inv-loop μ-loop
-loop-less c = search needs
 
 loop-again : tie.Need-loop-again Inv-loop μ-loop
 loop-again c = (links-more _ _ _ _ _ (c .before .before .before .before .before .loop .inv .0) (c .before .before .put-link .ensures), search needs)
@@ -68,17 +44,17 @@ refs-of-spec =
     Inv-loop
     μ-loop
     byte-of-requires
-    cast-includes
+    (λ c. search needs)
     byte-of-requires-2
-    cast-witness
-    add-n
+    (λ c. search needs)
+    (λ c. search needs)
     loop-holds
-    mul-put-link
-    add-put-link
-    mul-put-link-2
+    (λ c. search needs)
+    (λ c. search needs)
+    (λ c. search needs)
     put-link-requires
-    add-k
-    loop-less
+    (λ c. search needs)
+    (λ c. search needs)
     loop-again
     same-length
     returns)

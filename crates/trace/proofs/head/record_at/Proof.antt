@@ -6,33 +6,24 @@ use Rattle.trace.specs.Head.{head-cut, whole-elim}
 use Rattle.trace.proofs.head.record_at.Statement.{statement}
 use Rattle.trace.proofs.head.record_at.Tie as tie
 
-whole-at-requires : tie.Need-whole-at-requires
-whole-at-requires c κs = search needs
-
 returns : tie.Need-returns
 returns c = head-cut _ _ _ refl (sym (c .before .whole-at .ensures) ∙ not-true _ (c .if1 .taken))
 
 number-of-requires : tie.Need-number-of-requires
 number-of-requires c κs = omega (arith, whole-elim _ _ (sym (c .before .whole-at .ensures) ∙ not-false _ (c .if1 .left)))
 
-cast-rest : tie.Need-cast-rest
-cast-rest c = search needs
-
 whole-record-requires : tie.Need-whole-record-requires
 whole-record-requires c κs = let w = sym (c .before .before .whole-at .ensures) ∙ not-false _ (c .before .if1 .left) in
     let e = whole-elim _ _ w in
     (w, (c .number-of .ensures, rw (c .number-of .ensures) (e .0), rw (c .number-of .ensures) (e .2)))
 
-returns-2 : tie.Need-returns-2
-returns-2 c = search needs
-
 pub record-at-spec : {M : Type 1} → statement M
 record-at-spec =
     tie.close
     (tie.spec
-    whole-at-requires
+    (λ c κs. search needs)
     returns
     number-of-requires
-    cast-rest
+    (λ c. search needs)
     whole-record-requires
-    returns-2)
+    (λ c. search needs))

@@ -10,20 +10,11 @@ returns c = whole-short _ _ (omega (arith, c .if1 .taken))
 returns-2 : tie.Need-returns-2
 returns-2 c = whole-short _ _ (omega (arith, c .if2 .taken))
 
-number-of-requires : tie.Need-number-of-requires
-number-of-requires c κs = search needs
-
-cast-rest : tie.Need-cast-rest
-cast-rest c = search needs
-
 returns-3 : tie.Need-returns-3
 returns-3 c = whole-little _ _ _ (c .before .number-of .ensures) (c .if3 .taken)
 
 returns-4 : tie.Need-returns-4
 returns-4 c = whole-much _ _ _ (c .before .before .number-of .ensures) (c .if4 .taken)
-
-sub-result : tie.Need-sub-result
-sub-result c = search needs
 
 returns-5 : tie.Need-returns-5
 returns-5 c = whole-end _ _ _ (c .before .before .number-of .ensures) (omega (arith, c .before .before .before .before .if1 .left, c .before .before .before .if2 .left)) (c .before .if3 .left) (c .if4 .left)
@@ -34,9 +25,9 @@ whole-at-spec =
     (tie.spec
     returns
     returns-2
-    number-of-requires
-    cast-rest
+    (λ c κs. search needs)
+    (λ c. search needs)
     returns-3
     returns-4
-    sub-result
+    (λ c. search needs)
     returns-5)

@@ -4,18 +4,6 @@ use borrow.Author.Needs.{needs}
 use Rattle.inspector_counters.proofs.tests.Version.inspect.Statement.{statement}
 use Rattle.inspector_counters.proofs.tests.Version.inspect.Tie as tie
 
-enum-known-case : tie.Need-enum-known-case
-enum-known-case c = search needs
-
-inspect-case-requires : tie.Need-inspect-case-requires
-inspect-case-requires c κs = search needs
-
-enum-told : tie.Need-enum-told
-enum-told c = search needs
-
-new-requires : tie.Need-new-requires
-new-requires c κs = search needs
-
 returns : tie.Need-returns
 returns c = inspect-case (c .before .before .before .before .args .self) _ refl _ _ (c .before .before .case .given .1) (c .inspect-case .ensures)
 
@@ -25,4 +13,4 @@ returns-2 c = inspect-none (c .before .before .before .args .self) _ refl _ (c .
 pub inspect-spec : {M : Type 1} → statement M
 inspect-spec =
     tie.close
-    (tie.spec enum-known-case inspect-case-requires enum-told new-requires returns returns-2)
+    (tie.spec (λ c. search needs) (λ c κs. search needs) (λ c. search needs) (λ c κs. search needs) returns returns-2)

@@ -3,30 +3,6 @@ use borrow.Author.Needs.{needs}
 use Rattle.inspector_counters.proofs.tests.Version.inspect_case.Statement.{statement}
 use Rattle.inspector_counters.proofs.tests.Version.inspect_case.Tie as tie
 
-new-requires : tie.Need-new-requires
-new-requires c κs = search needs
-
-enum-told : tie.Need-enum-told
-enum-told c = search needs
-
-enum-told-2 : tie.Need-enum-told-2
-enum-told-2 c = search needs
-
-and-requires : tie.Need-and-requires
-and-requires c κs = search needs
-
-enum-told-3 : tie.Need-enum-told-3
-enum-told-3 c = search needs
-
-and-requires-2 : tie.Need-and-requires-2
-and-requires-2 c κs = search needs
-
-enum-told-4 : tie.Need-enum-told-4
-enum-told-4 c = search needs
-
-enum-told-5 : tie.Need-enum-told-5
-enum-told-5 c = search needs
-
 returns : tie.Need-returns
 returns c = case-valid _ _ _ _ _ (c .before .before .new .ensures) (c .enum-told .given .1)
 
@@ -46,14 +22,14 @@ pub inspect-case-spec : {M : Type 1} → statement M
 inspect-case-spec =
     tie.close
     (tie.spec
-    new-requires
-    enum-told
-    enum-told-2
-    and-requires
-    enum-told-3
-    and-requires-2
-    enum-told-4
-    enum-told-5
+    (λ c κs. search needs)
+    (λ c. search needs)
+    (λ c. search needs)
+    (λ c κs. search needs)
+    (λ c. search needs)
+    (λ c κs. search needs)
+    (λ c. search needs)
+    (λ c. search needs)
     returns
     returns-2
     returns-3

@@ -6,14 +6,10 @@ use Rattle.models.proofs.cert.Cert.height.Tie as tie
 use Rattle.models.proofs.cert.Cert.height.Reads as reads
 use Rattle.models.proofs.cert.Cert.height.Lts as lts
 
--- src/cert.rt:19:16
-cast-t3 : tie.Need-cast-t3
-cast-t3 c = search needs
-
 -- src/cert.rt:16:5
 returns : tie.Need-returns
 unfolding heightOf
 returns c = refl
 
 pub height-spec : {M : Type 1} → statement M
-height-spec = tie.close (tie.spec cast-t3 returns)
+height-spec = tie.close (tie.spec (λ c. search needs) returns)

@@ -4,21 +4,6 @@ use Rattle.models.specs.DagPoint.{hasInfo}
 use Rattle.models.proofs.dag_point.DagPoint.has_info.Statement.{statement}
 use Rattle.models.proofs.dag_point.DagPoint.has_info.Tie as tie
 
-enum-told : tie.Need-enum-told
-enum-told c = search needs
-
-enum-told-2 : tie.Need-enum-told-2
-enum-told-2 c = search needs
-
-enum-told-3 : tie.Need-enum-told-3
-enum-told-3 c = search needs
-
-enum-told-4 : tie.Need-enum-told-4
-enum-told-4 c = search needs
-
-enum-told-5 : tie.Need-enum-told-5
-enum-told-5 c = search needs
-
 returns : tie.Need-returns
 unfolding hasInfo
 returns c = ap hasInfo (sym (c .enum-told .given .1))
@@ -43,11 +28,11 @@ pub has-info-spec : {M : Type 1} → statement M
 has-info-spec =
     tie.close
     (tie.spec
-    enum-told
-    enum-told-2
-    enum-told-3
-    enum-told-4
-    enum-told-5
+    (λ c. search needs)
+    (λ c. search needs)
+    (λ c. search needs)
+    (λ c. search needs)
+    (λ c. search needs)
     returns
     returns-2
     returns-3
