@@ -3,7 +3,7 @@
 use std::path::{Path, PathBuf};
 use std::{env, fs, process};
 
-const DEFAULT: &str = "../target/staticlib/libcapi.a";
+const DEFAULT: &str = "../target/staticlib/libcommitter.a";
 
 fn main() {
     println!("cargo::rerun-if-env-changed=COMMITTER_LIB");
@@ -14,9 +14,9 @@ fn main() {
     println!("cargo::rerun-if-changed={}", archive.display());
     stop_without(&archive);
     // copied, so that the archive may have any name
-    fs::copy(&archive, out.join("libcapi.a")).expect("the archive can be read and OUT_DIR written");
+    fs::copy(&archive, out.join("libcommitter.a")).expect("the archive can be read and OUT_DIR written");
     println!("cargo::rustc-link-search=native={}", out.display());
-    println!("cargo::rustc-link-lib=static=capi");
+    println!("cargo::rustc-link-lib=static=committer");
 }
 
 /// Ends the build with a message if the archive isn't there.
@@ -26,7 +26,7 @@ fn stop_without(archive: &Path) {
     }
     println!("cargo::error=the static library is missing: there is no {}", archive.display());
     println!(
-        "cargo::error=run `rt staticlib capi` in the repository first, or set COMMITTER_LIB to the path of the archive"
+        "cargo::error=run `rt staticlib committer` in the repository first, or set COMMITTER_LIB to the path of the archive"
     );
     process::exit(1);
 }

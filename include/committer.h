@@ -1,5 +1,5 @@
 /*
- * The committer for C hosts: the functions of libcapi.a (`rt staticlib capi`, x86-64).
+ * The committer for C hosts: the functions of libcommitter.a (`rt staticlib committer`, x86-64).
  *
  * The host keeps a state and lends four tables. Each call takes the state by value and returns the state after it in its reply; the next
  * call is given that one. Before the first start the state is all zero (committer_no_state), and the tables may hold anything.
@@ -155,7 +155,7 @@ typedef struct committer_point_id {
 /* A retained round: its peers (peer n is the bit of weight 2^n), and the author of its used mark plus 1, or 0 for none. */
 typedef struct committer_round_record {
     uint32_t peers;
-    uint32_t used;
+    uint32_t used_anchor_proof;
 } committer_round_record;
 
 /*
@@ -167,7 +167,7 @@ typedef struct committer_entry {
     committer_digest digest;
     uint32_t has_previous;
     committer_digest previous;
-    uint32_t owing;
+    uint32_t unreferenced_by;
 } committer_entry;
 
 /* The inspector's memory of its last round. */
@@ -185,15 +185,15 @@ typedef struct committer_state {
     uint32_t phase; /* 1 started, 2 reset, other numbers neither */
     size_t count; /* used places */
     uint32_t genesis;
-    uint32_t history_rounds;
+    uint32_t commit_history_rounds;
     uint32_t deduplicate_rounds;
     uint32_t bottom; /* rounds from bottom to top are retained */
     uint32_t top;
-    uint32_t last_proof; /* the last committed proof's round plus 1, or 0 for none */
+    uint32_t last_committed_proof; /* the last committed proof's round plus 1, or 0 for none */
     uint32_t last_anchor; /* the last anchor's round plus 1, or 0 for none */
     uint32_t full_history_bottom;
     uint32_t first_executable;
-    uint32_t gap; /* 0 disarmed, 1 before the gap question, else after it */
+    uint32_t emit_first_after_gap; /* 0 disarmed, 1 before the gap question, else after it */
     committer_round_record rounds[512]; /* round r in record r % 512 */
     committer_memory memory;
 } committer_state;
@@ -208,25 +208,25 @@ typedef struct committer_reply {
 } committer_reply;
 
 /* What a start takes. */
-typedef struct committer_beginning {
+typedef struct committer_start_args {
     uint32_t genesis;
-    uint32_t history_rounds; /* H */
+    uint32_t commit_history_rounds; /* H */
     uint32_t deduplicate_rounds;
     uint32_t bottom;
     uint32_t peers; /* of the bottom, as a set */
     uint32_t after_gap; /* 0 for no */
     uint32_t used; /* author of the bottom's used mark, COMMITTER_NOBODY for none */
-} committer_beginning;
+} committer_start_args;
 
 /* What a resolution gives, but for its links. */
-typedef struct committer_told {
+typedef struct committer_resolution {
     uint32_t status;
     uint32_t marks;
     committer_point_id top_proof; /* of the top anchor proof; only its author is tested */
     uint32_t evidence; /* a set of peers */
     size_t includes; /* number of links one round down */
     size_t witness; /* number of links two rounds down */
-} committer_told;
+} committer_resolution;
 
 /* Words of a link that a resolution is lent: peer and digest. */
 #define COMMITTER_REF_WORDS 5u
@@ -250,8 +250,8 @@ COMMITTER_ASSERT(memory_of_a_state, offsetof(committer_state, memory) == 4152);
 COMMITTER_ASSERT(size_of_a_state, sizeof(committer_state) == 15432);
 COMMITTER_ASSERT(state_of_a_reply, offsetof(committer_reply, state) == 16);
 COMMITTER_ASSERT(size_of_a_reply, sizeof(committer_reply) == 15448);
-COMMITTER_ASSERT(size_of_a_beginning, sizeof(committer_beginning) == 28);
-COMMITTER_ASSERT(size_of_a_told, sizeof(committer_told) == 72);
+COMMITTER_ASSERT(size_of_start_args, sizeof(committer_start_args) == 28);
+COMMITTER_ASSERT(size_of_a_resolution, sizeof(committer_resolution) == 72);
 
 #undef COMMITTER_ASSERT
 
@@ -286,6 +286,22 @@ static inline void committer_digest_bytes(committer_digest digest, unsigned char
     }
 }
 
+/* ---- stack */
+
+/*
+ * The bytes of stack that a call takes at most, beside its arguments and its reply, which the caller holds: a state and a reply of some
+ * 15 KB each. Measured from the library as built for x86-64 (host/check.sh compares).
+ */
+#define COMMITTER_STACK_START 52000u
+#define COMMITTER_STACK_RESET 33000u
+#define COMMITTER_STACK_ROUND 48000u
+#define COMMITTER_STACK_GAP 48000u
+#define COMMITTER_STACK_NAME 64000u
+#define COMMITTER_STACK_RESOLVE 64000u
+#define COMMITTER_STACK_CERTIFY 48000u
+#define COMMITTER_STACK_DROP 33000u
+#define COMMITTER_STACK_COMMIT 138000u
+
 /* ---- calls. The numbers named are those that the call is refused with, in the order of the tests. */
 
 /*
@@ -297,7 +313,7 @@ static inline void committer_digest_bytes(committer_digest digest, unsigned char
 committer_reply committer_start(committer_state state,
     uint64_t *keys, size_t keys_len, uint64_t *links, size_t links_len,
     uint64_t *certs, size_t certs_len, uint64_t *order, size_t order_len,
-    committer_beginning with);
+    committer_start_args with);
 
 /*
  * Zeroes the tables and the state, but for the inspector's memory. A start may follow.
@@ -336,7 +352,7 @@ committer_reply committer_name(committer_state state,
 
 /*
  * Resolves a named point, once. refs holds its links, COMMITTER_REF_WORDS words each: peer, digest; the includes first, then the witness,
- * so refs_len is 5 * (told.includes + told.witness). Heights of certified points are handed on along the links.
+ * so refs_len is 5 * (resolution.includes + resolution.witness). Heights of certified points are handed on along the links.
  * Refused: 2 not started; 5 author above 31; 6 round not retained; 5 author not a peer of its round; 9 not named; 10 resolved already;
  * 11 status not 1 to 5, over 32 links of a kind, refs_len another number, author above 31 in a link or the top proof, peers of a kind not
  * strictly rising, status 4 or 5 with links or evidence, links below round 0; 12 link into a retained round, not named.
@@ -344,7 +360,7 @@ committer_reply committer_name(committer_state state,
 committer_reply committer_resolve(committer_state state,
     uint64_t *keys, size_t keys_len, uint64_t *links, size_t links_len,
     uint64_t *certs, size_t certs_len, const uint64_t *order, size_t order_len,
-    committer_point_id id, committer_told told, const uint64_t *refs, size_t refs_len);
+    committer_point_id id, committer_resolution resolution, const uint64_t *refs, size_t refs_len);
 
 /*
  * Certifies a named point: it is a top of height H + 1, and heights are handed on along the links of resolved points, one less for each

@@ -77,7 +77,7 @@ static bool same_words(const uint64_t *a, const uint64_t *b, size_t n)
 /* By fields, because padding is no part of a state. */
 static bool same_entry(const committer_entry *a, const committer_entry *b)
 {
-    return a->author == b->author && a->has_previous == b->has_previous && a->owing == b->owing
+    return a->author == b->author && a->has_previous == b->has_previous && a->unreferenced_by == b->unreferenced_by
         && same_words(a->digest.words, b->digest.words, 4) && same_words(a->previous.words, b->previous.words, 4);
 }
 
@@ -97,10 +97,10 @@ static bool same_memory(const committer_memory *a, const committer_memory *b)
 static bool same_state(const committer_state *a, const committer_state *b)
 {
     return a->phase == b->phase && a->count == b->count && a->genesis == b->genesis
-        && a->history_rounds == b->history_rounds && a->deduplicate_rounds == b->deduplicate_rounds
-        && a->bottom == b->bottom && a->top == b->top && a->last_proof == b->last_proof
+        && a->commit_history_rounds == b->commit_history_rounds && a->deduplicate_rounds == b->deduplicate_rounds
+        && a->bottom == b->bottom && a->top == b->top && a->last_committed_proof == b->last_committed_proof
         && a->last_anchor == b->last_anchor && a->full_history_bottom == b->full_history_bottom
-        && a->first_executable == b->first_executable && a->gap == b->gap
+        && a->first_executable == b->first_executable && a->emit_first_after_gap == b->emit_first_after_gap
         && memcmp(a->rounds, b->rounds, sizeof a->rounds) == 0 && same_memory(&a->memory, &b->memory);
 }
 
@@ -133,7 +133,7 @@ static answer keep(board *b, const committer_reply *reply)
     return a;
 }
 
-static answer start(board *b, committer_beginning with)
+static answer start(board *b, committer_start_args with)
 {
     committer_reply reply = committer_start(b->state, TABLES(b), with);
     return keep(b, &reply);
@@ -163,9 +163,9 @@ static answer name(board *b, committer_point_id id)
     return keep(b, &reply);
 }
 
-static answer resolve(board *b, committer_point_id id, committer_told told, const uint64_t *refs, size_t refs_len)
+static answer resolve(board *b, committer_point_id id, committer_resolution resolution, const uint64_t *refs, size_t refs_len)
 {
-    committer_reply reply = committer_resolve(b->state, TABLES(b), id, told, refs, refs_len);
+    committer_reply reply = committer_resolve(b->state, TABLES(b), id, resolution, refs, refs_len);
     return keep(b, &reply);
 }
 
@@ -227,10 +227,10 @@ static committer_point_id point(uint32_t round, uint32_t author)
     return version(round, author, 0);
 }
 
-static committer_told valid(size_t includes, size_t witness)
+static committer_resolution valid(size_t includes, size_t witness)
 {
-    committer_told told = {COMMITTER_VALID, 0, {0, 0, {{0, 0, 0, 0}}}, 0, includes, witness};
-    return told;
+    committer_resolution resolution = {COMMITTER_VALID, 0, {0, 0, {{0, 0, 0, 0}}}, 0, includes, witness};
+    return resolution;
 }
 
 /* Writes a link as the five words that a resolution is lent. */
@@ -240,14 +240,14 @@ static void put_link(uint64_t *refs, size_t i, committer_point_id to)
     memcpy(refs + i * COMMITTER_REF_WORDS + 1, to.digest.words, sizeof to.digest.words);
 }
 
-static committer_beginning beginning(uint32_t bottom)
+static committer_start_args beginning(uint32_t bottom)
 {
-    committer_beginning with = {10, 2, 0, bottom, ALL, 0, COMMITTER_NOBODY};
+    committer_start_args with = {10, 2, 0, bottom, ALL, 0, COMMITTER_NOBODY};
     return with;
 }
 
 /* A started board with the rounds up to `top`. */
-static board started(size_t places, committer_beginning with, uint32_t top)
+static board started(size_t places, committer_start_args with, uint32_t top)
 {
     board b = new_board(places);
     DONE(start(&b, with));
@@ -282,7 +282,7 @@ static void check_helpers(void)
     committer_digest_bytes(digest, back);
     CHECK(memcmp(bytes, back, sizeof bytes) == 0);
     committer_state none = committer_no_state();
-    CHECK(none.phase == 0 && none.count == 0 && none.memory.entries[127].owing == 0);
+    CHECK(none.phase == 0 && none.count == 0 && none.memory.entries[127].unreferenced_by == 0);
 }
 
 /* ---- refusals */
@@ -290,12 +290,12 @@ static void check_helpers(void)
 static void check_start_refusals(void)
 {
     board b = new_board(4), spare = new_board(4);
-    committer_beginning right = beginning(10), wrong[8];
+    committer_start_args right = beginning(10), wrong[8];
     for (int i = 0; i < 8; i++) {
         wrong[i] = right;
     }
-    wrong[0].history_rounds = 0;
-    wrong[1].history_rounds = COMMITTER_HISTORY_MAX + 1;
+    wrong[0].commit_history_rounds = 0;
+    wrong[1].commit_history_rounds = COMMITTER_HISTORY_MAX + 1;
     wrong[2].deduplicate_rounds = COMMITTER_DEDUPLICATE_MAX + 1;
     wrong[3].genesis = wrong[3].bottom = COMMITTER_ROUND_MAX + 1;
     wrong[4].bottom = COMMITTER_ROUND_MAX + 1;
@@ -392,7 +392,7 @@ static answer resolve_bare(board *b, committer_point_id id)
 static void check_id_refusals(void)
 {
     const by_id calls[] = {name, resolve_bare, certify};
-    committer_beginning with = beginning(20);
+    committer_start_args with = beginning(20);
     with.peers = 1u | 1u << 31;
     board b = started(4, with, 20), spare = new_board(4);
     DONE(add_round(&b, 21, 0));
@@ -429,7 +429,7 @@ static void check_info_refusals(void)
     board b = started(4, beginning(20), 22), spare = new_board(4);
     committer_point_id id = point(22, 0), low = point(20, 3), mid = point(21, 4);
     uint64_t refs[2 * KIND * COMMITTER_REF_WORDS];
-    committer_told told;
+    committer_resolution resolution;
     DONE(name(&b, id));
     DONE(name(&b, low));
     DONE(name(&b, mid));
@@ -438,25 +438,25 @@ static void check_info_refusals(void)
     }
     const uint32_t statuses[] = {0, 6, 256, 257, UINT32_MAX};
     for (int i = 0; i < 5; i++) {
-        told = valid(0, 0);
-        told.status = statuses[i];
-        REFUSED(&b, &spare, COMMITTER_BAD_INFO, resolve(&b, id, told, NULL, 0));
+        resolution = valid(0, 0);
+        resolution.status = statuses[i];
+        REFUSED(&b, &spare, COMMITTER_BAD_INFO, resolve(&b, id, resolution, NULL, 0));
     }
     for (uint32_t status = 4; status <= 5; status++) {
-        told = valid(1, 0);
-        told.status = status;
-        REFUSED(&b, &spare, COMMITTER_BAD_INFO, resolve(&b, id, told, refs, 5));
-        told = valid(0, 1);
-        told.status = status;
-        REFUSED(&b, &spare, COMMITTER_BAD_INFO, resolve(&b, id, told, refs, 5));
-        told = valid(0, 0);
-        told.status = status;
-        told.evidence = 1;
-        REFUSED(&b, &spare, COMMITTER_BAD_INFO, resolve(&b, id, told, NULL, 0));
+        resolution = valid(1, 0);
+        resolution.status = status;
+        REFUSED(&b, &spare, COMMITTER_BAD_INFO, resolve(&b, id, resolution, refs, 5));
+        resolution = valid(0, 1);
+        resolution.status = status;
+        REFUSED(&b, &spare, COMMITTER_BAD_INFO, resolve(&b, id, resolution, refs, 5));
+        resolution = valid(0, 0);
+        resolution.status = status;
+        resolution.evidence = 1;
+        REFUSED(&b, &spare, COMMITTER_BAD_INFO, resolve(&b, id, resolution, NULL, 0));
     }
-    told = valid(0, 0);
-    told.top_proof.author = 32;
-    REFUSED(&b, &spare, COMMITTER_BAD_INFO, resolve(&b, id, told, NULL, 0));
+    resolution = valid(0, 0);
+    resolution.top_proof.author = 32;
+    REFUSED(&b, &spare, COMMITTER_BAD_INFO, resolve(&b, id, resolution, NULL, 0));
     REFUSED(&b, &spare, COMMITTER_BAD_INFO, resolve(&b, id, valid(33, 0), refs, 33 * 5));
     REFUSED(&b, &spare, COMMITTER_BAD_INFO, resolve(&b, id, valid(0, 33), refs, 33 * 5));
     /* numbers that aren't those of the words */
@@ -497,7 +497,7 @@ static void check_info_refusals(void)
 
 static void check_links_below_zero(void)
 {
-    committer_beginning with = beginning(0);
+    committer_start_args with = beginning(0);
     with.genesis = 0;
     board b = started(3, with, 2), spare = new_board(3);
     uint64_t refs[5];
@@ -557,13 +557,13 @@ static void check_heights(const board *b, uint32_t top, uint32_t k)
 
 static void check_full_size(void)
 {
-    committer_beginning with = {BOTTOM, 255, 65535, BOTTOM, ALL, 1, 31};
+    committer_start_args with = {BOTTOM, 255, 65535, BOTTOM, ALL, 1, 31};
     board b = new_board(PLACES), spare = new_board(PLACES);
     check_not_started(&b, &spare);
     free_board(&b);
     b = started(PLACES, with, TOP);
     CHECK(b.state.full_history_bottom == BOTTOM && b.state.first_executable == BOTTOM + 65535);
-    CHECK(b.state.rounds[BOTTOM % 512].used == 32);
+    CHECK(b.state.rounds[BOTTOM % 512].used_anchor_proof == 32);
     REFUSED(&b, &spare, COMMITTER_FULL, add_round(&b, TOP + 1, ALL));
     REFUSED(&b, &spare, COMMITTER_ROUND_AHEAD, add_round(&b, TOP + 2, ALL));
     for (uint32_t round = BOTTOM; round <= TOP; round++) {
@@ -612,10 +612,10 @@ static void check_memory(void)
     for (int kept = 1; kept >= 0; kept--) {
         b.state.memory.last = 9;
         b.state.memory.count = 2;
-        b.state.memory.entries[127].owing = 77;
+        b.state.memory.entries[127].unreferenced_by = 77;
         DONE(reset(&b));
         committer_memory memory = b.state.memory;
-        CHECK(memory.count == 2 && memory.entries[127].owing == 77);
+        CHECK(memory.count == 2 && memory.entries[127].unreferenced_by == 77);
         memset(b.keys, 0xa5, COMMITTER_KEYS_LEN(3) * sizeof(uint64_t));
         memset(b.links, 0xa5, COMMITTER_LINKS_LEN(3) * sizeof(uint64_t));
         memset(b.certs, 0xa5, COMMITTER_CERTS_LEN(3) * sizeof(uint64_t));
@@ -633,8 +633,8 @@ static void check_memory(void)
 /* K4, K5 and K9 of document 01. */
 static void check_cases(void)
 {
-    committer_beginning with = beginning(16);
-    with.history_rounds = 3;
+    committer_start_args with = beginning(16);
+    with.commit_history_rounds = 3;
     board b = started(8, with, 20);
     uint64_t refs[5];
     DONE(name(&b, point(20, 0)));
@@ -666,14 +666,14 @@ static void put(board *b, committer_point_id id, uint32_t status, uint32_t marks
     committer_point_id first, committer_point_id second)
 {
     uint64_t refs[2 * COMMITTER_REF_WORDS];
-    committer_told told = valid(includes, 0);
-    told.status = status;
-    told.marks = marks;
-    told.top_proof = top;
+    committer_resolution resolution = valid(includes, 0);
+    resolution.status = status;
+    resolution.marks = marks;
+    resolution.top_proof = top;
     put_link(refs, 0, first);
     put_link(refs, 1, second);
     DONE(name(b, id));
-    DONE(resolve(b, id, told, refs, includes * COMMITTER_REF_WORDS));
+    DONE(resolve(b, id, resolution, refs, includes * COMMITTER_REF_WORDS));
 }
 
 static void put_one(board *b, committer_point_id id, uint32_t marks, committer_point_id top, committer_point_id below)
@@ -707,10 +707,10 @@ static size_t put_record(uint8_t *bytes, committer_point_id anchor, uint32_t pre
     return COMMITTER_RECORD_BYTES(count);
 }
 
-static committer_beginning used_beginning(uint32_t history_rounds)
+static committer_start_args used_beginning(uint32_t commit_history_rounds)
 {
-    committer_beginning with = beginning(10);
-    with.history_rounds = history_rounds;
+    committer_start_args with = beginning(10);
+    with.commit_history_rounds = commit_history_rounds;
     with.used = 0;
     return with;
 }
@@ -745,7 +745,7 @@ static void check_k13(void)
     for (size_t i = 0; i < 6; i++) {
         CHECK(((cert_at(&b, i) & COMMITTER_CERT_COMMITTED) != 0) == (i < 4));
     }
-    CHECK(b.state.last_proof == 15 && b.state.last_anchor == 14 && b.state.rounds[14].used == 1);
+    CHECK(b.state.last_committed_proof == 15 && b.state.last_anchor == 14 && b.state.rounds[14].used_anchor_proof == 1);
     copy_board(&spare, &b);
     DONE(commit(&b, point(15, 0), NULL, 0));
     CHECK(last_commit.anchors == 0 && same_board(&b, &spare));
@@ -786,7 +786,7 @@ static void check_refused_after_one(board *b, uint32_t number, uint32_t conflict
     for (size_t i = 120; i < sizeof bytes; i++) {
         CHECK(bytes[i] == 0xa5);
     }
-    CHECK(b->state.last_proof == 13 && b->state.rounds[12].used == 1);
+    CHECK(b->state.last_committed_proof == 13 && b->state.rounds[12].used_anchor_proof == 1);
     CHECK((cert_at(b, 0) & COMMITTER_CERT_COMMITTED) != 0 && (cert_at(b, 1) & COMMITTER_CERT_COMMITTED) == 0);
     REFUSED(b, &spare, number, commit(b, point(15, 0), bytes + 120, length - 120));
     CHECK(last_commit.anchors == 0 && last_commit.conflict == conflict && bytes[120] == 0xa5);
@@ -849,7 +849,7 @@ static void check_walk_refusals(void)
     CHECK(last_commit.anchors == 0 && same_board(&b, &spare));
     free_board(&b);
 
-    committer_beginning with = used_beginning(1);
+    committer_start_args with = used_beginning(1);
     with.after_gap = 1;
     b = started(8, with, 13);
     put(&b, point(11, 0), COMMITTER_VALID, 0, point(10, 0), 0, low, low);
@@ -861,7 +861,7 @@ static void check_walk_refusals(void)
     REFUSED(&b, &spare, COMMITTER_NO_ROOM, commit(&b, point(13, 0), NULL, 0));
     uint8_t bytes[120];
     DONE(commit(&b, point(13, 0), bytes, sizeof bytes));
-    CHECK(last_commit.anchors == 1 && b.state.gap == 0);
+    CHECK(last_commit.anchors == 1 && b.state.emit_first_after_gap == 0);
     free_board(&b);
     free_board(&spare);
 }
@@ -898,12 +898,12 @@ static void make_plausible(committer_state *state, size_t places, uint64_t *seed
     state->phase = 1;
     state->count = 1 + next_word(seed) % places;
     state->genesis = 10;
-    state->history_rounds = 1 + (uint32_t)(next_word(seed) % 255);
+    state->commit_history_rounds = 1 + (uint32_t)(next_word(seed) % 255);
     state->deduplicate_rounds = (uint32_t)(next_word(seed) % 65536);
     state->bottom = 10 + (uint32_t)(next_word(seed) % 20);
     state->top = state->bottom + (uint32_t)(next_word(seed) % 512);
     for (size_t i = 0; i < 512; i++) {
-        state->rounds[i].used = (uint32_t)(next_word(seed) % 33);
+        state->rounds[i].used_anchor_proof = (uint32_t)(next_word(seed) % 33);
     }
     state->memory.count = next_word(seed) % 129;
 }
@@ -925,8 +925,8 @@ static void check_noise(size_t places, int times)
             b.order[k] %= places;
         }
         check_not_started(&b, &spare);
-        committer_beginning wrong = beginning(10);
-        wrong.history_rounds = 0;
+        committer_start_args wrong = beginning(10);
+        wrong.commit_history_rounds = 0;
         REFUSED(&b, &spare, COMMITTER_BAD_START, start(&b, wrong));
         /* a start leaves what it leaves on zeros */
         DONE(start(&b, beginning(10)));

@@ -12,7 +12,7 @@ const PEERS: u32 = 4;
 fn main() -> Result<(), Refused> {
     let mut board = Committer::new(64);
     let peers = (1 << PEERS) - 1;
-    board.start(&Start { genesis: GENESIS, history_rounds: 3, bottom: GENESIS, peers, ..Start::default() })?;
+    board.start(&Start { genesis: GENESIS, commit_history_rounds: 3, bottom: GENESIS, peers, ..Start::default() })?;
     for round in GENESIS + 1..=TOP {
         board.round(round, peers)?;
     }

@@ -1,4 +1,4 @@
-//! The proved committer for hosts written in Rust, over the static library that `rt staticlib capi` writes.
+//! The proved committer for hosts written in Rust, over the static library that `rt staticlib committer` writes.
 //!
 //! [`Committer`] owns the tables and the state. Every call on every input has an answer: a call that can't be done is
 //! refused with a number ([`Refusal`]) and changes nothing, but for the anchors that a commit finished before.
@@ -185,7 +185,7 @@ impl Committer {
     }
 
     /// Commits what a trigger yields: the records of the anchors, oldest first, stand at the beginning of the buffer
-    /// ([`anchors`] reads them), and their number is told. Refused with 2, 5, 6, 5, 9, 13 to 16, 19, then for each
+    /// ([`anchors`] reads them), and their number is resolution. Refused with 2, 5, 6, 5, 9, 13 to 16, 19, then for each
     /// anchor 22, 13 to 15, 17, 18, 20, 21. The records of the finished anchors ([`Refused::finished`]) then stand in
     /// the buffer, and what these anchors changed stays.
     pub fn commit(&mut self, trigger: &PointId, buffer: &mut [u8]) -> Result<u32, Refused> {
@@ -250,22 +250,22 @@ impl Committer {
         let s = &self.state;
         self.is_started().then(|| Summary {
             genesis: s.genesis,
-            history_rounds: s.history_rounds,
+            commit_history_rounds: s.commit_history_rounds,
             deduplicate_rounds: s.deduplicate_rounds,
             bottom: s.bottom,
             top: s.top,
-            last_proof: s.last_proof.checked_sub(1),
+            last_committed_proof: s.last_committed_proof.checked_sub(1),
             last_anchor: s.last_anchor.checked_sub(1),
             full_history_bottom: s.full_history_bottom,
             first_executable: s.first_executable,
-            emit_first_after_gap: (s.gap != 0).then_some(s.gap != 1),
+            emit_first_after_gap: (s.emit_first_after_gap != 0).then_some(s.emit_first_after_gap != 1),
             rounds: (s.bottom..=s.top).map(|round| self.retained(round)).collect(),
         })
     }
 
     fn retained(&self, round: u32) -> RetainedRound {
         let record = &self.state.rounds[round as usize % ROUNDS_MAX];
-        RetainedRound { round, peers: record.peers, used: record.used.checked_sub(1) }
+        RetainedRound { round, peers: record.peers, used: record.used_anchor_proof.checked_sub(1) }
     }
 
     /// The point at a used place of started tables: its words are in their ranges.

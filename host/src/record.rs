@@ -105,7 +105,7 @@ fn put_id(out: &mut Vec<u8>, id: &PointId) {
 }
 
 fn put_start(out: &mut Vec<u8>, with: &Start) {
-    for number in [with.genesis, with.history_rounds, with.deduplicate_rounds, with.bottom, with.peers] {
+    for number in [with.genesis, with.commit_history_rounds, with.deduplicate_rounds, with.bottom, with.peers] {
         put_number(out, number);
     }
     out.push(with.after_gap.into());
@@ -216,7 +216,7 @@ fn id(f: &[u8]) -> PointId {
 fn start(f: &[u8]) -> Start {
     Start {
         genesis: number(&f[..4]),
-        history_rounds: number(&f[4..8]),
+        commit_history_rounds: number(&f[4..8]),
         deduplicate_rounds: number(&f[8..12]),
         bottom: number(&f[12..16]),
         peers: number(&f[16..20]),

@@ -19,21 +19,21 @@ impl State {
         out.word(self.count as u64);
         for half in [
             self.genesis,
-            self.history_rounds,
+            self.commit_history_rounds,
             self.deduplicate_rounds,
             self.bottom,
             self.top,
-            self.last_proof,
+            self.last_committed_proof,
             self.last_anchor,
             self.full_history_bottom,
             self.first_executable,
-            self.gap,
+            self.emit_first_after_gap,
         ] {
             out.half(half);
         }
         for record in &self.rounds {
             out.half(record.peers);
-            out.half(record.used);
+            out.half(record.used_anchor_proof);
         }
         out.memory(&self.memory);
         out.0
@@ -46,16 +46,16 @@ impl State {
             phase: from.half(),
             count: from.word() as usize,
             genesis: from.half(),
-            history_rounds: from.half(),
+            commit_history_rounds: from.half(),
             deduplicate_rounds: from.half(),
             bottom: from.half(),
             top: from.half(),
-            last_proof: from.half(),
+            last_committed_proof: from.half(),
             last_anchor: from.half(),
             full_history_bottom: from.half(),
             first_executable: from.half(),
-            gap: from.half(),
-            rounds: std::array::from_fn(|_| RoundRecord { peers: from.half(), used: from.half() }),
+            emit_first_after_gap: from.half(),
+            rounds: std::array::from_fn(|_| RoundRecord { peers: from.half(), used_anchor_proof: from.half() }),
             memory: from.memory(),
         }
     }
@@ -92,7 +92,7 @@ impl Writer {
             self.digest(&entry.digest);
             self.half(entry.has_previous);
             self.digest(&entry.previous);
-            self.half(entry.owing);
+            self.half(entry.unreferenced_by);
             self.align();
         }
     }
@@ -133,7 +133,7 @@ impl Reader<'_> {
             digest: self.digest(),
             has_previous: self.half(),
             previous: self.digest(),
-            owing: self.half(),
+            unreferenced_by: self.half(),
         };
         self.align();
         entry

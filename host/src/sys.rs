@@ -19,7 +19,7 @@ pub struct PointId {
 #[derive(Clone, Copy, Debug, PartialEq, Eq)]
 pub struct RoundRecord {
     pub peers: u32,
-    pub used: u32,
+    pub used_anchor_proof: u32,
 }
 
 /// A trusted point of the inspector's last round.
@@ -30,7 +30,7 @@ pub struct Entry {
     pub digest: Digest,
     pub has_previous: u32,
     pub previous: Digest,
-    pub owing: u32,
+    pub unreferenced_by: u32,
 }
 
 #[repr(C)]
@@ -50,19 +50,19 @@ pub struct State {
     /// used places
     pub count: usize,
     pub genesis: u32,
-    pub history_rounds: u32,
+    pub commit_history_rounds: u32,
     pub deduplicate_rounds: u32,
     /// rounds from bottom to top are retained
     pub bottom: u32,
     pub top: u32,
     /// the round plus 1, or 0 for none
-    pub last_proof: u32,
+    pub last_committed_proof: u32,
     /// the round plus 1, or 0 for none
     pub last_anchor: u32,
     pub full_history_bottom: u32,
     pub first_executable: u32,
     /// 0 disarmed, 1 before the gap question, else after it
-    pub gap: u32,
+    pub emit_first_after_gap: u32,
     /// round r in record r % 512
     pub rounds: [RoundRecord; 512],
     pub memory: Memory,
@@ -86,7 +86,7 @@ pub struct Reply {
 #[derive(Clone, Copy, Debug, PartialEq, Eq)]
 pub struct Start {
     pub genesis: u32,
-    pub history_rounds: u32,
+    pub commit_history_rounds: u32,
     pub deduplicate_rounds: u32,
     pub bottom: u32,
     pub peers: u32,
@@ -101,7 +101,7 @@ pub const NOBODY: u32 = u32::MAX;
 
 #[repr(C)]
 #[derive(Clone, Copy, Debug, PartialEq, Eq)]
-pub struct Told {
+pub struct Resolution {
     pub status: u32,
     /// bit 0 proof, 1 trigger, 2 cause
     pub marks: u32,
@@ -122,7 +122,7 @@ const _: () = assert!(size_of::<State>() == 15432);
 const _: () = assert!(offset_of!(Reply, state) == 16);
 const _: () = assert!(size_of::<Reply>() == 15448);
 const _: () = assert!(size_of::<Start>() == 28);
-const _: () = assert!(size_of::<Told>() == 72);
+const _: () = assert!(size_of::<Resolution>() == 72);
 
 // Safety, of all of them: each pointer is to as many words (or bytes, of the buffer) as its length says, and no two of
 // what is lent overlap.
@@ -202,7 +202,7 @@ unsafe extern "C" {
         order: *const u64,
         order_len: usize,
         id: PointId,
-        told: Told,
+        resolution: Resolution,
         refs: *const u64,
         refs_len: usize,
     ) -> Reply;

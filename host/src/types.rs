@@ -80,7 +80,7 @@ pub struct PointInfo {
 pub struct Start {
     pub genesis: u32,
     /// H, 1 to 255
-    pub history_rounds: u32,
+    pub commit_history_rounds: u32,
     pub deduplicate_rounds: u32,
     pub bottom: u32,
     /// the bottom's peers, as a set
@@ -139,12 +139,12 @@ pub struct RetainedRound {
 #[derive(Clone, Debug, PartialEq, Eq, Hash)]
 pub struct Summary {
     pub genesis: u32,
-    pub history_rounds: u32,
+    pub commit_history_rounds: u32,
     pub deduplicate_rounds: u32,
     pub bottom: u32,
     pub top: u32,
     /// round of the last committed proof
-    pub last_proof: Option<u32>,
+    pub last_committed_proof: Option<u32>,
     /// round of the last anchor handed out since the start
     pub last_anchor: Option<u32>,
     pub full_history_bottom: u32,
@@ -175,7 +175,7 @@ impl From<&Start> for sys::Start {
     fn from(with: &Start) -> sys::Start {
         sys::Start {
             genesis: with.genesis,
-            history_rounds: with.history_rounds,
+            commit_history_rounds: with.commit_history_rounds,
             deduplicate_rounds: with.deduplicate_rounds,
             bottom: with.bottom,
             peers: with.peers,
@@ -186,9 +186,9 @@ impl From<&Start> for sys::Start {
     }
 }
 
-impl From<&PointInfo> for sys::Told {
-    fn from(info: &PointInfo) -> sys::Told {
-        sys::Told {
+impl From<&PointInfo> for sys::Resolution {
+    fn from(info: &PointInfo) -> sys::Resolution {
+        sys::Resolution {
             status: info.status,
             marks: info.marks(),
             top_proof: (&info.top_proof).into(),

@@ -49,7 +49,7 @@ struct Writer<'a> {
     random: &'a mut Random,
     calls: Vec<Call>,
     bottom: u32,
-    last_proof: Id,
+    last_committed_proof: Id,
     /// points of the last round and of the one before
     below: [Vec<Id>; 2],
 }
@@ -59,16 +59,16 @@ impl Writer<'_> {
         let bottom = 10 + 10 * random.below(2) as u32;
         let start = Start {
             genesis: 10,
-            history_rounds: 1 + random.below(4) as u32,
+            commit_history_rounds: 1 + random.below(4) as u32,
             deduplicate_rounds: random.below(4) as u32,
             bottom,
             peers: ALL,
             after_gap: random.chance(30),
             used: Some(0),
         };
-        let last_proof = Id { round: bottom, author: 0, digest: random.digest() };
+        let last_committed_proof = Id { round: bottom, author: 0, digest: random.digest() };
         let calls = vec![Call::Start(start), Call::GapQuestion];
-        let mut writer = Writer { random, calls, bottom, last_proof, below: [Vec::new(), Vec::new()] };
+        let mut writer = Writer { random, calls, bottom, last_committed_proof, below: [Vec::new(), Vec::new()] };
         for round in bottom + 1..bottom + ROUNDS {
             writer.round(round);
         }
@@ -105,7 +105,7 @@ impl Writer<'_> {
         let stage = (id.round - self.bottom) % 3;
         let proof = id.author == 0 && stage == 2;
         if proof {
-            self.last_proof = id;
+            self.last_committed_proof = id;
         }
         let status = match self.random.below(100) {
             _ if id.author == 0 => 1,
@@ -121,7 +121,7 @@ impl Writer<'_> {
             proof,
             trigger: id.author == 0 && stage == 0,
             cause: self.random.chance(50),
-            top_proof: self.last_proof,
+            top_proof: self.last_committed_proof,
             evidence: if linked { self.random.below(1 << PEERS) as u32 } else { 0 },
             includes: if linked { self.links(0, 90, id.author) } else { Vec::new() },
             witness: if linked { self.links(1, 30, PEERS) } else { Vec::new() },

@@ -156,12 +156,12 @@ impl Oracle {
 
 impl Board {
     fn start(&mut self, start: &Start) -> Result<(), NoCall> {
-        let history_rounds = (u8::try_from(start.history_rounds).ok())
+        let commit_history_rounds = (u8::try_from(start.commit_history_rounds).ok())
             .and_then(NonZeroU8::new)
             .ok_or("`commit_history_rounds` is 1 to 255")?;
         let deduplicate_rounds =
             (start.deduplicate_rounds.try_into()).map_err(|_| "`deduplicate_rounds` is at most 65,535")?;
-        self.conf = conf(start.genesis, history_rounds, deduplicate_rounds);
+        self.conf = conf(start.genesis, commit_history_rounds, deduplicate_rounds);
         let bottom = self.new_bottom(start.bottom, start.peers);
         if let Some(used) = start.used {
             let new_mark = bottom.used_anchor_proof().set(convert::peer_id(used));
@@ -236,10 +236,10 @@ impl Board {
     }
 }
 
-fn conf(genesis: u32, history_rounds: NonZeroU8, deduplicate_rounds: u16) -> MempoolConfig {
+fn conf(genesis: u32, commit_history_rounds: NonZeroU8, deduplicate_rounds: u16) -> MempoolConfig {
     MempoolConfig {
         consensus: ConsensusConfig {
-            commit_history_rounds: history_rounds,
+            commit_history_rounds: commit_history_rounds,
             deduplicate_rounds,
             // read by `stats_since` only, whose epoch doesn't depend on it
             max_consensus_lag_rounds: NonZeroU16::MIN,

@@ -17,7 +17,7 @@ pub struct Link {
 pub struct Start {
     pub genesis: u32,
     /// `commit_history_rounds`, 1 to 255
-    pub history_rounds: u32,
+    pub commit_history_rounds: u32,
     /// at most 65,535
     pub deduplicate_rounds: u32,
     pub bottom: u32,

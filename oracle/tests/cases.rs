@@ -22,7 +22,7 @@ fn chain(bottom: u32, anchor_round: u32) -> Oracle {
     oracle
 }
 
-fn history_rounds(bottom: u32, anchor_round: u32) -> Vec<u32> {
+fn commit_history_rounds(bottom: u32, anchor_round: u32) -> Vec<u32> {
     let mut oracle = chain(bottom, anchor_round);
     let anchors = anchors(oracle.commit(&p(anchor_round + 2, 0, 'x')));
     assert_eq!(anchors.len(), 1);
@@ -33,17 +33,17 @@ fn history_rounds(bottom: u32, anchor_round: u32) -> Vec<u32> {
 /// The limit shows as the lowest round of a history that goes down to it.
 #[test]
 fn k1_anchor_13_limit_11() {
-    assert_eq!(history_rounds(10, 13), [11, 12, 13]);
+    assert_eq!(commit_history_rounds(10, 13), [11, 12, 13]);
 }
 
 #[test]
 fn k2_anchor_12_limit_11() {
-    assert_eq!(history_rounds(10, 12), [11, 12]);
+    assert_eq!(commit_history_rounds(10, 12), [11, 12]);
 }
 
 #[test]
 fn k3_anchor_14_limit_12() {
-    assert_eq!(history_rounds(10, 14), [12, 13, 14]);
+    assert_eq!(commit_history_rounds(10, 14), [12, 13, 14]);
 }
 
 fn line_of_five() -> Oracle {

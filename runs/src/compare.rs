@@ -321,9 +321,9 @@ fn keeps_last_proof(ours: Option<&State>, rust: &mut View) -> bool {
     let (Some(ours), Some(rust)) = (ours, &mut rust.state) else {
         return false;
     };
-    let forgotten = rust.last_proof.is_none() && ours.last_proof.is_some_and(|proof| proof < rust.bottom);
+    let forgotten = rust.last_committed_proof.is_none() && ours.last_committed_proof.is_some_and(|proof| proof < rust.bottom);
     if forgotten {
-        rust.last_proof = ours.last_proof;
+        rust.last_committed_proof = ours.last_committed_proof;
     }
     forgotten
 }

@@ -304,7 +304,7 @@ pub fn strict_start(with: &Start, told: &Told) -> Strict {
 
 /// Whether the Rust's types hold the numbers of a start.
 pub fn fits_types(with: &Start) -> bool {
-    (1..=255).contains(&with.history_rounds)
+    (1..=255).contains(&with.commit_history_rounds)
         && with.deduplicate_rounds <= 65_535
         && with.used.is_none_or(|used| used <= 255)
 }

@@ -52,7 +52,7 @@ impl Side for Library {
         let state = State {
             bottom: summary.bottom,
             top: summary.top,
-            last_proof: summary.last_proof,
+            last_committed_proof: summary.last_committed_proof,
             full_history_bottom: summary.full_history_bottom,
             first_executable: summary.first_executable,
             emit_first_after_gap: summary.emit_first_after_gap,

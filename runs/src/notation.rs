@@ -113,7 +113,7 @@ fn start(with: &Start) -> String {
     format!(
         "start(genesis {}, H {}, dedup {}, bottom {}, peers {}, {gap}, used {used})",
         with.genesis,
-        with.history_rounds,
+        with.commit_history_rounds,
         with.deduplicate_rounds,
         with.bottom,
         set(with.peers),

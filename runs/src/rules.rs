@@ -31,7 +31,7 @@ pub fn due(call: &Call, before: &View, places: usize) -> Due {
 }
 
 fn start(with: &Start, started: bool, places: usize) -> Option<u32> {
-    let good = (1..=255).contains(&with.history_rounds)
+    let good = (1..=255).contains(&with.commit_history_rounds)
         && with.deduplicate_rounds <= 65_535
         && with.genesis <= ROUND_MAX
         && with.bottom <= ROUND_MAX

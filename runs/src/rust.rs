@@ -56,7 +56,7 @@ impl Rust {
         let state = read.bottom.zip(read.top).map(|(bottom, top)| State {
             bottom,
             top,
-            last_proof: read.last_committed_proof,
+            last_committed_proof: read.last_committed_proof,
             full_history_bottom: read.full_history_bottom,
             first_executable: read.first_executable,
             emit_first_after_gap: read.emit_first_after_gap,
@@ -87,7 +87,7 @@ fn plain(id: &PointId) -> Result<Id, &'static str> {
 fn start(with: &Start) -> Result<oracle::Start, &'static str> {
     Ok(oracle::Start {
         genesis: with.genesis,
-        history_rounds: with.history_rounds,
+        commit_history_rounds: with.commit_history_rounds,
         deduplicate_rounds: with.deduplicate_rounds,
         bottom: with.bottom,
         peers: with.peers,

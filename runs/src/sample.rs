@@ -135,10 +135,10 @@ pub fn held(view: &View) -> String {
     let Some(state) = &view.state else {
         return "state none\n".into();
     };
-    let last_proof = state.last_proof.map_or("none".into(), |round| round.to_string());
+    let last_committed_proof = state.last_committed_proof.map_or("none".into(), |round| round.to_string());
     let emit = state.emit_first_after_gap.map_or("none".into(), |past| past.to_string());
     let mut text = format!(
-        "state bottom {} top {} lastproof {last_proof} fullbottom {} first {} emit {emit}\n",
+        "state bottom {} top {} lastproof {last_committed_proof} fullbottom {} first {} emit {emit}\n",
         state.bottom, state.top, state.full_history_bottom, state.first_executable,
     );
     for point in &view.points {

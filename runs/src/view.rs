@@ -15,7 +15,7 @@ pub struct View {
 pub struct State {
     pub bottom: u32,
     pub top: u32,
-    pub last_proof: Option<u32>,
+    pub last_committed_proof: Option<u32>,
     pub full_history_bottom: u32,
     pub first_executable: u32,
     /// none: disarmed; false: waiting for the gap question; true: past it

@@ -14,8 +14,8 @@ fn id(round: u32, author: u32, letter: char) -> PointId {
     PointId { round, author, digest: digest(letter as u32) }
 }
 
-fn start(genesis: u32, history_rounds: u32, peers: u32, used: Option<u32>) -> Start {
-    Start { genesis, history_rounds, bottom: genesis, peers, used, ..Start::default() }
+fn start(genesis: u32, commit_history_rounds: u32, peers: u32, used: Option<u32>) -> Start {
+    Start { genesis, commit_history_rounds, bottom: genesis, peers, used, ..Start::default() }
 }
 
 /// A start and the rounds up to the top.

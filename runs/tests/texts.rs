@@ -30,7 +30,7 @@ fn rows_are_those_of_the_document() {
 
 #[test]
 fn lists_are_written_as_in_the_document() {
-    let with = Start { genesis: 10, history_rounds: 1, bottom: 10, peers: 3, used: Some(0), ..Start::default() };
+    let with = Start { genesis: 10, commit_history_rounds: 1, bottom: 10, peers: 3, used: Some(0), ..Start::default() };
     let top_proof = PointId { round: 10, author: 0, digest: digest(9) };
     let info = PointInfo { status: 1, trigger: true, top_proof, includes: vec![link(0, 5)], ..PointInfo::default() };
     let calls = vec![Call::Start(with), Call::Name(point(11, 1, 7)), Call::Resolve(point(11, 1, 7), info), Call::Gap];

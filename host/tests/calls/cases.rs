@@ -18,7 +18,7 @@ fn heights(committer: &Committer) -> Vec<(u32, u16)> {
 
 /// H 3, rounds 16 to 20.
 fn of_history_3() -> Committer {
-    started(8, &Start { history_rounds: 3, bottom: 16, ..beginning() }, 20)
+    started(8, &Start { commit_history_rounds: 3, bottom: 16, ..beginning() }, 20)
 }
 
 #[test]
@@ -75,7 +75,7 @@ fn k9() {
 fn a_start_tells_its_own() {
     let with = Start {
         genesis: 3,
-        history_rounds: 255,
+        commit_history_rounds: 255,
         deduplicate_rounds: 65535,
         bottom: 7,
         peers: 0b1011,
@@ -84,9 +84,9 @@ fn a_start_tells_its_own() {
     };
     let committer = started(2, &with, 7);
     let summary = committer.summary().unwrap();
-    assert_eq!((summary.genesis, summary.history_rounds, summary.deduplicate_rounds), (3, 255, 65535));
+    assert_eq!((summary.genesis, summary.commit_history_rounds, summary.deduplicate_rounds), (3, 255, 65535));
     assert_eq!((summary.bottom, summary.top), (7, 7));
-    assert_eq!((summary.last_proof, summary.last_anchor), (None, None));
+    assert_eq!((summary.last_committed_proof, summary.last_anchor), (None, None));
     assert_eq!((summary.full_history_bottom, summary.first_executable), (7, 65542));
     assert_eq!(summary.emit_first_after_gap, Some(false));
     assert_eq!(summary.rounds.len(), 1);
@@ -98,7 +98,7 @@ fn a_start_tells_its_own() {
 fn the_largest_numbers_start() {
     let with = Start {
         genesis: 4_000_000_000,
-        history_rounds: 255,
+        commit_history_rounds: 255,
         deduplicate_rounds: 65535,
         bottom: 4_000_000_000,
         after_gap: true,
@@ -313,7 +313,7 @@ fn remember(committer: &mut Committer) {
     let (_, state) = committer.parts_mut();
     state.memory.last = 9;
     state.memory.count = 2;
-    state.memory.entries[1].owing = 77;
+    state.memory.entries[1].unreferenced_by = 77;
     state.memory.entries[127].digest = [1, 2, 3, 4];
 }
 
@@ -340,7 +340,7 @@ fn a_start_after_a_reset_clears_the_tables() {
     for table in [&mut tables.keys, &mut tables.links, &mut tables.certs, &mut tables.order] {
         table.fill(u64::MAX);
     }
-    state.rounds.fill(committer::sys::RoundRecord { peers: 9, used: 9 });
+    state.rounds.fill(committer::sys::RoundRecord { peers: 9, used_anchor_proof: 9 });
     committer.start(&beginning()).unwrap();
     let mut expected = started(2, &beginning(), 10);
     expected.parts_mut().1.memory = memory;

@@ -70,7 +70,7 @@ fn k13() {
         assert_eq!(held.is_committed(), points.contains(&held.id), "{held:?}");
     }
     let summary = committer.summary().unwrap();
-    assert_eq!((summary.last_proof, summary.last_anchor), (Some(14), Some(13)));
+    assert_eq!((summary.last_committed_proof, summary.last_anchor), (Some(14), Some(13)));
     assert_eq!(
         summary.rounds.iter().map(|round| round.used).collect::<Vec<_>>(),
         [Some(0), None, None, None, Some(0), None]
@@ -112,7 +112,7 @@ fn as_it_is(_: PointId, info: PointInfo) -> PointInfo {
 }
 
 fn short() -> Start {
-    Start { history_rounds: 1, ..used() }
+    Start { commit_history_rounds: 1, ..used() }
 }
 
 fn certified(mut chain: Chain) -> Chain {
@@ -140,7 +140,7 @@ fn list_a_and_its_bytes() {
     assert!(bytes[120..].iter().all(|byte| *byte == 0xa5));
     // entry 3: only a reset forgets the last proof
     assert_eq!(list.committer.drop_upto(13), Ok(true));
-    assert_eq!(list.committer.summary().unwrap().last_proof, Some(12));
+    assert_eq!(list.committer.summary().unwrap().last_committed_proof, Some(12));
 }
 
 #[test]
@@ -155,7 +155,7 @@ fn chains_of_anchors() {
             let below = (n > 0).then(|| point(10 + 2 * n, 0));
             assert_eq!(record.points, below.into_iter().chain([record.anchor]).collect::<Vec<_>>());
         }
-        assert_eq!(list.committer.summary().unwrap().last_proof, Some(10 + 2 * count));
+        assert_eq!(list.committer.summary().unwrap().last_committed_proof, Some(10 + 2 * count));
     }
 }
 
@@ -185,7 +185,7 @@ fn buffers_of_every_length() {
         match finished {
             0 => assert_unchanged(&committer, &list.committer),
             1 => {
-                assert_eq!(committer.summary().unwrap().last_proof, Some(12));
+                assert_eq!(committer.summary().unwrap().last_committed_proof, Some(12));
                 assert_eq!(committer.points().iter().filter(|point| point.is_committed()).count(), 1);
                 let mut rest = buffer(two - one);
                 assert_eq!(committer.commit(&list.trigger, &mut rest), Ok(1));
@@ -203,7 +203,7 @@ fn refused_after_one(mut list: Chain, number: u32, round: u32) {
     assert_eq!(why, refused(number, round, 1));
     assert_eq!(records.len(), 1);
     assert_eq!(records[0].anchor, list.anchors[0]);
-    assert_eq!(list.committer.summary().unwrap().last_proof, Some(list.anchors[0].round + 1));
+    assert_eq!(list.committer.summary().unwrap().last_committed_proof, Some(list.anchors[0].round + 1));
     let marked: Vec<PointId> =
         list.committer.points().iter().filter(|point| point.is_committed()).map(|point| point.id).collect();
     assert_eq!(marked, records[0].points);
@@ -335,13 +335,13 @@ fn broken_16() {
 #[test]
 fn rounds_missing_17() {
     let with =
-        Start { genesis: 10, history_rounds: 2, deduplicate_rounds: 5, bottom: 20, used: Some(0), ..beginning() };
+        Start { genesis: 10, commit_history_rounds: 2, deduplicate_rounds: 5, bottom: 20, used: Some(0), ..beginning() };
     let mut list = certified(chain(1, &with, as_it_is));
     list.committer.drop_upto(10).unwrap();
     list.committer.gap_question().unwrap();
     refused_at_once(list, 17, 0);
     // limits 16 and 18, full-history bottom 17
-    let mut list = certified(chain(2, &Start { history_rounds: 5, ..with }, as_it_is));
+    let mut list = certified(chain(2, &Start { commit_history_rounds: 5, ..with }, as_it_is));
     list.committer.drop_upto(12).unwrap();
     list.committer.gap_question().unwrap();
     refused_after_one(list, 17, 0);
@@ -371,7 +371,7 @@ fn gap_question_20() {
 
 #[test]
 fn at_genesis_22() {
-    let mut committer = started(8, &Start { history_rounds: 1, ..beginning() }, 12);
+    let mut committer = started(8, &Start { commit_history_rounds: 1, ..beginning() }, 12);
     put(&mut committer, point(10, 0), anchor(point(9, 0), &[]));
     put(&mut committer, point(11, 0), proof(point(11, 0), &[point(10, 0)]));
     put(&mut committer, point(12, 0), trigger(&[point(11, 0)]));
@@ -410,7 +410,7 @@ fn ids_2_5_6_9() {
 /// A list of the largest history: 255 rounds below the anchor, 4,096 places.
 #[test]
 fn the_largest_history() {
-    let with = Start { history_rounds: 255, used: Some(0), ..beginning() };
+    let with = Start { commit_history_rounds: 255, used: Some(0), ..beginning() };
     let mut committer = started(4096, &with, 268);
     let row = |round: u32| {
         let authors = if round == 11 { 14 } else { 16 };

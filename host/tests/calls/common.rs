@@ -4,7 +4,7 @@ use committer::{Committer, Link, PointId, PointInfo, Refused, Start, Status};
 
 /// Genesis 10, H 2, bottom 10, all 32 peers.
 pub fn beginning() -> Start {
-    Start { genesis: 10, history_rounds: 2, bottom: 10, peers: u32::MAX, ..Start::default() }
+    Start { genesis: 10, commit_history_rounds: 2, bottom: 10, peers: u32::MAX, ..Start::default() }
 }
 
 /// A started committer with the rounds up to `top`, all 32 peers in each.

@@ -13,7 +13,7 @@ fn of_all_rounds() -> Committer {
         PLACES_MAX,
         &Start {
             genesis: BOTTOM,
-            history_rounds: H,
+            commit_history_rounds: H,
             bottom: BOTTOM,
             peers: u32::MAX,
             after_gap: true,
@@ -79,7 +79,7 @@ fn assert_refusals(committer: &mut Committer, free: &PointId) {
     refuses(committer, 9, |c| c.certify(free));
     refuses(committer, 9, |c| c.resolve(free, &valid(&[], &[])));
     refuses(committer, 10, |c| c.resolve(&point(BOTTOM, BOTTOM % 4 * 8), &valid(&[], &[])));
-    refuses(committer, 2, |c| c.start(&Start { history_rounds: 1, ..Start::default() }));
+    refuses(committer, 2, |c| c.start(&Start { commit_history_rounds: 1, ..Start::default() }));
     refuses(committer, 1, |c| c.start(&Start::default()));
 }
 
@@ -131,7 +131,7 @@ fn filled_with_512_rounds() {
 
     committer.reset().unwrap();
     assert_eq!(committer.points(), []);
-    committer.start(&Start { history_rounds: 1, ..Start::default() }).unwrap();
+    committer.start(&Start { commit_history_rounds: 1, ..Start::default() }).unwrap();
     assert_eq!(committer.summary().unwrap().rounds.len(), 1);
 }
 

@@ -68,7 +68,7 @@ impl Model {
     }
 
     fn start(&mut self, with: &Start) -> Result<Answer, Number> {
-        let right = (1..=255).contains(&with.history_rounds)
+        let right = (1..=255).contains(&with.commit_history_rounds)
             && with.deduplicate_rounds <= 65_535
             && with.genesis <= with.bottom
             && with.bottom <= ROUND_MAX
@@ -87,11 +87,11 @@ impl Model {
     pub fn summary(&self) -> Option<Summary> {
         self.store.as_ref().map(|store| Summary {
             genesis: store.with.genesis,
-            history_rounds: store.with.history_rounds,
+            commit_history_rounds: store.with.commit_history_rounds,
             deduplicate_rounds: store.with.deduplicate_rounds,
             bottom: store.bottom,
             top: store.top,
-            last_proof: None,
+            last_committed_proof: None,
             last_anchor: None,
             full_history_bottom: store.full_history_bottom,
             first_executable: store.first_executable,
@@ -134,8 +134,8 @@ impl Held {
 
 impl Store {
     fn new(with: &Start) -> Store {
-        let near_genesis = with.bottom <= with.genesis + with.history_rounds;
-        let full_history_bottom = with.bottom + if near_genesis { 0 } else { with.history_rounds };
+        let near_genesis = with.bottom <= with.genesis + with.commit_history_rounds;
+        let full_history_bottom = with.bottom + if near_genesis { 0 } else { with.commit_history_rounds };
         let bottom = RetainedRound { round: with.bottom, peers: with.peers, used: with.used };
         Store {
             with: *with,
@@ -231,7 +231,7 @@ impl Store {
         let bottom = self.bottom;
         self.rounds.retain(|round, _| *round >= bottom);
         self.points.retain(|key, _| key.0 >= bottom);
-        self.full_history_bottom = actual + self.with.history_rounds;
+        self.full_history_bottom = actual + self.with.commit_history_rounds;
         self.first_executable = self.full_history_bottom + self.with.deduplicate_rounds;
         self.gap = Some(false);
         Answer::Said(actual == round)
@@ -251,7 +251,7 @@ impl Store {
         let mut heights = BTreeMap::new();
         for (top, _) in self.points.iter().filter(|(_, held)| held.top) {
             for key in self.reached(top) {
-                let height = (self.with.history_rounds + 1).saturating_sub(top.0 - key.0);
+                let height = (self.with.commit_history_rounds + 1).saturating_sub(top.0 - key.0);
                 let largest = heights.entry(key).or_insert(0);
                 *largest = height.max(*largest);
             }

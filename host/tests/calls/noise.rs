@@ -27,7 +27,7 @@ fn calls(noise: &mut Noise) -> Vec<Call> {
 fn any_start(noise: &mut Noise) -> Start {
     Start {
         genesis: noise.below(20),
-        history_rounds: noise.below(300),
+        commit_history_rounds: noise.below(300),
         deduplicate_rounds: noise.below(70_000),
         bottom: noise.below(40),
         peers: noise.word() as u32,
@@ -93,12 +93,12 @@ fn plausible(state: &mut State, places: usize, noise: &mut Noise) {
     state.phase = 1;
     state.count = 1 + noise.below(places as u32) as usize;
     state.genesis = noise.below(20);
-    state.history_rounds = 1 + noise.below(255);
+    state.commit_history_rounds = 1 + noise.below(255);
     state.deduplicate_rounds = noise.below(65_536);
     state.bottom = 20 + noise.below(20);
     state.top = state.bottom + noise.below(512);
     for record in &mut state.rounds {
-        record.used = noise.below(33);
+        record.used_anchor_proof = noise.below(33);
     }
     state.memory.count = noise.below(129) as usize;
 }
@@ -131,7 +131,7 @@ fn add_something(committer: &mut Committer) {
     committer.round(round, u32::MAX).unwrap();
     add(committer, &point(round, 9), &[], &[]);
     committer.certify(&point(round, 9)).unwrap();
-    assert_eq!(u32::from(committer.points()[0].height()), summary.history_rounds + 1);
+    assert_eq!(u32::from(committer.points()[0].height()), summary.commit_history_rounds + 1);
 }
 
 #[test]

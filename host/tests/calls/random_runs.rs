@@ -68,7 +68,7 @@ impl Run {
         let genesis = noise.below(6);
         Call::Start(Start {
             genesis,
-            history_rounds: if noise.one_in(8) { noise.below(300) } else { 1 + noise.below(6) },
+            commit_history_rounds: if noise.one_in(8) { noise.below(300) } else { 1 + noise.below(6) },
             deduplicate_rounds: if noise.one_in(8) { noise.below(140_000) } else { noise.below(9) },
             bottom: (genesis + noise.below(9)).saturating_sub(1),
             peers: !0 >> noise.below(3),
@@ -237,7 +237,7 @@ fn small_boards() {
 #[test]
 fn a_large_board() {
     let mut run = Run::new(7, PLACES_MAX, 32);
-    run.make(&Call::Start(Start { genesis: 1, history_rounds: 40, bottom: 1, peers: u32::MAX, ..Start::default() }));
+    run.make(&Call::Start(Start { genesis: 1, commit_history_rounds: 40, bottom: 1, peers: u32::MAX, ..Start::default() }));
     for round in 2..=60 {
         run.make(&Call::Round { round, peers: u32::MAX });
     }

@@ -21,7 +21,7 @@ fn one_of_each() -> Vec<Call> {
     vec![
         Call::Start(Start {
             genesis: 1,
-            history_rounds: 2,
+            commit_history_rounds: 2,
             deduplicate_rounds: 3,
             bottom: 4,
             peers: 5,
@@ -165,7 +165,7 @@ fn refused(why: Refusal) -> String {
 /// The lines of the state and of the points.
 fn last_lines(committer: &Committer) -> Vec<String> {
     let Some(s) = committer.summary() else { return vec!["state none".into()] };
-    let proof = s.last_proof.map_or("none".into(), |round| round.to_string());
+    let proof = s.last_committed_proof.map_or("none".into(), |round| round.to_string());
     let emit = s.emit_first_after_gap.map_or("none".into(), |flag| flag.to_string());
     let state = format!(
         "state bottom {} top {} lastproof {proof} fullbottom {} first {} emit {emit}",

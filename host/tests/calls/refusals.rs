@@ -24,9 +24,9 @@ fn refuse_all(committer: &mut Committer) {
 #[test]
 fn start_1() {
     let wrong = [
-        Start { history_rounds: 0, ..beginning() },
-        Start { history_rounds: 256, ..beginning() },
-        Start { history_rounds: u32::MAX, ..beginning() },
+        Start { commit_history_rounds: 0, ..beginning() },
+        Start { commit_history_rounds: 256, ..beginning() },
+        Start { commit_history_rounds: u32::MAX, ..beginning() },
         Start { deduplicate_rounds: 65536, ..beginning() },
         Start { genesis: ROUND_MAX + 1, bottom: ROUND_MAX + 1, ..beginning() },
         Start { bottom: ROUND_MAX + 1, ..beginning() },
@@ -41,8 +41,8 @@ fn start_1() {
         refuses(&mut started(4, &beginning(), 11), 1, |c| c.start(&with));
     }
     let right = [
-        Start { history_rounds: 1, deduplicate_rounds: 65535, ..beginning() },
-        Start { history_rounds: 255, used: Some(31), ..beginning() },
+        Start { commit_history_rounds: 1, deduplicate_rounds: 65535, ..beginning() },
+        Start { commit_history_rounds: 255, used: Some(31), ..beginning() },
         Start { bottom: ROUND_MAX, peers: 0, ..beginning() },
         Start { genesis: 0, bottom: 0, ..beginning() },
     ];
@@ -346,7 +346,7 @@ fn numbers_of_links_that_differ_11() {
         (0, usize::MAX, 0),
         (usize::MAX / 5 + 1, 0, 10),
     ] {
-        let told = committer::sys::Told { includes, witness, ..(&valid(&[], &[])).into() };
+        let resolution = committer::sys::Resolution { includes, witness, ..(&valid(&[], &[])).into() };
         let before = tables.clone();
         // Safety: the words lent are at most those of `refs`; the tables are vectors.
         let reply = unsafe {
@@ -361,7 +361,7 @@ fn numbers_of_links_that_differ_11() {
                 tables.order.as_ptr(),
                 tables.order.len(),
                 id,
-                told,
+                resolution,
                 refs.as_ptr(),
                 words,
             )

@@ -28,19 +28,19 @@ const BREAKS: [(&str, Break); 51] = [
     ("phase 3", |_, s| s.phase = 3),
     ("more used places than places", |_, s| s.count = 7),
     ("no end of used places", |_, s| s.count = usize::MAX),
-    ("H of 0", |_, s| s.history_rounds = 0),
-    ("H above 255", |_, s| s.history_rounds = 256),
+    ("H of 0", |_, s| s.commit_history_rounds = 0),
+    ("H above 255", |_, s| s.commit_history_rounds = 256),
     ("deduplicate rounds", |_, s| s.deduplicate_rounds = 65_536),
     ("genesis above the bottom", |_, s| s.genesis = 11),
     ("bottom above the top", |_, s| s.bottom = 14),
     ("top above the last round", |_, s| s.top = 4_000_000_001),
     ("513 rounds", |_, s| s.top = 10 + 512),
-    ("used mark of author 32", |_, s| s.rounds[12].used = 33),
+    ("used mark of author 32", |_, s| s.rounds[12].used_anchor_proof = 33),
     ("129 entries of memory", |_, s| s.memory.count = 129),
     ("a point below the bottom", |_, s| s.bottom = 11),
     ("a point above the top", |_, s| s.top = 12),
     ("an author who isn't a peer", |_, s| s.rounds[10].peers = 1),
-    ("another H than the heights'", |_, s| s.history_rounds = 3),
+    ("another H than the heights'", |_, s| s.commit_history_rounds = 3),
     ("a place that isn't there", |t, _| t.order[4] = 6),
     ("a place without end", |t, _| t.order[0] = u64::MAX),
     ("a place twice", |t, _| t.order[1] = 0),
@@ -115,12 +115,12 @@ fn five_digests_break_a_rule() {
 
 /// Each leaves the tables as some calls could have, or is what no rule asks about.
 const ALLOWED: [(&str, Break); 11] = [
-    ("the last proof", |_, s| s.last_proof = u32::MAX),
+    ("the last proof", |_, s| s.last_committed_proof = u32::MAX),
     ("the last anchor", |_, s| s.last_anchor = u32::MAX),
     ("the full-history bottom", |_, s| s.full_history_bottom = u32::MAX),
     ("the first executable round", |_, s| s.first_executable = u32::MAX),
-    ("the gap flag", |_, s| s.gap = u32::MAX),
-    ("a record of a round that isn't retained", |_, s| s.rounds[14].used = 99),
+    ("the gap flag", |_, s| s.emit_first_after_gap = u32::MAX),
+    ("a record of a round that isn't retained", |_, s| s.rounds[14].used_anchor_proof = 99),
     ("an entry of the memory", |_, s| s.memory.entries[0].author = 99),
     ("a key of a free place", |t, _| t.keys[5 * 8..].fill(99)),
     ("a link of a free place", |t, _| t.links[5 * 328..].fill(99)),
@@ -144,7 +144,7 @@ fn what_no_rule_asks_about() {
 #[test]
 fn states_as_bytes() {
     let mut state = *board().parts().1;
-    state.memory.entries[127].owing = 0xfeed;
+    state.memory.entries[127].unreferenced_by = 0xfeed;
     state.memory.entries[1].previous = [1, 2, 3, 4];
     let bytes: [u8; STATE_BYTES] = state.to_bytes().try_into().unwrap();
     assert!(State::from_bytes(&bytes) == state);

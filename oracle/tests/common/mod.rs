@@ -19,8 +19,8 @@ pub fn digest(letter: char) -> [u8; 32] {
     bytes
 }
 
-pub fn start(genesis: u32, history_rounds: u32, deduplicate_rounds: u32, bottom: u32) -> Start {
-    Start { genesis, history_rounds, deduplicate_rounds, bottom, peers: 0b11, after_gap: false, used: None }
+pub fn start(genesis: u32, commit_history_rounds: u32, deduplicate_rounds: u32, bottom: u32) -> Start {
+    Start { genesis, commit_history_rounds, deduplicate_rounds, bottom, peers: 0b11, after_gap: false, used: None }
 }
 
 pub fn started(start: &Start, top: u32) -> Oracle {

@@ -66,7 +66,7 @@ fn info(n: u32) -> PointInfo {
 fn start() -> Call {
     Call::Start(Start {
         genesis: BOTTOM,
-        history_rounds: HISTORY_ROUNDS,
+        commit_history_rounds: HISTORY_ROUNDS,
         bottom: BOTTOM,
         peers: u32::MAX,
         ..Start::default()
@@ -194,7 +194,7 @@ fn committable(points: u32) -> (Vec<Call>, PointId) {
     rows.extend((0..3).map(|n| row(anchor.round + n, 1)));
     let bottom = Start {
         genesis: BOTTOM,
-        history_rounds: 255,
+        commit_history_rounds: 255,
         bottom: BOTTOM,
         peers: u32::MAX,
         used: Some(0),

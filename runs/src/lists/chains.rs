@@ -44,7 +44,7 @@ struct Chains {
     most: usize,
     genesis: u32,
     /// the proof that the next anchor leads to
-    last_proof: PointId,
+    last_committed_proof: PointId,
     leader: u32,
     anchor: Option<PointId>,
     /// rounds until the next anchor
@@ -91,7 +91,7 @@ impl Chains {
             named: 0,
             most: 1,
             genesis: 0,
-            last_proof: PointId::default(),
+            last_committed_proof: PointId::default(),
             leader: 0,
             anchor: None,
             wait: 1,
@@ -106,7 +106,7 @@ impl Chains {
         let bottom = self.genesis + *random.pick(&[0, 0, 0, 1, 2, 4, 9]);
         let with = Start {
             genesis: self.genesis,
-            history_rounds: *random.pick(&[1, 2, 2, 3, 4, 6, 12, 255]),
+            commit_history_rounds: *random.pick(&[1, 2, 2, 3, 4, 6, 12, 255]),
             deduplicate_rounds: *random.pick(&[0, 0, 2, 7, 65_535]),
             bottom,
             peers: self.peers(),
@@ -117,7 +117,7 @@ impl Chains {
         if with.after_gap && self.random.chance(self.taste.asked) {
             self.calls.push(Call::Gap);
         }
-        self.last_proof = PointId { round: bottom, author: 0, digest: self.digest() };
+        self.last_committed_proof = PointId { round: bottom, author: 0, digest: self.digest() };
         self.rounds.insert(bottom, Vec::new());
     }
 
@@ -202,7 +202,7 @@ impl Chains {
             return;
         }
         let status = if self.in_thousand(self.taste.bad_status) { self.random.within(2, 5) } else { 1 };
-        let info = PointInfo { status, top_proof: self.last_proof, ..PointInfo::default() };
+        let info = PointInfo { status, top_proof: self.last_committed_proof, ..PointInfo::default() };
         self.resolve(id, info);
         if self.in_thousand(8) {
             self.calls.push(Call::Certify(id));
@@ -241,7 +241,7 @@ impl Chains {
             status: 1,
             proof: stage == 2,
             trigger: stage >= 3,
-            top_proof: self.last_proof,
+            top_proof: self.last_committed_proof,
             ..PointInfo::default()
         };
         if self.in_thousand(self.taste.broken) {
@@ -256,7 +256,7 @@ impl Chains {
         if info.proof {
             // the Rust has no other
             info.top_proof = id;
-            self.last_proof = id;
+            self.last_committed_proof = id;
         }
         if !self.in_thousand(self.taste.late / 4) {
             self.resolve(id, info);
@@ -294,7 +294,7 @@ impl Chains {
             (self.rounds.values().flatten()).filter(|point| !point.resolved).map(|point| point.id).collect();
         if !open.is_empty() && self.random.chance(50) {
             let id = *self.random.pick(&open);
-            let info = PointInfo { status: 1, top_proof: self.last_proof, ..PointInfo::default() };
+            let info = PointInfo { status: 1, top_proof: self.last_committed_proof, ..PointInfo::default() };
             self.resolve(id, info);
         }
     }
@@ -322,7 +322,7 @@ impl Chains {
             0 => bottom.saturating_sub(self.random.below(3)),
             1 => top.saturating_sub(self.random.below(6)),
             2 => bottom + 1,
-            3 => self.last_proof.round + self.random.below(3),
+            3 => self.last_committed_proof.round + self.random.below(3),
             _ => self.random.within(bottom, top),
         };
         self.calls.push(Call::Drop(round));

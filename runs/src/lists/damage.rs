@@ -73,7 +73,7 @@ fn change_start(with: &mut Start, random: &mut Random) {
     match random.below(7) {
         0 => near(&mut with.genesis, random),
         1 => near(&mut with.bottom, random),
-        2 => with.history_rounds = random.below(4),
+        2 => with.commit_history_rounds = random.below(4),
         3 => with.deduplicate_rounds ^= 1 << random.below(18),
         4 => with.peers ^= 1 << random.below(32),
         5 => with.after_gap = !with.after_gap,

@@ -57,7 +57,7 @@ pub struct Growth {
     genesis: u32,
     points: Vec<Held>,
     /// the leader's last proof, or what stands for it
-    last_proof: PointId,
+    last_committed_proof: PointId,
 }
 
 /// Peer 0 leads: its points are an anchor, a proof and a trigger in turn.
@@ -74,7 +74,7 @@ impl Growth {
             rounds: BTreeMap::new(),
             genesis: 0,
             points: Vec::new(),
-            last_proof: PointId::default(),
+            last_committed_proof: PointId::default(),
         }
     }
 
@@ -152,7 +152,7 @@ impl Growth {
         let bottom = genesis + self.random.below(2) * self.random.below(4);
         Start {
             genesis,
-            history_rounds: *self.random.pick(&[1, 2, 2, 3, 3, 5, 10, 255]),
+            commit_history_rounds: *self.random.pick(&[1, 2, 2, 3, 3, 5, 10, 255]),
             deduplicate_rounds: *self.random.pick(&[0, 0, 3, 65_535]),
             bottom,
             peers: self.peers(bottom, genesis),
@@ -165,7 +165,7 @@ impl Growth {
         let with = self.good_start();
         self.genesis = with.genesis;
         self.rounds.insert(with.bottom, with.peers);
-        self.last_proof = PointId { round: with.bottom, author: LEADER, digest: self.digest() };
+        self.last_committed_proof = PointId { round: with.bottom, author: LEADER, digest: self.digest() };
         self.calls.push(Call::Start(with));
     }
 
@@ -287,7 +287,7 @@ impl Growth {
         self.points[n].resolved = true;
         let info = self.info(&id);
         if info.proof && id.author == LEADER {
-            self.last_proof = id;
+            self.last_committed_proof = id;
         }
         self.calls.push(Call::Resolve(id, info));
     }
@@ -311,7 +311,7 @@ impl Growth {
             trigger: leads && stage == 0 || self.random.chance(3),
             cause: self.random.chance(50),
             // the Rust has no other for a proof
-            top_proof: if proof { *id } else { self.last_proof },
+            top_proof: if proof { *id } else { self.last_committed_proof },
             evidence: if linked { self.random.word() as u32 & self.random.word() as u32 } else { 0 },
             includes: if linked { self.links(id, 1, 75) } else { Vec::new() },
             witness: if linked { self.links(id, 2, 35) } else { Vec::new() },
@@ -420,7 +420,7 @@ impl Growth {
     fn wild_start(&mut self) {
         let mut with = self.good_start();
         match self.random.below(7) {
-            0 => with.history_rounds = *self.random.pick(&[0, 256, 512, u32::MAX]),
+            0 => with.commit_history_rounds = *self.random.pick(&[0, 256, 512, u32::MAX]),
             1 => with.deduplicate_rounds = *self.random.pick(&[65_536, u32::MAX]),
             2 => with.bottom = *self.random.pick(&[ROUND_MAX + 1, u32::MAX]),
             3 => (with.genesis, with.bottom) = (ROUND_MAX + 1, ROUND_MAX + 2),

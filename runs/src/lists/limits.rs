@@ -80,8 +80,8 @@ fn large_history() -> List {
 
 const ALL: u32 = u32::MAX;
 
-fn start(history_rounds: u32, peers: u32) -> Start {
-    Start { genesis: 10, history_rounds, bottom: 10, peers, used: Some(0), ..Start::default() }
+fn start(commit_history_rounds: u32, peers: u32) -> Start {
+    Start { genesis: 10, commit_history_rounds, bottom: 10, peers, used: Some(0), ..Start::default() }
 }
 
 fn list(places: usize, with: Start, calls: impl IntoIterator<Item = Call>) -> List {
@@ -205,7 +205,7 @@ fn one_place() -> List {
 fn highest_rounds() -> List {
     let with = Start {
         genesis: ROUND_MAX - 300,
-        history_rounds: 255,
+        commit_history_rounds: 255,
         deduplicate_rounds: 65_535,
         bottom: ROUND_MAX - 2,
         peers: 3,
@@ -237,16 +237,16 @@ fn zero() -> List {
         Call::Certify(at(1, 1, 0)),
         Call::Drop(0),
         Call::Round { round: 0, peers: 1 },
-        Call::Start(Start { peers: 1, history_rounds: 1, ..Start::default() }),
+        Call::Start(Start { peers: 1, commit_history_rounds: 1, ..Start::default() }),
         // not one peer: the Rust panics
         Call::Round { round: 0, peers: 3 },
     ];
-    list(8, Start { history_rounds: 5, peers: 1, ..Start::default() }, calls)
+    list(8, Start { commit_history_rounds: 5, peers: 1, ..Start::default() }, calls)
 }
 
 /// A chain by includes or by witness that is longer than H: the height falls to 0 on the way. Then a top in the middle.
-fn chain(history_rounds: u32, down: u32) -> List {
-    let length = history_rounds + 8;
+fn chain(commit_history_rounds: u32, down: u32) -> List {
+    let length = commit_history_rounds + 8;
     let mut calls = Vec::new();
     for round in 10..10 + length {
         calls.push(Call::Round { round: round + 1, peers: 1 });
@@ -259,7 +259,7 @@ fn chain(history_rounds: u32, down: u32) -> List {
     calls.push(Call::Certify(at(10 + length / 2, 0, 0)));
     calls.push(Call::Certify(at(last, 0, 0)));
     calls.push(Call::Drop(last - 3));
-    list(length as usize, start(history_rounds, 1), calls)
+    list(length as usize, start(commit_history_rounds, 1), calls)
 }
 
 fn chained(round: u32, down: u32) -> PointInfo {
@@ -269,8 +269,8 @@ fn chained(round: u32, down: u32) -> PointInfo {
 }
 
 /// Certified before anything is resolved; resolved from the newest down, so that each resolution hands on one height.
-fn late_chain(history_rounds: u32) -> List {
-    let length = history_rounds + 4;
+fn late_chain(commit_history_rounds: u32) -> List {
+    let length = commit_history_rounds + 4;
     let mut calls = Vec::new();
     for round in 10..10 + length {
         calls.push(Call::Round { round: round + 1, peers: 1 });
@@ -280,12 +280,12 @@ fn late_chain(history_rounds: u32) -> List {
     for round in (10..10 + length).rev() {
         calls.push(Call::Resolve(at(round, 0, 0), chained(round, 1)));
     }
-    list(length as usize, start(history_rounds, 1), calls)
+    list(length as usize, start(commit_history_rounds, 1), calls)
 }
 
 /// Two peers whose points include one the other and have witness links too; resolved in a mixed order.
-fn woven(history_rounds: u32) -> List {
-    let length = history_rounds.min(40) + 6;
+fn woven(commit_history_rounds: u32) -> List {
+    let length = commit_history_rounds.min(40) + 6;
     let mut calls = Vec::new();
     for round in 10..10 + length {
         calls.push(Call::Round { round: round + 1, peers: 3 });
@@ -302,7 +302,7 @@ fn woven(history_rounds: u32) -> List {
             calls.push(Call::Certify(at(round, author, 0)));
         }
     }
-    list(2 * length as usize, start(history_rounds, 3), calls)
+    list(2 * length as usize, start(commit_history_rounds, 3), calls)
 }
 
 /// Starts at the ends of their ranges and one beyond, on tables of the least, the greatest and wrong numbers of places.
@@ -310,9 +310,9 @@ fn starts() -> Vec<List> {
     let with = start(1, 3);
     let kinds = [
         with,
-        Start { history_rounds: 0, ..with },
-        Start { history_rounds: 255, ..with },
-        Start { history_rounds: 256, ..with },
+        Start { commit_history_rounds: 0, ..with },
+        Start { commit_history_rounds: 255, ..with },
+        Start { commit_history_rounds: 256, ..with },
         Start { deduplicate_rounds: 65_535, after_gap: true, ..with },
         Start { deduplicate_rounds: 65_536, ..with },
         Start { bottom: ROUND_MAX, ..with },
@@ -326,8 +326,8 @@ fn starts() -> Vec<List> {
         Start { used: Some(32), ..with },
         Start { used: None, peers: 0, ..with },
         // at most, and one above, the round from which a full history needs H rounds
-        Start { history_rounds: 2, bottom: 12, after_gap: true, deduplicate_rounds: 5, ..with },
-        Start { history_rounds: 2, bottom: 13, after_gap: true, deduplicate_rounds: 5, ..with },
+        Start { commit_history_rounds: 2, bottom: 12, after_gap: true, deduplicate_rounds: 5, ..with },
+        Start { commit_history_rounds: 2, bottom: 13, after_gap: true, deduplicate_rounds: 5, ..with },
         // not one peer: the Rust panics
         Start { genesis: 0, bottom: 0, peers: 3, ..with },
     ];

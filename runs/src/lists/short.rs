@@ -13,8 +13,8 @@ pub fn shorts() -> impl Iterator<Item = List> {
     orders().chain(begun()).chain(bare())
 }
 
-fn start(history_rounds: u32) -> Call {
-    Call::Start(Start { genesis: 10, history_rounds, bottom: 10, peers: 0b11, used: Some(0), ..Start::default() })
+fn start(commit_history_rounds: u32) -> Call {
+    Call::Start(Start { genesis: 10, commit_history_rounds, bottom: 10, peers: 0b11, used: Some(0), ..Start::default() })
 }
 
 fn round(round: u32) -> Call {
@@ -39,8 +39,8 @@ fn orders() -> impl Iterator<Item = List> {
         Call::Drop(11),
         Call::Drop(12),
     ];
-    (1..=3).flat_map(move |history_rounds| {
-        let mut prefix = vec![start(history_rounds), round(11), round(12)];
+    (1..=3).flat_map(move |commit_history_rounds| {
+        let mut prefix = vec![start(commit_history_rounds), round(11), round(12)];
         prefix.extend([(10, 0, 1), (11, 0, 2), (11, 1, 3), (12, 0, 4)].map(|(r, a, n)| Call::Name(point(r, a, n))));
         words(prefix, letters.clone(), 4)
     })
