@@ -5,7 +5,7 @@ ghost use Prim.Native.Nat.{_+_, _*_, _<_, _≤_};
 ghost use lib.ListN.{length};
 ghost use Rattle.models.specs.Tables.{Used};
 ghost use Rattle.back_walk.specs.Words.{idFrom, hasPrevious, previousId, topId, Placed, Topped};
-ghost use Rattle.back_walk.specs.Model.{judgeAt, gather_uncommitted, proofAt, anchorAt, usedAt, stepAt, Walkable, Linked};
+ghost use Rattle.back_walk.specs.Model.{judgeAt, needed, proofAt, anchorAt, usedAt, stepAt, Walkable, Linked};
 use commit_state::state::State;
 use models::cert::Cert;
 use models::dag_point::DagPoint;
@@ -107,7 +107,7 @@ fn judge(keys: &[u64], certs: &[u64], q: usize, round: Round) -> Check
 // The point with this id, as the walk needs it (`ready_valid_point`).
 fn ready_valid_point(s: State, keys: &[u64], certs: &[u64], order: &[u64], id: PointId) -> Needed
     requires { ⌜ Walkable s (now keys) (now certs) (now order) ⌝ }
-    ensures { λ r. ⌜ r ≡ gather_uncommitted s (now (keys .entry)) (now (certs .entry)) (now (order .entry)) id ⌝ }
+    ensures { λ r. ⌜ r ≡ needed s (now (keys .entry)) (now (certs .entry)) (now (order .entry)) id ⌝ }
 {
     let n = s.count;
     let words = dag_round_points::id_words(id);

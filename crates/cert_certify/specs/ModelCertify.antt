@@ -7,7 +7,7 @@ use lib.ListN.{length, getD, set, length-set}
 use Rattle.spec.specs.Store.{word}
 use Rattle.models.specs.Cert.{flagsOf, heightOf, withHeight, topped, with-height}
 use Rattle.commit_state.specs.declared.state.State.{State}
-use Rattle.cert_certify.specs.Model.{withPathHeights, start, traversed, visited-length}
+use Rattle.cert_certify.specs.Model.{propagated, start, traversed, visited-length}
 use Rattle.cert_certify.specs.Sane.{Placed}
 use Rattle.cert_certify.specs.Word.{topped-small, topped-word}
 
@@ -40,5 +40,5 @@ certified-by s ks ls cs ds q t g x e h d f = f ∙ ap (λ (w : ℕ). traversed (
 
 -- they are as many as before
 pub certified-length : (s : State) (ks ls cs ds : List ℕ) (q : ℕ) → ds ≡ certifiedCerts s ks ls cs q → length ds ≡ length cs
-unfolding certifiedCerts toppedCerts traversed withPathHeights start
+unfolding certifiedCerts toppedCerts traversed propagated start
 certified-length s ks ls cs ds q e = ap length e ∙ (visited-length (s .bottom .0) ks ls (start (toppedCerts s cs q) q) 4096 .0 ∙ length-set cs q _)
