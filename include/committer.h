@@ -292,15 +292,15 @@ static inline void committer_digest_bytes(committer_digest digest, unsigned char
  * The bytes of stack that a call takes at most, beside its arguments and its reply, which the caller holds: a state and a reply of some
  * 15 KB each. Measured from the library as built for x86-64 (host/check.sh compares).
  */
-#define COMMITTER_STACK_START 52000u
-#define COMMITTER_STACK_RESET 33000u
-#define COMMITTER_STACK_ROUND 48000u
-#define COMMITTER_STACK_GAP 48000u
-#define COMMITTER_STACK_NAME 64000u
-#define COMMITTER_STACK_RESOLVE 64000u
-#define COMMITTER_STACK_CERTIFY 48000u
-#define COMMITTER_STACK_DROP 33000u
-#define COMMITTER_STACK_COMMIT 138000u
+#define COMMITTER_STACK_START 56000u
+#define COMMITTER_STACK_RESET 37000u
+#define COMMITTER_STACK_ROUND 52000u
+#define COMMITTER_STACK_GAP 52000u
+#define COMMITTER_STACK_NAME 68000u
+#define COMMITTER_STACK_RESOLVE 83000u
+#define COMMITTER_STACK_CERTIFY 52000u
+#define COMMITTER_STACK_DROP 37000u
+#define COMMITTER_STACK_COMMIT 158000u
 
 /* ---- calls. The numbers named are those that the call is refused with, in the order of the tests. */
 
