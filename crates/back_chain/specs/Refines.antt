@@ -25,7 +25,6 @@ use Rattle.models.specs.Tables.{roundAt, authorAt, statusAt, marksAt, Used}
 use Rattle.models.specs.declared.parts.PointId.{PointId}
 use Rattle.models.specs.Refusal.{refusalOf, unlessFailed, failed, conflicting, notValid}
 use Rattle.models.specs.declared.refusal.Refusal.{Refusal}
-use Rattle.models.specs.declared.refusal.Refusal.the-variants.{Number}
 use Rattle.models.specs.declared.refusal.Check.{Check}
 use Rattle.models.specs.declared.refusal.Check.the-variants.{Passed, Failed}
 use Rattle.commit_state.specs.Numbers.{roundsHold}
@@ -35,11 +34,13 @@ use Rattle.tables_test.specs.Model.{range-says}
 use Rattle.tables_test.specs.View.{view}
 use Rattle.tables_test.specs.Refines.{rounds-of}
 use Rattle.dag_round_points.specs.Model.{idWords}
-use Rattle.dag_round_points.specs.Codes.{unless}
-use Rattle.dag_round_points.specs.Point.{pointCode, placeFor, point-used, point-low}
+use Rattle.dag_round_points.specs.Codes.{unless, unless-numbered, found, found-at, found-refused}
+use Rattle.dag_round_points.specs.declared.Found.{Found}
+use Rattle.dag_round_points.specs.declared.Found.the-variants.{At, Refused}
+use Rattle.dag_round_points.specs.Point.{pointCode, placeFor, point-used, point-round}
 use Rattle.dag_round_points.specs.RefinesPoint.{point-is}
 use Rattle.back_walk.specs.Words.{hasPrevious, previousId}
-use Rattle.back_walk.specs.Refines.{walkable, round-at, resolved-at, status-at, status-most, certified-at, top-at, kept-at, given-at, previous-at, previous-id, previous-fit, found-round}
+use Rattle.back_walk.specs.Refines.{walkable, round-at, resolved-at, status-at, status-most, certified-at, top-at, kept-at, given-at, previous-at, previous-id, previous-fit}
 use Rattle.back_chain.specs.Chain.{noAnchors, chainOut, chain-none, out-good, out-bad}
 use Rattle.back_chain.specs.RefinesWalk.{walked, walked-is}
 use Rattle.back_chain.specs.Model.{isBelow, lowOf, triggerOf, triggerCode, walks, chainedFrom}
@@ -101,12 +102,6 @@ unless-same : {A : Type 0} (n : ℕ) (o p : Out A) → (n ≡ 0 → o ≡ p) →
 unfolding unless
 unless-same zero o p h = h refl
 unless-same (suc n) o p h = refl
-
--- a number that refuses
-unless-number : {A : Type 0} (n : ℕ) (o : Out A) → (n ≡ 0 → ⊥) → bad (number n) ≡ unless n o
-unfolding unless
-unless-number zero o d = absurd (d refl)
-unless-number (suc n) o d = refl
 
 -- the round plus 1, or 0 for none
 zero-less : (n : ℕ) → orZero (optionOf n) ≡ n - 1
@@ -197,11 +192,6 @@ module _ (s : State) (ks ls cs os : List ℕ) (fk : Fit ks) (fl : Fit ls) (h : c
     abbrev q : ℕ
     q = placeFor s ks os i
 
-    -- the trigger's round
-    place-round : pointCode s ks os i ≡ 0 → roundAt ks q ≡ i .round .0
-    unfolding placeFor idWords
-    place-round z = found-round ks os (s .count) (idWords i) (point-low s ks os i z (idWords i) _ refl refl)
-
     -- the tests of its id
     id-is : anchorsOf v (idOf i) ≡ cond (isBelow s i) (good []) (atId v (idOf i) (then (placeOf v (idOf i)) (filtered v)))
     unfolding anchorsOf isBelow atId refuse view
@@ -216,7 +206,7 @@ module _ (s : State) (ks ls cs os : List ℕ) (fk : Fit ks) (fl : Fit ls) (h : c
     anchors-is : anchorsOf v (idOf i) ≡ cond (isBelow s i) (good []) (unless (pointCode s ks os i) (triggeredAt s ks ls cs os q (i .round .0)))
     anchors-is =
         id-is ∙ ap (cond (isBelow s i) (good []))
-        (point-is s ks ls cs os i fk fl h fi (filtered v) ∙ unless-same (pointCode s ks os i) _ _ (λ z. trigger-is q (i .round .0) (point-used s ks os i z) (place-round z)))
+        (point-is s ks ls cs os i fk fl h fi (filtered v) ∙ unless-same (pointCode s ks os i) _ _ (λ z. trigger-is q (i .round .0) (point-used s ks os i z) (point-round s ks os i z)))
 
     -- a walk has at most 511 rounds
     walk-short : pointCode s ks os i ≡ 0 → i .round .0 - low ≤ 511
@@ -224,15 +214,7 @@ module _ (s : State) (ks ls cs os : List ℕ) (fk : Fit ks) (fl : Fit ls) (h : c
     walk-short z =
         let k = kept-at s ks ls cs os fk fl h q (point-used s ks os i z) in
         let r = range-says _ _ _ (and-l _ _ (rounds-of s ks ls cs os h)) in
-        omega (arith, k .1, place-round z, low-room, r .2)
-
-    -- the place lies in the tables
-    pub trigger-in : (k p : ℕ) → k ≡ pointCode s ks os i → k ≡ 0 → p ≡ placeFor s ks os i → (p * 8 + 8 ≤ length ks) × (p < length cs)
-    trigger-in k p code z at =
-        let (j, l, d) = point-used s ks os i (sym code ∙ z) in
-        let (a, e) = walkable s ks ls cs os fk fl h in
-        let m = a .3 j l in
-        (omega (arith, m, d, at, a .0), omega (arith, m, d, at, e))
+        omega (arith, k .1, point-round s ks os i z, low-room, r .2)
 
     -- ---- the code's outcomes
 
@@ -248,36 +230,47 @@ module _ (s : State) (ks ls cs os : List ℕ) (fk : Fit ks) (fl : Fit ls) (h : c
       pub of-below : b ≡ true → (c : Chain) → c ≡ noAnchors Passed → Says c
       of-below y c e = none-good c e ∙ sym (anchors-is ∙ rw (sym is ∙ y) refl)
 
-      module _ (n : b ≡ false) (k : ℕ) (code : k ≡ pointCode s ks os i) where
-        tests : anchorsOf v (idOf i) ≡ unless k (triggeredAt s ks ls cs os q r)
-        tests = anchors-is ∙ rw (sym is ∙ n, ← code) refl
+      module _ (n : b ≡ false) (f : Found) (g : f ≡ found (pointCode s ks os i) q) where
+        tests : anchorsOf v (idOf i) ≡ unless (pointCode s ks os i) (triggeredAt s ks ls cs os q r)
+        tests = anchors-is ∙ rw (sym is ∙ n) refl
 
-        pub of-refused : (k ≡ 0 → ⊥) → (c : Chain) → c ≡ noAnchors (failed k) → Says c
-        unfolding refusalOf
-        of-refused d c e = none-bad c (Number k) e ∙ (unless-number k _ d ∙ sym tests)
+        pub of-refused : (w : Refusal) → f ≡ Refused w → (c : Chain) → c ≡ noAnchors (Failed w) → Says c
+        unfolding unlessFailed
+        of-refused w d c e = none-bad c w e ∙ sym (tests ∙ (unless-numbered (pointCode s ks os i) _ ∙ rw (found-refused (pointCode s ks os i) q w (sym g ∙ d)) refl))
 
-        module _ (z : k ≡ 0) (p : ℕ) (at : p ≡ placeFor s ks os i) (m : Check) (trigger : m ≡ triggerCode ks cs p r) where
-          at-trigger : anchorsOf v (idOf i) ≡ triggeredAt s ks ls cs os p r
-          unfolding unless
-          at-trigger = tests ∙ rw (z, unless, ← at) refl
+        module _ (p : ℕ) (d : f ≡ At p) where
+          at : (pointCode s ks os i ≡ 0) × (p ≡ q)
+          at = found-at (pointCode s ks os i) q p (sym g ∙ d)
 
-          pub of-trigger : (w : Refusal) → m ≡ Failed w → (c : Chain) → c ≡ noAnchors (Failed w) → Says c
-          unfolding triggeredAt unlessFailed
-          of-trigger w d c e = none-bad c w e ∙ sym (at-trigger ∙ rw (sym trigger ∙ d) refl)
+          -- the place lies in the tables
+          pub trigger-in : (p * 8 + 8 ≤ length ks) × (p < length cs)
+          trigger-in =
+              let (j, l, x) = point-used s ks os i (at .0) in
+              let (a, e) = walkable s ks ls cs os fk fl h in
+              let m = a .3 j l in
+              (omega (arith, m, x, at .1, a .0), omega (arith, m, x, at .1, e))
 
-          module _ (none : m ≡ Passed) (l : ℕ) (lowest : l ≡ lowOf s) (a : Bool) (walk : a ≡ walks s ks p r l) where
-            pub of-none : not a ≡ true → (c : Chain) → c ≡ noAnchors Passed → Says c
+          module _ (m : Check) (trigger : m ≡ triggerCode ks cs p r) where
+            at-trigger : anchorsOf v (idOf i) ≡ triggeredAt s ks ls cs os p r
+            unfolding unless
+            at-trigger = tests ∙ rw (at .0, unless, ← at .1) refl
+
+            pub of-trigger : (w : Refusal) → m ≡ Failed w → (c : Chain) → c ≡ noAnchors (Failed w) → Says c
             unfolding triggeredAt unlessFailed
-            of-none y c e = none-good c e ∙ sym (at-trigger ∙ rw (sym trigger ∙ none, ← lowest, sym walk ∙ not-true a y) refl)
+            of-trigger w y c e = none-bad c w e ∙ sym (at-trigger ∙ rw (sym trigger ∙ y) refl)
 
-            pub of-chain : not a ≡ false → (c : Chain) → chainOut c ≡ chainedFrom s ks ls cs os p r l → Says c
-            unfolding triggeredAt unlessFailed
-            of-chain y c e = e ∙ sym (at-trigger ∙ rw (sym trigger ∙ none, ← lowest, sym walk ∙ not-false a y) refl)
+            module _ (none : m ≡ Passed) (l : ℕ) (lowest : l ≡ lowOf s) (a : Bool) (walk : a ≡ walks s ks p r l) where
+              pub of-none : not a ≡ true → (c : Chain) → c ≡ noAnchors Passed → Says c
+              unfolding triggeredAt unlessFailed
+              of-none y c e = none-good c e ∙ sym (at-trigger ∙ rw (sym trigger ∙ none, ← lowest, sym walk ∙ not-true a y) refl)
 
-            -- what the walk is given
-            pub of-ready : not a ≡ false → Used os (s .count) p × ((l < r) × (r - l ≤ 511))
-            unfolding walks
-            of-ready y =
-                let f = sym code ∙ z in
-                let w = sym walk ∙ not-false a y in
-                (rw at (point-used s ks os i f), (ltb-true _ _ (and-r (not (eqb r (s .genesis .0))) _ (and-r (bitOf 2 (marksAt ks p)) _ (and-r (eqb (statusAt ks p) 1) _ w))), rw lowest (walk-short f)))
+              pub of-chain : not a ≡ false → (c : Chain) → chainOut c ≡ chainedFrom s ks ls cs os p r l → Says c
+              unfolding triggeredAt unlessFailed
+              of-chain y c e = e ∙ sym (at-trigger ∙ rw (sym trigger ∙ none, ← lowest, sym walk ∙ not-false a y) refl)
+
+              -- what the walk is given
+              pub of-ready : not a ≡ false → Used os (s .count) p × ((l < r) × (r - l ≤ 511))
+              unfolding walks
+              of-ready y =
+                  let w = sym walk ∙ not-false a y in
+                  (rw (at .1) (point-used s ks os i (at .0)), (ltb-true _ _ (and-r (not (eqb r (s .genesis .0))) _ (and-r (bitOf 2 (marksAt ks p)) _ (and-r (eqb (statusAt ks p) 1) _ w))), rw lowest (walk-short (at .0))))

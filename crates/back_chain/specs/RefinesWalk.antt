@@ -19,7 +19,7 @@ use Rattle.tables_test.specs.View.{view}
 use Rattle.dag_round_points.specs.Model.{idWords}
 use Rattle.back_walk.specs.declared.EnqueuedAnchor.{EnqueuedAnchor}
 use Rattle.back_walk.specs.declared.Step.{Step}
-use Rattle.back_walk.specs.declared.Step.the-variants.{Pass, End, Bad, Found}
+use Rattle.back_walk.specs.declared.Step.the-variants.{Pass, End, Bad, Anchor}
 use Rattle.back_walk.specs.Words.{topId}
 use Rattle.back_walk.specs.Model.{stepAt}
 use Rattle.back_walk.specs.Refines.{enqueuedOf, Below, onward, top-fit, visit-is}
@@ -51,9 +51,9 @@ module _ (s : State) (ks ls cs os : List ℕ) (low : ℕ) where
     unfolding walked onward
     walked-bad r h c z = out-bad c r z ∙ rw (more, walked, step (Bad r) h) refl
 
-    pub walked-found : (f : EnqueuedAnchor) → p ≡ Found f → (z : PointId) (l : List chain.EnqueuedAnchor) → z ≡ topId ls (f .anchor) → l ≡ enqueuedOf f ∷ acc → walked j z l ≡ walked k i acc
+    pub walked-found : (f : EnqueuedAnchor) → p ≡ Anchor f → (z : PointId) (l : List chain.EnqueuedAnchor) → z ≡ topId ls (f .anchor) → l ≡ enqueuedOf f ∷ acc → walked j z l ≡ walked k i acc
     unfolding walked onward
-    walked-found f h z l a b = rw (more, walked, step (Found f) h, a, b) refl
+    walked-found f h z l a b = rw (more, walked, step (Anchor f) h, a, b) refl
 
   pub walked-start : (k : ℕ) (i : PointId) (l : List EnqueuedAnchor) → walked k i (chainOf l 0) ≡ walked k i []
   walked-start k i l = ap (walked k i) (chain-none l)
@@ -70,7 +70,7 @@ unfolding onward
 onward-same ls Pass f g i acc fl fi h = h i acc fi
 onward-same ls End f g i acc fl fi h = refl
 onward-same ls (Bad r) f g i acc fl fi h = refl
-onward-same ls (Found e) f g i acc fl fi h = h _ _ (top-fit ls (e .anchor) fl)
+onward-same ls (Anchor e) f g i acc fl fi h = h _ _ (top-fit ls (e .anchor) fl)
 
 module _ (s : State) (ks ls cs os : List ℕ) (fk : Fit ks) (fl : Fit ls) (c : countsAsStarted (view s ks ls cs os) ≡ true) (low : ℕ) (room : s .bottom .0 ≤ low) where
   -- the store

@@ -22,8 +22,8 @@ use back_walk::previous;
 use back_walk::top_proof;
 use back_walk::visit;
 use commit_state::state::State;
-use dag_round_points::point_code;
-use dag_round_points::point_place;
+use dag_round_points::Found;
+use dag_round_points::find_named;
 use models::cert::Cert;
 use models::dag_point::DagPoint;
 use models::dag_point::Resolved;
@@ -102,7 +102,7 @@ fn anchor_chain(
                     list,
                 };
             }
-            Step::Found(e) => {
+            Step::Anchor(e) => {
                 let q = e.anchor;
                 list[count] = e;
                 count += 1;
@@ -279,18 +279,18 @@ pub fn chain_of(
     if below_bottom(s, id) {
         return no_anchors(Check::Passed);
     }
-    let code = point_code(s, keys, order, id);
-    if code != 0 {
-        return no_anchors(Check::Failed(Refusal::Number(code)));
+    match find_named(s, keys, order, id) {
+        Found::Refused(why) => no_anchors(Check::Failed(why)),
+        Found::At(q) => {
+            let check = filter(keys, certs, q, round);
+            if let Check::Failed(r) = check {
+                return no_anchors(Check::Failed(r));
+            }
+            let low = lowest_walked(s);
+            if !has_walk(s, keys, q, round, low) {
+                return no_anchors(Check::Passed);
+            }
+            chain_from(s, keys, links, certs, order, q, round, low)
+        }
     }
-    let q = point_place(s, keys, order, id);
-    let check = filter(keys, certs, q, round);
-    if let Check::Failed(r) = check {
-        return no_anchors(Check::Failed(r));
-    }
-    let low = lowest_walked(s);
-    if !has_walk(s, keys, q, round, low) {
-        return no_anchors(Check::Passed);
-    }
-    chain_from(s, keys, links, certs, order, q, round, low)
 }

@@ -17,7 +17,7 @@ use Rattle.models.specs.declared.dag_point.DagPoint.the-variants.{Valid, TransI
 use Rattle.models.specs.declared.dag_point.Resolved.{Resolved}
 use Rattle.models.specs.declared.dag_point.Resolved.the-variants.{Case, Nothing}
 use Rattle.models.specs.declared.refusal.Check.{Check}
-use Rattle.models.specs.declared.refusal.Check.the-variants.{Passed, Failed}
+use Rattle.models.specs.declared.refusal.Check.the-variants.{Passed}
 use Rattle.back_committable.specs.Scan.{scanned}
 
 -- what a point of a history is refused with, by its case, its certificate word and its round

@@ -109,13 +109,13 @@ module _ (s : State) (ks ls cs os : List ℕ) (fk : Fit ks) (fl : Fit ls) (h : c
 
   -- a link that is live still was live, and leads to a place that stays
   links2 : Links b ks2 ls2 os2 (n - k)
-  links2 q j u (st, sm, far) t =
+  links2 q j u (st, sm, far, fine) t =
       let (w, l) = stayed q u in
       let hq = kept ks 8 q u in
       let hl = kept ls 328 q u in
       let r = hq 0 (omega arith) in
       let a = same-target ls ls2 q hl j sm in
-      let live : Live (s .bottom .0) ks q j = (omega (arith, hq 6 (omega arith)), sm, omega arith) in
+      let live : Live (s .bottom .0) ks q j = (omega (arith, hq 6 (omega arith)), sm, omega arith, omega (arith, hq 6 (omega arith))) in
       let (p, up, e, m) = had .facts .right q j w live (omega arith) in
       let u2 = used-kept ks os n b (had .facts .sorted) (had .count-ok) p .1 (up, omega (arith, m .falls)) in
       (p, u2, a ∙ e, same-names ls ls2 q hl ks ks2 j p hq (kept ks 8 p u2) sm m)

@@ -2,13 +2,12 @@
 use Prim.Native.Nat.{ℕ, zero, suc, _+_, _-_, _<_, _≤_, max}
 use mathlib.Core.Path.{_≡_, refl, sym, ap, subst, _∙_}
 use mathlib.Core.List.{List}
-use mathlib.Core.Bool.{Bool, true, false, _&&_}
+use mathlib.Core.Bool.{Bool, true, false}
 use mathlib.Core.Logic.{⊎-elim}
 use native.Mathlib.Omega.{arith}
-use lib.Dec.{leb}
 use lib.ListN.{length, getD}
-use borrow.Author.Tests.{not-true, leb-true, le-leb}
-use Rattle.laws.specs.Test.{byTest, clash, both, and-l, and-r, not-no, sameOr, leOr, same-test}
+use borrow.Author.Tests.{not-true, leb-true}
+use Rattle.laws.specs.Test.{byTest, clash, both, and-l, and-r, not-no, sameOr, leOr}
 use Rattle.spec.specs.Store as store
 use Rattle.spec.specs.Store.{Point, Store}
 use Rattle.spec.specs.Paths.{height}
@@ -19,7 +18,7 @@ use Rattle.spec.specs.Sweep.{needed-is}
 use Rattle.spec.specs.Order.{need-named}
 use Rattle.models.specs.Cert.{heightOf}
 use Rattle.models.specs.Digest.{Fit}
-use Rattle.models.specs.Tables.{roundAt, placeAt, Used}
+use Rattle.models.specs.Tables.{roundAt, statusAt, placeAt, Used}
 use Rattle.dag_round_keys.specs.Sorted.{rounds-rise}
 use Rattle.tables_heights.specs.View.{reach}
 use Rattle.tables_heights.specs.Refines.{Leads}
@@ -83,21 +82,25 @@ module _ (s : State) (ks ls cs os : List ℕ) (fk : Fit ks) (fl : Fit ls) (t : S
   low-round : (q : ℕ) → Used os n q → b ≤ roundAt ks q
   low-round = whole.low-of s ks ls cs os fk fl (t .shaped) (t .facts .ids)
 
+  -- and have statuses that 01 has
+  fine : (q : ℕ) → Used os n q → statusAt ks q ≤ 5
+  fine q u = t .facts .words q u .named .status
+
   -- a used place is a named one
   pub named-used : (q : ℕ) → v .pt q .named ≡ true → Used os n q
-  named-used = heightsAre.named-used b n ks ls cs os (t .facts .sorted) (t .facts .right) low-round fk fl v sized sees
+  named-used = heightsAre.named-used b n ks ls cs os (t .facts .sorted) (t .facts .right) low-round fine fk fl v sized sees
 
   -- its point is that of its words
   pub used-point : (q : ℕ) → Used os n q → v .pt q ≡ pointAt ks ls cs q
-  used-point = heightsAre.used-point b n ks ls cs os (t .facts .sorted) (t .facts .right) low-round fk fl v sized sees
+  used-point = heightsAre.used-point b n ks ls cs os (t .facts .sorted) (t .facts .right) low-round fine fk fl v sized sees
 
   -- it is named
   pub used-named : (q : ℕ) → Used os n q → v .pt q .named ≡ true
-  used-named = heightsAre.used-named b n ks ls cs os (t .facts .sorted) (t .facts .right) low-round fk fl v sized sees
+  used-named = heightsAre.used-named b n ks ls cs os (t .facts .sorted) (t .facts .right) low-round fine fk fl v sized sees
 
   -- its round
   pub used-round : (q : ℕ) → Used os n q → store.roundAt v q ≡ roundAt ks q
-  used-round = heightsAre.used-round b n ks ls cs os (t .facts .sorted) (t .facts .right) low-round fk fl v sized sees
+  used-round = heightsAre.used-round b n ks ls cs os (t .facts .sorted) (t .facts .right) low-round fine fk fl v sized sees
 
   -- its committed bit
   pub used-done : (q : ℕ) → Used os n q → v .pt q .flags .committed ≡ isDone cs q
@@ -107,7 +110,7 @@ module _ (s : State) (ks ls cs os : List ℕ) (fk : Fit ks) (fl : Fit ls) (t : S
   -- its stored height is the one by paths
   pub used-height : (q : ℕ) → Used os n q → heightOf (getD cs q 0) ≡ height v q
   unfolding view confOf heightOf
-  used-height q u = heightsAre.heightsAre-elim b n ks ls cs os (t .facts .sorted) (t .facts .right) low-round fk fl v sized sees (t .facts .heights) q u
+  used-height q u = heightsAre.heightsAre-elim b n ks ls cs os (t .facts .sorted) (t .facts .right) low-round fine fk fl v sized sees (t .facts .heights) q u
 
   -- a used place is one of 4,096
   used-small : (q : ℕ) → Used os n q → q < 4096
@@ -126,7 +129,7 @@ module _ (s : State) (ks ls cs os : List ℕ) (fk : Fit ks) (fl : Fit ls) (t : S
       byTest (isUncommitted cs m p)
       (λ y. ⊎-elim (h q)
       (λ (j, l, e). hand p q (h p (and-l _ _ y)) (used-done p u ∙ not-true _ (and-r (getD m p false) _ y))
-      (heightsAre.link-intro b n ks ls cs os (t .facts .sorted) (t .facts .right) low-round fk fl v sized sees p q (record { from = u; which = j; live = l; to = e })))
+      (heightsAre.link-intro b n ks ls cs os (t .facts .sorted) (t .facts .right) low-round fine fk fl v sized sees p q (record { from = u; which = j; live = l; to = e })))
       (marked-only ls m p (reach b ks p) q (rw y at o)))
       (λ f. h q (rw f at o))
 
@@ -243,7 +246,7 @@ module _ (s : State) (ks ls cs os : List ℕ) (fk : Fit ks) (fl : Fit ls) (t : S
     unfolding marks
     marks-complete q anchor l = swept-keeps b ks ls cs os (alone a) high (high - low) a (alone-on a (used-small a used))
     marks-complete q (hand p x k d e) l =
-        let edge : Leads b ks ls os n p x = heightsAre.link-elim b n ks ls cs os (t .facts .sorted) (t .facts .right) low-round fk fl v sized sees p x e in
+        let edge : Leads b ks ls os n p x = heightsAre.link-elim b n ks ls cs os (t .facts .sorted) (t .facts .right) low-round fine fk fl v sized sees p x e in
         let less = falls p x edge .1 in
         let o : On m p = marks-complete p k (omega arith) in
         go edge (edge .from) (sym (used-done p (edge .from)) ∙ d) o (need-used p k .1) (omega arith)
@@ -254,14 +257,6 @@ module _ (s : State) (ks ls cs os : List ℕ) (fk : Fit ks) (fl : Fit ls) (t : S
             (let y : low ≤ i = low-is i j (subst (λ z. lowestOf s (roundAt ks a) ≤ roundAt ks z) (sym f) up) in omega (arith, y, low-high))
             (high-is i j (subst (λ z. roundAt ks z ≤ roundAt ks a) (sym f) below))
             (subst (On m) (sym f) o) (subst (λ z. isDone cs z ≡ false) (sym f) c) (subst (λ z. Leads b ks ls os n z x) (sym f) edge)
-
-    -- the needed points are those that are marked, from the lowest round up
-    pub needed-marks : (q : ℕ) → needed v a q ≡ (getD m q false && leb (lowest v a) (store.roundAt v q))
-    needed-marks q =
-        same-test _ _
-        (λ h. let (k, l) = needed-is v sized a q low-enough .0 h in
-        both (marks-complete q k (subst (λ x. lowestOf s (roundAt ks a) ≤ x) (used-round q (need-used q k .0)) (subst (λ x. x ≤ store.roundAt v q) lowest-is l))) (le-leb _ _ l))
-        (λ h. needed-is v sized a q low-enough .1 (marks-sound q (and-l _ _ h), leb-true _ _ (and-r (getD m q false) _ h)))
 
     -- by position: the marked ones from low to high
     pub needed-elim : (q : ℕ) → needed v a q ≡ true → On m q × ((i : ℕ) × (low ≤ i) × (i < high) × (placeAt os i ≡ q))

@@ -1,5 +1,5 @@
 -- One round of the walk as the code makes it (01: back.rs, 'Chain').
-use Prim.Native.Nat.{ℕ, _-_, _*_, _+_, _%_, _<_, _≤_}
+use Prim.Native.Nat.{ℕ, _-_, _*_, _%_, _<_, _≤_}
 use mathlib.Core.Path.{_≡_, refl, sym, _∙_, ap, subst}
 use mathlib.Core.List.{List}
 use mathlib.Core.Bool.{Bool, true, false, not, cond}
@@ -27,10 +27,10 @@ use Rattle.commit_state.specs.declared.state.State.{State}
 use Rattle.dag_round_points.specs.Model.{Ready, idWords}
 use Rattle.dag_round_points.specs.Point.{positionFor}
 use Rattle.back_walk.specs.declared.EnqueuedAnchor.{EnqueuedAnchor}
-use Rattle.back_walk.specs.declared.Needed.{Needed}
-use Rattle.back_walk.specs.declared.Needed.the-variants.{At, Refused}
+use Rattle.dag_round_points.specs.declared.Found.{Found}
+use Rattle.dag_round_points.specs.declared.Found.the-variants.{At, Refused}
 use Rattle.back_walk.specs.declared.Step.{Step}
-use Rattle.back_walk.specs.declared.Step.the-variants.{Pass, End, Bad, Found}
+use Rattle.back_walk.specs.declared.Step.the-variants.{Pass, End, Bad, Anchor}
 use Rattle.back_walk.specs.Words.{idFrom, hasPrevious, previousId, topId, Placed, Topped}
 
 -- what keys, certificate words and order must be for the walk to read them
@@ -57,23 +57,23 @@ unfoldable pub judgeAt : List ℕ → List ℕ → ℕ → ℕ → Check
 judgeAt ks cs q r = judgeOf (caseOf (statusAt ks q)) (getD cs q 0) r
 
 -- the place q, unless it is refused
-unfoldable pub neededAt : ℕ → Check → Needed
+unfoldable pub neededAt : ℕ → Check → Found
 neededAt q Passed = At q
 neededAt q (Failed r) = Refused r
 
 -- the point with the id i, as the walk needs it
-unfoldable pub needed : State → List ℕ → List ℕ → List ℕ → PointId → Needed
+unfoldable pub needed : State → List ℕ → List ℕ → List ℕ → PointId → Found
 needed s ks cs os i =
     let at = positionFor ks os (s .count) (idWords i) in
     cond (ltb at (s .count)) (neededAt (placeAt os at) (judgeAt ks cs (placeAt os at) (i .round .0))) (Refused (Number 14))
 
 -- a needed point as a proof: marked as such, with a previous point
-unfoldable pub proofOf : List ℕ → List ℕ → Needed → Needed
+unfoldable pub proofOf : List ℕ → List ℕ → Found → Found
 proofOf ks ls (Refused r) = Refused r
 proofOf ks ls (At p) = cond (eqb (marksAt ks p % 2) 0) (Refused (Number 16)) (cond (hasPrevious ks ls p) (At p) (Refused (Number 16)))
 
 -- the proof with the id i
-unfoldable pub proofAt : State → List ℕ → List ℕ → List ℕ → List ℕ → PointId → Needed
+unfoldable pub proofAt : State → List ℕ → List ℕ → List ℕ → List ℕ → PointId → Found
 proofAt s ks ls cs os i = proofOf ks ls (needed s ks cs os i)
 
 -- the anchor at the place q of the proof at the place p
@@ -81,9 +81,9 @@ abbrev pub enqueued : List ℕ → ℕ → ℕ → EnqueuedAnchor
 enqueued ls p q = record { anchor = q; proof = p; «prev_proof_round» = record { 0 = proofRoundAt ls q } }
 
 -- a needed point as the anchor of the proof at the place p
-unfoldable pub anchorOf : List ℕ → ℕ → Needed → Step
+unfoldable pub anchorOf : List ℕ → ℕ → Found → Step
 anchorOf ls p (Refused r) = Bad r
-anchorOf ls p (At q) = Found (enqueued ls p q)
+anchorOf ls p (At q) = Anchor (enqueued ls p q)
 
 -- the anchor of the proof at the place p, in the round r
 unfoldable pub anchorAt : State → List ℕ → List ℕ → List ℕ → List ℕ → ℕ → ℕ → Step
@@ -98,7 +98,7 @@ unfoldable pub usedAt : ℕ → ℕ → Step
 usedAt a b = cond (eqb a b) End noProof
 
 -- a proof in the round x, where the walk ends at the round low
-unfoldable pub atProof : State → List ℕ → List ℕ → List ℕ → List ℕ → ℕ → ℕ → Needed → Step
+unfoldable pub atProof : State → List ℕ → List ℕ → List ℕ → List ℕ → ℕ → ℕ → Found → Step
 atProof s ks ls cs os low x (Refused r) = Bad r
 atProof s ks ls cs os low x (At p) = cond (leb x low) End (anchorAt s ks ls cs os p (x - 1))
 
@@ -135,7 +135,7 @@ module _ (s : State) (ks cs os : List ℕ) (i : PointId) (w : List ℕ) (words :
 -- ---- what is needed and isn't refused
 
 -- it stands in the order and is valid
-abbrev pub Standing : List ℕ → List ℕ → ℕ → Needed → Type 0
+abbrev pub Standing : List ℕ → List ℕ → ℕ → Found → Type 0
 Standing ks os n (At q) = Used os n q × (statusAt ks q ≡ 1)
 Standing ks os n (Refused r) = Unit {0}
 
@@ -159,7 +159,7 @@ module _ (ks os : List ℕ) (n : ℕ) where
   checked-stands q c r (Case NotFound) e u = invalid-stands q c r
 
   -- nor does a proof that is none
-  proof-stands : (ls : List ℕ) (f : Needed) → Standing ks os n f → Standing ks os n (proofOf ks ls f)
+  proof-stands : (ls : List ℕ) (f : Found) → Standing ks os n f → Standing ks os n (proofOf ks ls f)
   unfolding proofOf
   proof-stands ls (Refused r) h = tt
   proof-stands ls (At p) h = by (eqb (marksAt ks p % 2) 0) (hasPrevious ks ls p)
@@ -179,11 +179,11 @@ module _ (s : State) (ks cs os : List ℕ) (i : PointId) where
       (λ y. rw y tt)
 
   -- the place of a needed point
-  pub needed-at : (f : Needed) → f ≡ needed s ks cs os i → (q : ℕ) → f ≡ At q → Used os (s .count) q × (statusAt ks q ≡ 1)
+  pub needed-at : (f : Found) → f ≡ needed s ks cs os i → (q : ℕ) → f ≡ At q → Used os (s .count) q × (statusAt ks q ≡ 1)
   needed-at f is q e = subst (Standing ks os (s .count)) (sym is ∙ e) needed-stands
 
   -- and of a proof
-  pub proof-used : (ls : List ℕ) (f : Needed) → f ≡ proofAt s ks ls cs os i → (q : ℕ) → f ≡ At q → Used os (s .count) q
+  pub proof-used : (ls : List ℕ) (f : Found) → f ≡ proofAt s ks ls cs os i → (q : ℕ) → f ≡ At q → Used os (s .count) q
   unfolding proofAt
   proof-used ls f is q e = subst (Standing ks os (s .count)) (sym is ∙ e) (proof-stands ks os (s .count) ls _ needed-stands) .0
 
@@ -198,7 +198,7 @@ placed s ks ls cs os q (r, e) l u =
 pub topped : (s : State) (ks ls cs os : List ℕ) (q : ℕ) → Walkable s ks cs os → Linked s ks ls os → Used os (s .count) q × (statusAt ks q ≡ 1) → Topped ls q
 topped s ks ls cs os q w l (u, v) = let (a, b) = l .2 q u (omega arith) in (placed s ks ls cs os q w l u .1, a, b)
 
-module _ (s : State) (ks ls cs os : List ℕ) (i : PointId) (f : Needed) (is : f ≡ needed s ks cs os i) where
+module _ (s : State) (ks ls cs os : List ℕ) (i : PointId) (f : Found) (is : f ≡ needed s ks cs os i) where
   pub proof-no : (r : Refusal) → f ≡ Refused r → Refused r ≡ proofAt s ks ls cs os i
   unfolding proofAt proofOf
   proof-no r e = rw (sym is ∙ e) refl
@@ -217,12 +217,12 @@ module _ (s : State) (ks ls cs os : List ℕ) (i : PointId) (f : Needed) (is : f
       unfolding proofAt proofOf
       proof-is h = rw (sym is ∙ e, proofOf, ne-eqb (marksAt ks p % 2) 0 m, sym has ∙ not-false b h) refl
 
-module _ (s : State) (ks ls cs os : List ℕ) (p r : ℕ) (i : PointId) (id : i ≡ previousId ks ls p r) (f : Needed) (is : f ≡ needed s ks cs os i) where
+module _ (s : State) (ks ls cs os : List ℕ) (p r : ℕ) (i : PointId) (id : i ≡ previousId ks ls p r) (f : Found) (is : f ≡ needed s ks cs os i) where
   pub anchor-no : (w : Refusal) → f ≡ Refused w → Bad w ≡ anchorAt s ks ls cs os p r
   unfolding anchorAt anchorOf
   anchor-no w e = rw (← id, sym is ∙ e) refl
 
-  pub anchor-is : (q : ℕ) → f ≡ At q → (t : PointId) → t ≡ topId ls q → Found (record { anchor = q; proof = p; «prev_proof_round» = t .round }) ≡ anchorAt s ks ls cs os p r
+  pub anchor-is : (q : ℕ) → f ≡ At q → (t : PointId) → t ≡ topId ls q → Anchor (record { anchor = q; proof = p; «prev_proof_round» = t .round }) ≡ anchorAt s ks ls cs os p r
   unfolding anchorAt anchorOf topId idFrom
   anchor-is q e t g = rw (← id, sym is ∙ e, g) refl
 
@@ -249,7 +249,7 @@ module _ (s : State) (ks ls cs os : List ℕ) (low x : ℕ) (i : PointId) where
       unfolding stepAt markedStep
       step-used d r e = rw (le-ltb y x l, le-ltb x y k, ne-eqb u 0 d) e
 
-      module _ (z : u ≡ 0) (f : Needed) (is : f ≡ proofAt s ks ls cs os i) where
+      module _ (z : u ≡ 0) (f : Found) (is : f ≡ proofAt s ks ls cs os i) where
         pub step-bad : (r : Refusal) → f ≡ Refused r → Bad r ≡ stepAt s ks ls cs os low x i
         unfolding stepAt markedStep atProof
         step-bad r e = rw (le-ltb y x l, le-ltb x y k, eq-eqb u 0 z, sym is ∙ e) refl
@@ -279,7 +279,7 @@ abbrev pub Sound : List ℕ → List ℕ → ℕ → Step → Type 0
 Sound ks os n Pass = Unit {0}
 Sound ks os n End = Unit {0}
 Sound ks os n (Bad r) = Unit {0}
-Sound ks os n (Found e) = Used os n (e .anchor) × (statusAt ks (e .anchor) ≡ 1)
+Sound ks os n (Anchor e) = Used os n (e .anchor) × (statusAt ks (e .anchor) ≡ 1)
 
 module _ (s : State) (ks ls cs os : List ℕ) where
   -- by cases on a test
@@ -291,11 +291,11 @@ module _ (s : State) (ks ls cs os : List ℕ) where
   unfolding anchorAt anchorOf
   anchor-sound p r = by (needed s ks cs os (previousId ks ls p r)) (needed-stands s ks cs os (previousId ks ls p r))
     where
-      by : (f : Needed) → Standing ks os (s .count) f → Sound ks os (s .count) (anchorOf ls p f)
+      by : (f : Found) → Standing ks os (s .count) f → Sound ks os (s .count) (anchorOf ls p f)
       by (Refused w) h = tt
       by (At q) h = h
 
-  proof-sound : (low x : ℕ) (f : Needed) → Sound ks os (s .count) (atProof s ks ls cs os low x f)
+  proof-sound : (low x : ℕ) (f : Found) → Sound ks os (s .count) (atProof s ks ls cs os low x f)
   unfolding atProof
   proof-sound low x (Refused r) = tt
   proof-sound low x (At p) = sound-by (leb x low) End _ tt (anchor-sound p (x - 1))
@@ -308,5 +308,5 @@ module _ (s : State) (ks ls cs os : List ℕ) where
       (sound-by (eqb u 0) _ _ (proof-sound low x (proofAt s ks ls cs os i)) (sound-by (eqb (u - 1) (i .author)) End noProof tt tt)))
 
   -- an anchor that a step finds
-  pub found-used : (low x : ℕ) (i : PointId) (e : EnqueuedAnchor) (p : Step) → p ≡ stepAt s ks ls cs os low x i → p ≡ Found e → Used os (s .count) (e .anchor) × (statusAt ks (e .anchor) ≡ 1)
+  pub found-used : (low x : ℕ) (i : PointId) (e : EnqueuedAnchor) (p : Step) → p ≡ stepAt s ks ls cs os low x i → p ≡ Anchor e → Used os (s .count) (e .anchor) × (statusAt ks (e .anchor) ≡ 1)
   found-used low x i e p is h = subst (Sound ks os (s .count)) (sym is ∙ h) (step-sound low x i)

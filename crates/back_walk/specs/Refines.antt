@@ -9,7 +9,6 @@ use lib.Dec.{eqb, leb, ltb}
 use lib.ListN.{getD}
 use borrow.Author.Tests.{eq-eqb, ne-eqb, leb-true, ltb-true}
 use Rattle.laws.specs.Test.{byTest, sameOr, and-l, and-r, cond-yes, cond-no}
-use Rattle.laws.specs.Scan.{first-hit}
 use Rattle.spec.specs.Ids.{Id, Ref}
 use Rattle.spec.specs.Store as store
 use Rattle.spec.specs.Store.{Point, Store, resolved, find, under, previous}
@@ -29,8 +28,7 @@ use Rattle.models.specs.declared.refusal.Refusal.the-variants.{Number}
 use Rattle.models.specs.declared.refusal.Check.{Check}
 use Rattle.models.specs.declared.refusal.Check.the-variants.{Passed, Failed}
 use Rattle.tables_links.specs.Words.{proofRoundAt}
-use Rattle.dag_round_keys.specs.Key.{key, same-eq}
-use Rattle.dag_round_keys.specs.Sorted as sorted
+use Rattle.dag_round_keys.specs.Id as id
 use Rattle.tables_ids.specs.Ids.{idHolds}
 use Rattle.commit_state.specs.View.{optionOf, pointAt, resolutionAt, givenAt, refsFrom, recordOf, roundOf}
 use Rattle.commit_state.specs.Numbers.{roundsHold}
@@ -43,18 +41,18 @@ use Rattle.tables_test.specs.Whole.{sized}
 use Rattle.tables_test.specs.Refines.{Started, counted}
 use Rattle.dag_round_points.specs.Model.{idWords}
 use Rattle.dag_round_points.specs.Tests.{ready}
-use Rattle.dag_round_points.specs.Point.{positionFor}
+use Rattle.dag_round_points.specs.Point.{positionFor, found-round}
 use Rattle.dag_round_points.specs.RefinesPoint.{find-is, words-id}
 use Rattle.back_walk.specs.declared.EnqueuedAnchor.{EnqueuedAnchor}
-use Rattle.back_walk.specs.declared.Needed.{Needed}
-use Rattle.back_walk.specs.declared.Needed.the-variants.{At, Refused}
+use Rattle.dag_round_points.specs.declared.Found.{Found}
+use Rattle.dag_round_points.specs.declared.Found.the-variants.{At, Refused}
 use Rattle.back_walk.specs.declared.Step.{Step}
-use Rattle.back_walk.specs.declared.Step.the-variants.{Pass, End, Bad, Found}
+use Rattle.back_walk.specs.declared.Step.the-variants.{Pass, End, Bad, Anchor}
 use Rattle.back_walk.specs.Words.{idFrom, hasPrevious, previousId, topId}
 use Rattle.back_walk.specs.Model.{Walkable, Linked, judgeOf, judgeAt, neededAt, needed, needed-at, proofOf, proofAt, anchorOf, anchorAt, usedAt, atProof, markedStep, stepAt}
 
 -- the place of a needed point, or what it is refused with
-unfoldable pub placeOr : Needed → Out ℕ
+unfoldable pub placeOr : Found → Out ℕ
 placeOr (At q) = good q
 placeOr (Refused r) = bad (refusalOf r)
 
@@ -71,7 +69,7 @@ unfoldable pub onward : List ℕ → Step → Below → Below
 onward ls Pass f i acc = f i acc
 onward ls End f i acc = good acc
 onward ls (Bad r) f i acc = bad (refusalOf r)
-onward ls (Found e) f i acc = f (topId ls (e .anchor)) (enqueuedOf e ∷ acc)
+onward ls (Anchor e) f i acc = f (topId ls (e .anchor)) (enqueuedOf e ∷ acc)
 
 -- ---- ids
 
@@ -89,26 +87,14 @@ from-id t p r a = rw (none p, two p, three p) refl
     three : (p : ℕ) → p + 2 + 1 ≡ p + 3
     three p = omega arith
 
--- its words fit
-from-fit : (t : List ℕ) (p r a : ℕ) → Fit t → r < 2 ^ 64 → a < 2 ^ 64 → Fit (idWords (idFrom t p r a))
-unfolding idWords idFrom
-from-fit t p r a f l m zero = l
-from-fit t p r a f l m (suc zero) = m
-from-fit t p r a f l m (suc (suc zero)) = f (p + 0)
-from-fit t p r a f l m (suc (suc (suc zero))) = f (p + 1)
-from-fit t p r a f l m (suc (suc (suc (suc zero)))) = f (p + 2)
-from-fit t p r a f l m (suc (suc (suc (suc (suc zero))))) = f (p + 3)
-from-fit t p r a f l m (suc (suc (suc (suc (suc (suc zero)))))) = omega arith
-from-fit t p r a f l m (suc (suc (suc (suc (suc (suc (suc zero))))))) = omega arith
-from-fit t p r a f l m (suc (suc (suc (suc (suc (suc (suc (suc i)))))))) = omega arith
-
+-- their words fit
 pub previous-fit : (ks ls : List ℕ) (q r : ℕ) → Fit ks → Fit ls → r < 2 ^ 64 → Fit (idWords (previousId ks ls q r))
-unfolding previousId
-previous-fit ks ls q r fk fl l = from-fit ls (q * 328 + 72 + authorAt ks q * 4) r (authorAt ks q) fl l (fk (q * 8 + 1))
+unfolding previousId idWords idFrom id.idFrom
+previous-fit ks ls q r fk fl l = id.from-fit ls (q * 328 + 72 + authorAt ks q * 4) r (authorAt ks q) fl l (fk (q * 8 + 1))
 
 pub top-fit : (ls : List ℕ) (q : ℕ) → Fit ls → Fit (idWords (topId ls q))
-unfolding topId
-top-fit ls q f = from-fit ls (q * 328 + 3) _ _ f (f (q * 328 + 1)) (f (q * 328 + 2))
+unfolding topId idWords idFrom id.idFrom
+top-fit ls q f = id.from-fit ls (q * 328 + 3) _ _ f (f (q * 328 + 1)) (f (q * 328 + 2))
 
 -- ---- the include under an author
 
@@ -170,11 +156,6 @@ mark-is m = by (m / 1 % 2) (m % 2) (omega arith) (omega arith)
     by x zero e l = rw e refl
     by x (suc zero) e l = rw e refl
     by x (suc (suc y)) e l = absurd (omega arith)
-
--- a found point is of the id's round
-pub found-round : (ks os : List ℕ) (n : ℕ) (w : List ℕ) → positionFor ks os n w < n → roundAt ks (placeAt os (positionFor ks os n w)) ≡ getD w 0 0
-unfolding sorted.pointAt key
-found-round ks os n w l = ap (λ (k : List ℕ). getD k 0 0) (same-eq _ _ (and-l _ _ (first-hit _ n l)))
 
 module _ (s : State) (ks ls cs os : List ℕ) (fk : Fit ks) (fl : Fit ls) (h : countsAsStarted (view s ks ls cs os) ≡ true) where
   -- the store
@@ -314,7 +295,7 @@ module _ (s : State) (ks ls cs os : List ℕ) (fk : Fit ks) (fl : Fit ls) (h : c
           next : (a : ℕ) → Used os n a → statusAt ks a ≡ 1 → enqueue v below acc p a ≡ on (topId ls a) (record { anchor = a; proof = p; prevProofRound = proofRoundAt ls a } ∷ acc)
           next a k e = ap (λ (j : Id). below j (record { anchor = a; proof = p; prevProofRound = j .round } ∷ acc)) (top-id a k (omega arith))
 
-          by : (f : Needed) → f ≡ needed s ks cs os to → then (placeOr f) (enqueue v below acc p) ≡ onward ls (anchorOf ls p f) on i acc
+          by : (f : Found) → f ≡ needed s ks cs os to → then (placeOr f) (enqueue v below acc p) ≡ onward ls (anchorOf ls p f) on i acc
           by (Refused r) e = refl
           by (At a) e = let (k, o) = needed-at s ks cs os to _ refl a (sym e) in next a k o
 
@@ -341,7 +322,7 @@ module _ (s : State) (ks ls cs os : List ℕ) (fk : Fit ks) (fl : Fit ls) (h : c
     unfolding placeOr atProof proofAt proofOf onward
     sought-is = ap (λ (o : Out ℕ). then o (chain.atProof v x (leb x low) below acc)) (need-is i fi) ∙ by (needed s ks cs os i) refl
       where
-        by : (f : Needed) → f ≡ needed s ks cs os i → then (placeOr f) (chain.atProof v x (leb x low) below acc) ≡ onward ls (atProof s ks ls cs os low x (proofOf ks ls f)) on i acc
+        by : (f : Found) → f ≡ needed s ks cs os i → then (placeOr f) (chain.atProof v x (leb x low) below acc) ≡ onward ls (atProof s ks ls cs os low x (proofOf ks ls f)) on i acc
         by (Refused r) e = refl
         by (At p) e = let (u, o) = needed-at s ks cs os i _ refl p (sym e) in proof-is p u o
 

@@ -7,6 +7,7 @@ ghost use Rattle.models.specs.Tables.{Used};
 ghost use Rattle.back_walk.specs.Words.{idFrom, hasPrevious, previousId, topId, Placed, Topped};
 ghost use Rattle.back_walk.specs.Model.{judgeAt, needed, proofAt, anchorAt, usedAt, stepAt, Walkable, Linked};
 use commit_state::state::State;
+use dag_round_points::Found;
 use models::cert::Cert;
 use models::dag_point::DagPoint;
 use models::dag_point::Resolved;
@@ -26,18 +27,12 @@ pub struct EnqueuedAnchor {
     pub prev_proof_round: Round,
 }
 
-// A point that the walk needs: its place, or what it is refused with.
-pub enum Needed {
-    At(usize),
-    Refused(Refusal),
-}
-
 // A round of the walk is passed, ends it, refuses it, or has an anchor's proof.
 pub enum Step {
     Pass,
     End,
     Bad(Refusal),
-    Found(EnqueuedAnchor),
+    Anchor(EnqueuedAnchor),
 }
 
 // The id with this round and author and the digest in the four words from `at` on.
@@ -105,7 +100,7 @@ fn judge(keys: &[u64], certs: &[u64], q: usize, round: Round) -> Check
 }
 
 // The point with this id, as the walk needs it (`ready_valid_point`).
-fn ready_valid_point(s: State, keys: &[u64], certs: &[u64], order: &[u64], id: PointId) -> Needed
+fn ready_valid_point(s: State, keys: &[u64], certs: &[u64], order: &[u64], id: PointId) -> Found
     requires { ⌜ Walkable s (now keys) (now certs) (now order) ⌝ }
     ensures { λ r. ⌜ r ≡ needed s (now (keys .entry)) (now (certs .entry)) (now (order .entry)) id ⌝ }
 {
@@ -113,14 +108,14 @@ fn ready_valid_point(s: State, keys: &[u64], certs: &[u64], order: &[u64], id: P
     let words = dag_round_points::id_words(id);
     let at = dag_round_keys::find_point(keys, order, n, &words);
     if n <= at {
-        return Needed::Refused(Refusal::Number(POINT_MISSING));
+        return Found::Refused(Refusal::Number(POINT_MISSING));
     }
     let q = dag_round_keys::place(order, n, at);
     let round = id.round;
     let check = judge(keys, certs, q, round);
     match check {
-        Check::Passed => Needed::At(q),
-        Check::Failed(r) => Needed::Refused(r),
+        Check::Passed => Found::At(q),
+        Check::Failed(r) => Found::Refused(r),
     }
 }
 
@@ -132,22 +127,22 @@ fn chained_proof(
     certs: &[u64],
     order: &[u64],
     id: PointId,
-) -> Needed
+) -> Found
     requires { ⌜ Walkable s (now keys) (now certs) (now order) ⌝ }
     requires { ⌜ Linked s (now keys) (now links) (now order) ⌝ }
     ensures { λ r. ⌜ r ≡ proofAt s (now (keys .entry)) (now (links .entry)) (now (certs .entry)) (now (order .entry)) id ⌝ }
 {
     let found = ready_valid_point(s, keys, certs, order, id);
     match found {
-        Needed::Refused(r) => Needed::Refused(r),
-        Needed::At(p) => {
+        Found::Refused(r) => Found::Refused(r),
+        Found::At(p) => {
             if keys[p * 8 + 7] % 2 == 0 {
-                return Needed::Refused(Refusal::Number(BROKEN_CHAIN));
+                return Found::Refused(Refusal::Number(BROKEN_CHAIN));
             }
             if !has_previous(keys, links, p) {
-                return Needed::Refused(Refusal::Number(BROKEN_CHAIN));
+                return Found::Refused(Refusal::Number(BROKEN_CHAIN));
             }
-            Needed::At(p)
+            Found::At(p)
         }
     }
 }
@@ -170,11 +165,11 @@ fn anchor_at(
     let id = previous(keys, links, p, round);
     let found = ready_valid_point(s, keys, certs, order, id);
     match found {
-        Needed::Refused(r) => Step::Bad(r),
-        Needed::At(q) => {
+        Found::Refused(r) => Step::Bad(r),
+        Found::At(q) => {
             let top = top_proof(links, q);
             let prev_proof_round = top.round;
-            Step::Found(EnqueuedAnchor {
+            Step::Anchor(EnqueuedAnchor {
                 anchor: q,
                 proof: p,
                 prev_proof_round,
@@ -222,8 +217,8 @@ pub fn visit(
     }
     let found = chained_proof(s, keys, links, certs, order, id);
     match found {
-        Needed::Refused(r) => Step::Bad(r),
-        Needed::At(p) => {
+        Found::Refused(r) => Step::Bad(r),
+        Found::At(p) => {
             if x.0 <= low.0 {
                 return Step::End;
             }

@@ -14,7 +14,7 @@ use Rattle.tables_heights.specs.View.{reach, heightAt, topAt}
 use Rattle.tables_heights.specs.Refines.{Leads, Top, Heights}
 use Rattle.cert_certify.specs.Model.{Work, passed, visited, propagated, start, traversed, visited-next, visited-stays}
 use Rattle.cert_certify.specs.Queue.{Queued, Grows, queuedOr, grows-queued, start-queued}
-use Rattle.cert_certify.specs.Sane.{Rooted, Sane, used, down, handed-gets, visited-sane, visited-grows, visited-most}
+use Rattle.cert_certify.specs.Sane.{Rooted, Sane, down, handed-gets, visited-sane, visited-grows, visited-most}
 
 -- every top has at least the height H + 1
 abbrev pub Tops : ℕ → List ℕ → List ℕ → ℕ → Type 0
@@ -66,10 +66,6 @@ module _ (b : ℕ) (ks ls cs os : List ℕ) (n q : ℕ) (r : Rooted b ks ls cs o
   -- the flags stay
   pub traversed-flags : (p : ℕ) → getD cs2 p 0 / 4096 ≡ getD cs p 0 / 4096
   traversed-flags p = rw is (done .flags p)
-
-  -- a place that is not used keeps its word
-  pub traversed-free : (p : ℕ) → (Used os n p → ⊥) → getD cs2 p 0 ≡ getD cs p 0
-  traversed-free p f = rw is (done .old p (λ u. f (used b ks ls cs os n q r end done p u)))
 
   -- a word of 16 bits stays one
   pub traversed-small : (p : ℕ) → getD cs p 0 < 65536 → getD cs2 p 0 < 65536

@@ -183,7 +183,7 @@ module _ (s : State) (ks ls cs os : List ℕ) (fk : Fit ks) (fl : Fit ls) (h : c
     pub certified-view : view s ks ls (certifiedCerts s ks ls cs q) os ≡ certifyAt (view s ks ls cs os) q
     unfolding certifiedCerts certifyAt
     certified-view =
-        settled-from s ks ls ds os q shape-after regular-after small u fk fl (low-of s ks ls cs os fk fl (t .shaped) (t .facts .ids)) tops met but ks ls cs (t .shaped) (t .regulated)
+        settled-from s ks ls ds os q shape-after regular-after small u fk fl (low-of s ks ls cs os fk fl (t .shaped) (t .facts .ids)) (λ p x. t .facts .words p x .named .status) tops met but ks ls cs (t .shaped) (t .regulated)
         (λ p. setTop (eqb p q) (view s ks ls cs os .pt p)) points (view s ks ls cs os .heights)
 
   -- the call 'certify': refused with a number, or the store after it

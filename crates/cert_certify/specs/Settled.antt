@@ -18,7 +18,7 @@ use Rattle.spec.specs.HeightEquations.{Sized, height-is}
 use Rattle.spec.specs.Calls.{withPathHeights}
 use Rattle.models.specs.Cert.{heightOf}
 use Rattle.models.specs.Digest.{Fit}
-use Rattle.models.specs.Tables.{roundAt, marksAt, Used, isUsed, used-is}
+use Rattle.models.specs.Tables.{roundAt, statusAt, marksAt, Used, isUsed, used-is}
 use Rattle.tables_links.specs.Named.{links-fall}
 use Rattle.commit_state.specs.View.{pointAt, resolutionAt, roundsOf, confOf, progressOf, memoryOf}
 use Rattle.commit_state.specs.declared.state.State.{State}
@@ -105,7 +105,7 @@ module _ (s : State) (ks ls cs os : List ℕ) (q : ℕ) (sh : shape ks ls cs os 
   pub placed : (length ks ≡ length cs * 8) × (length ls ≡ length cs * 328) × Placed (s .bottom .0) ks ls cs q
   placed = let (a, b, c) = shape-says ks ls cs os sh in (omega (arith, a, c), omega (arith, b, c), (os, s .count, rooted))
 
-  module _ (fk : Fit ks) (fl : Fit ls) (low : (p : ℕ) → Used os (s .count) p → s .bottom .0 ≤ roundAt ks p)
+  module _ (fk : Fit ks) (fl : Fit ls) (low : (p : ℕ) → Used os (s .count) p → s .bottom .0 ≤ roundAt ks p) (fine : (p : ℕ) → Used os (s .count) p → statusAt ks p ≤ 5)
       (tops : Tops (s .«commit_history_rounds») cs os (s .count)) (met : Met (s .bottom .0) (s .«commit_history_rounds») ks ls cs os (s .count)) (but : OnBut q (s .bottom .0) ks ls cs os (s .count)) where
     -- the number of used places
     abbrev n : ℕ
@@ -151,7 +151,7 @@ module _ (s : State) (ks ls cs os : List ℕ) (q : ℕ) (sh : shape ks ls cs os 
     height-after p =
         let z = sized s ks ls cs os fk fl sh (r .inside) in
         byTest (isUsed os n p)
-        (λ t. rw t (heightsAre-elim (s .bottom .0) n ks ls ds os (r .sorted) (r .right) low fk fl v z (λ x. sym (point-same x)) (traversed-heights (s .bottom .0) ks ls cs os n q rooted (s .«commit_history_rounds») tops met but) p (used-is os n p .0 t)))
+        (λ t. rw t (heightsAre-elim (s .bottom .0) n ks ls ds os (r .sorted) (r .right) low fine fk fl v z (λ x. sym (point-same x)) (traversed-heights (s .bottom .0) ks ls cs os n q rooted (s .«commit_history_rounds») tops met but) p (used-is os n p .0 t)))
         (λ f. rw f (sym (free-height v z p (rw f refl))))
 
     -- the view after the height of q is handed on

@@ -39,11 +39,11 @@ pub record Tables : Type 0 where
 abbrev pub tables : State → List ℕ → List ℕ → List ℕ → List ℕ → Tables
 tables s ks ls cs os = record { state = s; keys = ks; links = ls; certs = cs; order = os }
 
--- the board as 01's store
+-- the tables as 01's store
 abbrev pub viewOf : Tables → Store
 viewOf b = view (b .state) (b .keys) (b .links) (b .certs) (b .order)
 
--- what a call leaves: its answer, the board, and the lent buffer ([] for a call that takes none)
+-- what a call leaves: its answer, the tables, and the lent buffer ([] for a call that takes none)
 pub record Left : Type 0 where
   pub answer : Answer
   pub tables : Tables
@@ -68,7 +68,7 @@ nothingDone (Flag b) = false
 nothingDone (Anchors n) = eqb n 0
 nothingDone (Refused r n) = eqb n 0
 
--- What a call has done. c: 01's call; m: its model, what it leaves of a board; d: the board before it; x: what it left.
+-- What a call has done. c: 01's call; m: its model, what it leaves of the tables; d: the tables before it; x: what it left.
 -- answer: 01's answer, store and buffer. words: to the word and the byte. kept: if nothing was done, all is as it was.
 pub record Did (c : calls.Call) (m : Tables → Left) (d : Tables) (x : Left) : Type 0 where
   pub answer : outcomeOf x ≡ call (viewOf d) c
@@ -157,7 +157,7 @@ module _ (c : calls.Call) (m : Tables → Left) (d : Tables) (t : Check) (y : Le
   did-unless : outcomeOf (unlessRefused t d y) ≡ call (viewOf d) c → (x : Left) → x ≡ m d → Did c m d x
   did-unless h x e = did c m d (ap outcomeOf is ∙ h) (subst (λ (z : Left). nothingDone (z .answer) ≡ true → (z .tables ≡ d) × (z .buffer ≡ bufferOf c)) (sym is) (idle-kept t)) x e
 
--- one that is done, and leaves the board e: 01's store u
+-- one that is done, and leaves the tables e: 01's store u
 module _ (c : calls.Call) (m : Tables → Left) (d e : Tables) (t : Check) (is : m d ≡ unlessRefused t d (doneWith e)) (le : bufferOf c ≡ []) (u : Store) (h : call (viewOf d) c ≡ finish (viewOf d) (unlessFailed t (good u))) (s : t ≡ Passed → viewOf e ≡ u) where
   done-is : (w : Check) → (w ≡ Passed → viewOf e ≡ u) → outcomeOf (unlessRefused w d (doneWith e)) ≡ finish (viewOf d) (unlessFailed w (good u))
   unfolding outcomeOf answerOf unlessRefused finish unlessFailed

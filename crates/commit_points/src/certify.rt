@@ -10,8 +10,8 @@ use commit_answer::answer::Answer;
 use commit_answer::answer::Outcome;
 use commit_answer::answer::refused;
 use commit_state::state::State;
-use dag_round_points::point_code;
-use dag_round_points::point_place;
+use dag_round_points::Found;
+use dag_round_points::find_named;
 use models::parts::PointId;
 use models::refusal::Refusal;
 use models::refusal::WRONG_PHASE;
@@ -32,14 +32,14 @@ pub fn certify(
     if !counts_as_started(s, keys, links, certs, order) {
         return refused(s, Refusal::Number(WRONG_PHASE));
     }
-    let code = point_code(s, keys, order, id);
-    if code != 0 {
-        return refused(s, Refusal::Number(code));
-    }
-    let q = point_place(s, keys, order, id);
-    certify_at(s, keys, links, certs, q);
-    Outcome {
-        answer: Answer::Done,
-        state: s,
+    match find_named(s, keys, order, id) {
+        Found::Refused(why) => refused(s, why),
+        Found::At(q) => {
+            certify_at(s, keys, links, certs, q);
+            Outcome {
+                answer: Answer::Done,
+                state: s,
+            }
+        }
     }
 }

@@ -9,10 +9,10 @@ use commit_answer::answer::Answer;
 use commit_answer::answer::Outcome;
 use commit_answer::answer::refused;
 use commit_state::state::State;
+use dag_round_points::Found;
 use dag_round_points::check_name;
 use dag_round_points::name_point;
 use models::parts::PointId;
-use models::refusal::Check;
 use models::refusal::Refusal;
 use models::refusal::WRONG_PHASE;
 use tables_test::counts_as_started;
@@ -32,13 +32,14 @@ pub fn add_dependency(
     if !counts_as_started(s, keys, links, certs, order) {
         return refused(s, Refusal::Number(WRONG_PHASE));
     }
-    let check = check_name(s, keys, order, id);
-    if let Check::Failed(why) = check {
-        return refused(s, why);
-    }
-    let next = name_point(s, keys, certs, order, id);
-    Outcome {
-        answer: Answer::Done,
-        state: next,
+    match check_name(s, keys, order, id) {
+        Found::Refused(why) => refused(s, why),
+        Found::At(q) => {
+            let next = name_point(s, keys, certs, order, id, q);
+            Outcome {
+                answer: Answer::Done,
+                state: next,
+            }
+        }
     }
 }

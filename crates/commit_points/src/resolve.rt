@@ -10,8 +10,8 @@ use commit_answer::answer::Answer;
 use commit_answer::answer::Outcome;
 use commit_answer::answer::refused;
 use commit_state::state::State;
-use dag_round_points::point_code;
-use dag_round_points::point_place;
+use dag_round_points::Found;
+use dag_round_points::find_named;
 use info_resolve::check_resolution;
 use info_resolve::resolve_at;
 use models::info::PointInfo;
@@ -39,18 +39,18 @@ pub fn resolve(
     if !counts_as_started(s, keys, links, certs, order) {
         return refused(s, Refusal::Number(WRONG_PHASE));
     }
-    let code = point_code(s, keys, order, id);
-    if code != 0 {
-        return refused(s, Refusal::Number(code));
-    }
-    let q = point_place(s, keys, order, id);
-    let check = check_resolution(s, keys, order, q, info, refs);
-    if let Check::Failed(why) = check {
-        return refused(s, why);
-    }
-    resolve_at(s, keys, links, certs, order, q, info, refs);
-    Outcome {
-        answer: Answer::Done,
-        state: s,
+    match find_named(s, keys, order, id) {
+        Found::Refused(why) => refused(s, why),
+        Found::At(q) => {
+            let check = check_resolution(s, keys, order, q, id.round, info, refs);
+            if let Check::Failed(why) = check {
+                return refused(s, why);
+            }
+            resolve_at(s, keys, links, certs, order, q, id.round, info, refs);
+            Outcome {
+                answer: Answer::Done,
+                state: s,
+            }
+        }
     }
 }

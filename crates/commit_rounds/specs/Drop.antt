@@ -31,15 +31,15 @@ use Rattle.commit_answer.specs.Answer.{Tables, tables, viewOf, Left, left-same,
 abbrev pub gone : ℕ → Tables → ℕ
 gone r d = below (d .keys) (d .order) (d .state .count) (dropBottom (d .state) r)
 
--- the board after it, if it isn't refused
-abbrev pub droppedBoard : ℕ → Tables → Tables
-droppedBoard r d =
+-- the tables after it, if it isn't refused
+abbrev pub droppedTables : ℕ → Tables → Tables
+droppedTables r d =
     let k = gone r d in
     tables (droppedState (d .state) (min r (d .state .top .0)) (dropBottom (d .state) r) (d .state .count - k)) (emptied (d .keys) 8 (d .order) k) (emptied (d .links) 328 (d .order) k) (emptied (d .certs) 1 (d .order) k) (drained (d .order) (d .state .count) k)
 
 -- yes if all of the range is dropped
 abbrev pub droppedLeft : ℕ → Tables → Left
-droppedLeft r d = record { answer = Flag (eqb (min r (d .state .top .0)) r); tables = droppedBoard r d; buffer = [] }
+droppedLeft r d = record { answer = Flag (eqb (min r (d .state .top .0)) r); tables = droppedTables r d; buffer = [] }
 
 -- what the call leaves
 abbrev pub dropLeft : ℕ → Tables → Left
@@ -82,7 +82,7 @@ given s ks ls cs os fk fl c e h =
       deduplicate = leb-true _ _ (and-r (leb (s .«commit_history_rounds») 255) _ u);
     }
 
--- the code's numbers are those of the board
+-- the code's numbers are those of the tables
 module _ (r : ℕ) (d : Tables) (actual lowest k : ℕ) (a : actual ≡ min r (d .state .top .0)) (l : lowest ≡ max (d .state .bottom .0) actual) (g : k ≡ below (d .keys) (d .order) (d .state .count) lowest) where
   bottom-is : lowest ≡ dropBottom (d .state) r
   bottom-is = l ∙ ap (max (d .state .bottom .0)) a

@@ -17,7 +17,6 @@ use Rattle.commit_state.specs.View.{gapOf, progressOf, confOf}
 use Rattle.commit_state.specs.Back.{askedState}
 use Rattle.tables_test.specs.View.{view, regular}
 use Rattle.models.specs.declared.refusal.Check.the-variants.{Passed}
-use Rattle.commit_answer.specs.declared.answer.Answer.{Answer}
 use Rattle.commit_answer.specs.declared.answer.Answer.the-variants.{Flag}
 use Rattle.commit_answer.specs.Answer.{Tables, tables, viewOf, Left, outcomeOf, answerOf, nothingDone, Did, unlessRefused, tested, did-started}
 
@@ -26,7 +25,7 @@ unfoldable pub putBy : Bool → State → State
 putBy true s = askedState s
 putBy false s = s
 
--- the answer and the board, by whether it is waited for
+-- the answer and the tables, by whether it is waited for
 abbrev pub putLeft : Bool → Tables → Left
 putLeft b d = record { answer = Flag b; tables = tables (putBy b (d .state)) (d .keys) (d .links) (d .certs) (d .order); buffer = [] }
 

@@ -53,32 +53,32 @@ pub fn is_once_after_gap(
 }
 
 // Whether a round is refused, with the rounds from bottom to top retained.
-fn check_round(bottom: u32, top: u32, round: u32) -> Check
-    requires { ⌜ (bottom ≤ top) × (top ≤ 4000000000) ⌝ }
-    ensures { λ r. ⌜ r ≡ roundCheck bottom top round ⌝ }
+fn check_round(bottom: Round, top: Round, round: Round) -> Check
+    requires { ⌜ (bottom .0 ≤ top .0) × (top .0 ≤ 4000000000) ⌝ }
+    ensures { λ r. ⌜ r ≡ roundCheck (bottom .0) (top .0) (round .0) ⌝ }
 {
-    if top + 1 < round {
+    if top.0 + 1 < round.0 {
         return Check::Failed(Refusal::Number(ROUND_AHEAD));
     }
-    if 4000000000 < round {
+    if 4000000000 < round.0 {
         return Check::Failed(Refusal::Number(ROUND_AHEAD));
     }
-    if round <= top {
+    if round.0 <= top.0 {
         return Check::Passed;
     }
-    if 512 <= top + 1 - bottom {
+    if 512 <= top.0 + 1 - bottom.0 {
         return Check::Failed(Refusal::Number(FULL));
     }
     Check::Passed
 }
 
 // The state with the round, which is at most one above the top.
-fn with_round(s: State, round: u32, peers: u32) -> State
-    requires { ⌜ (s .top .0 ≤ 4000000000) × (round ≤ 4000000000) ⌝ }
-    ensures { λ r. ⌜ r ≡ withRound s round peers ⌝ }
+fn with_round(s: State, round: Round, peers: u32) -> State
+    requires { ⌜ (s .top .0 ≤ 4000000000) × (round .0 ≤ 4000000000) ⌝ }
+    ensures { λ r. ⌜ r ≡ withRound s (round .0) peers ⌝ }
 {
     let top = s.top;
-    if round <= top.0 {
+    if round.0 <= top.0 {
         return s;
     }
     extend_state(s, peers)
@@ -102,11 +102,11 @@ pub fn extend_from_ahead(
     }
     let bottom = s.bottom;
     let top = s.top;
-    let check = check_round(bottom.0, top.0, round.0);
+    let check = check_round(bottom, top, round);
     if let Check::Failed(why) = check {
         return refused(s, why);
     }
-    let next = with_round(s, round.0, peers);
+    let next = with_round(s, round, peers);
     Outcome {
         answer: Answer::Done,
         state: next,

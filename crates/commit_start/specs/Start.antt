@@ -189,13 +189,13 @@ module _ (s : State) (ks ls cs os : List ℕ) (sh : shape ks ls cs os ≡ true) 
 
 -- ---- start
 
--- the board after it, if it isn't refused
-abbrev pub begunBoard : StartArgs → Tables → Tables
-begunBoard b d = tables (begunState (keptMemory (d .state)) b) (blank (d .keys)) (blank (d .links)) (blank (d .certs)) (blank (d .order))
+-- the tables after it, if it isn't refused
+abbrev pub startedTables : StartArgs → Tables → Tables
+startedTables b d = tables (begunState (keptMemory (d .state)) b) (blank (d .keys)) (blank (d .links)) (blank (d .certs)) (blank (d .order))
 
 -- what it leaves
 abbrev pub startLeft : StartArgs → Tables → Left
-startLeft b d = unlessRefused (startCheck (viewOf d) b) d (doneWith (begunBoard b d))
+startLeft b d = unlessRefused (startCheck (viewOf d) b) d (doneWith (startedTables b d))
 
 module _ (s : State) (ks ls cs os : List ℕ) (b : StartArgs) where
   abbrev w : Store
@@ -255,18 +255,18 @@ module _ (s : State) (ks ls cs os : List ℕ) (b : StartArgs) where
 pub start-did : (b : StartArgs) (d : Tables) (x : Left) → x ≡ startLeft b d → Did (start (startArgsOf b)) (startLeft b) d x
 unfolding bufferOf
 start-did b d =
-    did-done (start (startArgsOf b)) (startLeft b) d (begunBoard b d) (startCheck (viewOf d) b) refl refl _
+    did-done (start (startArgsOf b)) (startLeft b) d (startedTables b d) (startCheck (viewOf d) b) refl refl _
     (check-is (d .state) (d .keys) (d .links) (d .certs) (d .order) b) (makes (d .state) (d .keys) (d .links) (d .certs) (d .order) b)
 
 -- ---- reset
 
--- the board after it, if it isn't refused
-abbrev pub clearedBoard : Tables → Tables
-clearedBoard d = tables (clearedState (d .state)) (blank (d .keys)) (blank (d .links)) (blank (d .certs)) (blank (d .order))
+-- the tables after it, if it isn't refused
+abbrev pub resetTables : Tables → Tables
+resetTables d = tables (clearedState (d .state)) (blank (d .keys)) (blank (d .links)) (blank (d .certs)) (blank (d .order))
 
 -- what it leaves
 abbrev pub resetLeft : Tables → Left
-resetLeft d = unlessRefused (tested (countsAsStarted (viewOf d)) Passed) d (doneWith (clearedBoard d))
+resetLeft d = unlessRefused (tested (countsAsStarted (viewOf d)) Passed) d (doneWith (resetTables d))
 
 module _ (s : State) (ks ls cs os : List ℕ) where
   abbrev u : Store
@@ -294,6 +294,6 @@ module _ (s : State) (ks ls cs os : List ℕ) where
 pub reset-did : (d : Tables) (x : Left) → x ≡ resetLeft d → Did calls.resetAll resetLeft d x
 unfolding isStart bufferOf perform finish unlessFailed
 reset-did d =
-    did-done calls.resetAll resetLeft d (clearedBoard d) (tested (countsAsStarted (viewOf d)) Passed) refl refl (calls.cleared (viewOf d))
+    did-done calls.resetAll resetLeft d (resetTables d) (tested (countsAsStarted (viewOf d)) Passed) refl refl (calls.cleared (viewOf d))
     (call-tested (viewOf d) calls.resetAll (good (calls.cleared (viewOf d))) Passed (calls.cleared (viewOf d)) refl refl refl (λ h. refl))
     (λ e. clears (d .state) (d .keys) (d .links) (d .certs) (d .order) (tested-yes _ _ e .0))

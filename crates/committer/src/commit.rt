@@ -4,11 +4,11 @@ ghost use Rattle.spec.specs.Calls as calls;
 ghost use Rattle.models.specs.Parts.{idOf};
 ghost use Rattle.commit_answer.specs.Answer.{tables};
 ghost use Rattle.commit_call.specs.Commit.{commitLeft};
-ghost use Rattle.committer.specs.Reply.{Replies};
-use crate::reply::Reply;
-use crate::reply::reply_of;
+ghost use Rattle.committer.specs.Replies.{Replies};
 use commit_call::commit;
 use commit_state::state::State;
+use committer_reply::reply::Reply;
+use committer_reply::reply::reply_of;
 use models::parts::PointId;
 
 // b: the buffer for the anchor records.

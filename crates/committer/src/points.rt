@@ -1,6 +1,5 @@
 // Origin: none.
 // Name, resolve and certify for C.
-ghost use mathlib.Core.Path.{_≡_};
 ghost use mathlib.Core.List.{[]};
 ghost use Rattle.spec.specs.Calls as calls;
 ghost use Rattle.models.specs.Info.{infoOf};
@@ -9,43 +8,17 @@ ghost use Rattle.commit_answer.specs.Answer.{tables};
 ghost use Rattle.commit_points.specs.Name.{nameLeft};
 ghost use Rattle.commit_points.specs.Resolve.{resolveLeft};
 ghost use Rattle.commit_points.specs.Certify.{certifyLeft};
-ghost use Rattle.committer.specs.Reply.{Replies, infoIn};
-use crate::reply::Reply;
-use crate::reply::reply_of;
+ghost use Rattle.committer_reply.specs.Args.{infoIn};
+ghost use Rattle.committer.specs.Replies.{Replies};
 use commit_points::certify::certify;
 use commit_points::name::add_dependency;
 use commit_points::resolve::resolve;
 use commit_state::state::State;
-use models::info::PointInfo;
+use committer_reply::args::Resolution;
+use committer_reply::args::info_in;
+use committer_reply::reply::Reply;
+use committer_reply::reply::reply_of;
 use models::parts::PointId;
-
-// What a resolution gives. marks: bit 0 proof, 1 trigger, 2 cause; further bits aren't read. includes, witness: their numbers of links.
-#[repr(C)]
-pub struct Resolution {
-    pub status: u32,
-    pub marks: u32,
-    pub top_proof: PointId,
-    pub evidence: u32,
-    pub includes: usize,
-    pub witness: usize,
-}
-
-fn info_in(resolution: Resolution) -> PointInfo
-    ensures { λ r. ⌜ r ≡ infoIn resolution ⌝ }
-{
-    let marks = resolution.marks;
-    let top_proof = resolution.top_proof;
-    PointInfo {
-        status: resolution.status,
-        proof: marks % 2 == 1,
-        trigger: marks / 2 % 2 == 1,
-        cause: marks / 4 % 2 == 1,
-        top_proof,
-        evidence: resolution.evidence,
-        includes: resolution.includes,
-        witness: resolution.witness,
-    }
-}
 
 #[no_mangle]
 pub extern "C" fn committer_name(

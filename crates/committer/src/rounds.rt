@@ -1,6 +1,5 @@
 // Origin: none.
 // Start, reset, round, gap question and drop for C.
-ghost use mathlib.Core.Path.{_≡_};
 ghost use mathlib.Core.List.{[]};
 ghost use Rattle.spec.specs.Calls as calls;
 ghost use Rattle.commit_state.specs.Reads.{startArgsOf};
@@ -9,54 +8,19 @@ ghost use Rattle.commit_start.specs.Start.{startLeft, resetLeft};
 ghost use Rattle.commit_rounds.specs.Gap.{gapLeft};
 ghost use Rattle.commit_rounds.specs.Round.{roundLeft};
 ghost use Rattle.commit_rounds.specs.Drop.{dropLeft};
-ghost use Rattle.committer.specs.Reply.{Replies, startArgsIn, usedIn};
-use crate::reply::Reply;
-use crate::reply::reply_of;
+ghost use Rattle.committer_reply.specs.Args.{startArgsIn};
+ghost use Rattle.committer.specs.Replies.{Replies};
 use commit_rounds::drop_upto;
 use commit_rounds::extend_from_ahead;
 use commit_rounds::is_once_after_gap;
 use commit_start::init;
 use commit_start::reset;
-use commit_state::back::StartArgs;
-use commit_state::back::UsedAuthor;
 use commit_state::state::State;
+use committer_reply::args::Start;
+use committer_reply::args::start_args_in;
+use committer_reply::reply::Reply;
+use committer_reply::reply::reply_of;
 use models::parts::Round;
-
-// What a start takes. after_gap: 0 for no. used: the author of the bottom's used mark, 4294967295 for none.
-#[repr(C)]
-pub struct Start {
-    pub genesis: u32,
-    pub commit_history_rounds: u32,
-    pub deduplicate_rounds: u32,
-    pub bottom: u32,
-    pub peers: u32,
-    pub after_gap: u32,
-    pub used: u32,
-}
-
-fn used_in(used: u32) -> UsedAuthor
-    ensures { λ r. ⌜ r ≡ usedIn used ⌝ }
-{
-    if used == 4294967295 {
-        return UsedAuthor::Nobody;
-    }
-    UsedAuthor::Peer(used)
-}
-
-fn start_args_in(with: Start) -> StartArgs
-    ensures { λ r. ⌜ r ≡ startArgsIn with ⌝ }
-{
-    let used = used_in(with.used);
-    StartArgs {
-        genesis: Round(with.genesis),
-        commit_history_rounds: with.commit_history_rounds,
-        deduplicate_rounds: with.deduplicate_rounds,
-        bottom: Round(with.bottom),
-        peers: with.peers,
-        after_gap: with.after_gap != 0,
-        used,
-    }
-}
 
 #[no_mangle]
 pub extern "C" fn committer_start(

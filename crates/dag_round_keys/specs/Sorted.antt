@@ -175,10 +175,6 @@ module _ (ks o : List ℕ) (n : ℕ) (k : List ℕ) (p : ℕ) (place : p ≡ pla
 pub rounds-rise : (ks o : List ℕ) (n a b : ℕ) → Sorted ks o n → a ≤ b → b < n → roundAt ks (getD o a 0) ≤ roundAt ks (getD o b 0)
 rounds-rise ks o n a b s l m = sameOr a b (λ e. rw e (omega arith)) (λ e. before-round ks (getD o a 0) (getD o b 0) (s a b (omega arith) m))
 
--- a place of a lower round stands at a lower position
-pub lower-round : (ks o : List ℕ) (n a b : ℕ) → Sorted ks o n → a < n → b < n → roundAt ks (getD o a 0) < roundAt ks (getD o b 0) → a < b
-lower-round ks o n a b s la lb h = leOr b a (λ l. absurd (omega (arith, rounds-rise ks o n b a s l la))) (λ l. l)
-
 -- a round's least key belongs at the first position of that round or a higher one
 pub round-place : (ks o : List ℕ) (n r : ℕ) → placeOf ks o n (roundKey r) ≡ first (λ p. leb r (roundAt ks (getD o p 0))) n
 unfolding placeOf

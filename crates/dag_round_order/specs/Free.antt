@@ -1,5 +1,5 @@
 -- The least place that is not in use.
-use Prim.Native.Nat.{ℕ, _+_, _<_, _≤_}
+use Prim.Native.Nat.{ℕ, _+_, _<_}
 use mathlib.Core.Path.{_≡_, refl, sym, _∙_}
 use mathlib.Core.List.{List}
 use mathlib.Core.Bool.{Bool, true, false, not}
@@ -7,9 +7,9 @@ use native.Mathlib.Omega.{arith}
 use native.Mathlib.Numerals.{add-one}
 use lib.ListN.{length, getD, set}
 use lib.Seq.{getD-set-same, getD-set-other}
-use borrow.Author.Tests.{eq-eqb, ne-eqb, not-true, not-false}
+use borrow.Author.Tests.{eq-eqb, ne-eqb, not-true}
 use Rattle.laws.specs.Test.{sameOr, not-yes, not-no}
-use Rattle.laws.specs.Scan.{any, first, first-is, first-le, first-hit, first-miss}
+use Rattle.laws.specs.Scan.{any, first, first-is, first-hit}
 use Rattle.models.specs.Tables.{isUsed}
 
 -- the least place that is not, or `places`
@@ -35,20 +35,10 @@ pub free-is-free : (o : List ℕ) (n places : ℕ) → firstFree o n places < pl
 unfolding firstFree
 free-is-free o n places l = not-true _ (first-hit _ places l)
 
--- every lower place is used; where none is found, all are
-pub free-is-least : (o : List ℕ) (n places s : ℕ) → s < firstFree o n places → isUsed o n s ≡ true
-unfolding firstFree
-free-is-least o n places s l = not-false _ (first-miss _ places s l)
-
 -- all are used: none is found
 pub free-none : (o : List ℕ) (n places : ℕ) → ((s : ℕ) → s < places → isUsed o n s ≡ true) → firstFree o n places ≡ places
 unfolding firstFree
 free-none o n places all = first-is _ places places (omega arith) (λ s l. not-yes (all s l)) (λ l. absurd (omega arith))
-
--- it is at most `places`
-pub free-le : (o : List ℕ) (n places : ℕ) → firstFree o n places ≤ places
-unfolding firstFree
-free-le o n places = first-le _ places
 
 -- s is free, and all lower ones are used: it is found
 pub free-here : (o : List ℕ) (n places s : ℕ) → s < places → isUsed o n s ≡ false → ((j : ℕ) → j < s → isUsed o n j ≡ true) → firstFree o n places ≡ s

@@ -1,6 +1,6 @@
 -- What naming is refused with, and what it leaves of the state and the tables (01: 'Refusals' 4 to 8).
 use Prim.Native.Nat.{ℕ, zero, suc, _+_, _*_, _<_, _≤_}
-use mathlib.Core.Path.{_≡_, refl, sym, _∙_, ap}
+use mathlib.Core.Path.{_≡_, refl, sym, _∙_, ap, ap₂}
 use mathlib.Core.List.{List, [], _∷_}
 use mathlib.Core.Bool.{Bool, true, false, not, _&&_, cond}
 use native.Mathlib.Omega.{arith}
@@ -117,6 +117,20 @@ count-yes f i c e h = rw (add-one i, add-one c) (ap suc e ∙ sym (those-yes i f
 pub count-no : (f : ℕ → Bool) (i c : ℕ) → c ≡ length (those i f) → f i ≡ false → c ≡ length (those (i + 1) f)
 count-no f i c e h = rw (add-one i) (e ∙ sym (those-no i f h))
 
+-- the words v of the id are put into the place q
+module _ (s : State) (ks cs os : List ℕ) (i : PointId) (v : List ℕ) (q : ℕ) (words : v ≡ idWords i) (at : q ≡ taken s os) where
+  pub named-keys : (us : List ℕ) → us ≡ stored ks v q 8 → us ≡ namedKeys s ks os i
+  unfolding namedKeys
+  named-keys us e = e ∙ ap₂ (λ (w : List ℕ) (x : ℕ). stored ks w x 8) words at
+
+  pub named-certs : set cs q 0 ≡ namedCerts s cs os
+  unfolding namedCerts
+  named-certs = ap (λ (x : ℕ). set cs x 0) at
+
+  pub named-order : (ps : List ℕ) → ps ≡ inserted os (s .count) (placeOf ks os (s .count) (key v 0)) q → ps ≡ namedOrder s ks os i
+  unfolding namedOrder
+  named-order ps e = e ∙ ap₂ (λ (w : List ℕ) (x : ℕ). inserted os (s .count) (placeOf ks os (s .count) (key w 0)) x) words at
+
 module _ (s : State) (i : PointId) where
   -- the author is no peer's number
   pub code-author : 32 ≤ i .author → 5 ≡ idCode s i
@@ -138,17 +152,11 @@ module _ (s : State) (i : PointId) where
   unfolding idCode
   code-peer l m k p e = rw (lt-leb 32 (i .author) l, le-leb (s .bottom .0) (i .round .0) m, le-leb (i .round .0) (s .top .0) k, e) refl
 
--- the first number, which is not 0
-pub else-first : (a b c : ℕ) → a ≡ b → (a ≡ 0 → ⊥) → a ≡ orElse b c
-unfolding orElse
-else-first a zero c e d = absurd (d e)
-else-first a (suc b) c e d = e
-
 -- the second, after 0
-pub else-next : (a b c x : ℕ) → a ≡ b → a ≡ 0 → x ≡ c → x ≡ orElse b c
+pub else-next : (b c : ℕ) → b ≡ 0 → c ≡ orElse b c
 unfolding orElse
-else-next a zero c x e d h = h
-else-next a (suc b) c x e d h = absurd (omega arith)
+else-next zero c d = refl
+else-next (suc b) c d = absurd (omega arith)
 
 -- neither is other than 0
 pub else-zero : (b c : ℕ) → orElse b c ≡ 0 → (b ≡ 0) × (c ≡ 0)
@@ -168,6 +176,10 @@ module _ (ks os : List ℕ) (n : ℕ) (w : List ℕ) where
   -- the lowest free place
   abbrev place : ℕ
   place = firstFree os n (length os)
+
+  -- the code seeks the id's words
+  pub sought : (v : List ℕ) (x : ℕ) → v ≡ w → x ≡ standing ks os n (key v 0) → x ≡ at
+  sought v x words e = e ∙ ap (λ (u : List ℕ). standing ks os n (key u 0)) words
 
   -- the digest is named in this round
   pub table-sameDigest : (x : ℕ) → x ≡ at → x < n → 7 ≡ tableCode ks os n w

@@ -1,5 +1,5 @@
 -- The point that an id names: what a call is refused with, and the point's place (01: 'Refusals' 5, 6, 9).
-use Prim.Native.Nat.{ℕ, _/_, _<_, _≤_}
+use Prim.Native.Nat.{ℕ, _/_, _*_, _<_, _≤_}
 use mathlib.Core.Path.{_≡_, refl, sym, _∙_, ap}
 use mathlib.Core.List.{List}
 use mathlib.Core.Bool.{cond}
@@ -7,10 +7,11 @@ use native.Mathlib.Omega.{arith}
 use lib.Dec.{ltb}
 use lib.ListN.{length, getD}
 use borrow.Author.Tests.{lt-ltb, le-ltb}
-use Rattle.laws.specs.Test.{leOr, cond-yes, cond-no}
-use Rattle.models.specs.Tables.{placeAt, Inside, Used}
+use Rattle.laws.specs.Test.{leOr, and-l, cond-yes, cond-no}
+use Rattle.laws.specs.Scan.{first-hit}
+use Rattle.models.specs.Tables.{roundAt, placeAt, Inside, Used}
 use Rattle.models.specs.declared.parts.PointId.{PointId}
-use Rattle.dag_round_keys.specs.Key.{key}
+use Rattle.dag_round_keys.specs.Key.{key, same-eq}
 use Rattle.dag_round_keys.specs.Sorted.{Sorted, pointAt}
 use Rattle.commit_state.specs.declared.state.State.{State}
 use Rattle.tables_test.specs.Model.{inside-keys}
@@ -33,10 +34,13 @@ unfoldable pub placeFor : State → List ℕ → List ℕ → PointId → ℕ
 placeFor s ks os i = placeAt os (positionFor ks os (s .count) (idWords i))
 
 -- a search for the words v of an id can read the tables
+pub searched : (ks os : List ℕ) (n : ℕ) (i : PointId) (v : List ℕ) → length ks ≡ length os * 8 → n ≤ length os → Inside os n (length os) → Sorted ks os n → v ≡ idWords i
+    → ((n ≤ length os) × ((8 ≤ length v) × Inside os n (length ks / 8))) × Sorted ks os n
+searched ks os n i v k l inside sorted e = ((l, (omega (arith, ap length e ∙ words-eight i), inside-keys ks os n k inside)), sorted)
+
 pub searchable : (s : State) (ks os : List ℕ) (i : PointId) (v : List ℕ) → Ready s ks os → v ≡ idWords i
     → ((s .count ≤ length os) × ((8 ≤ length v) × Inside os (s .count) (length ks / 8))) × Sorted ks os (s .count)
-searchable s ks os i v r e =
-    ((r .2, (omega (arith, ap length e ∙ words-eight i), inside-keys ks os (s .count) (r .0) (r .3))), r .4)
+searchable s ks os i v r e = searched ks os (s .count) i v (r .0) (r .2) (r .3) (r .4) e
 
 module _ (ks os : List ℕ) (n : ℕ) (w v : List ℕ) (x : ℕ) (e : x ≡ positionFor ks os n v) (words : v ≡ w) where
   -- the position, by the id's words
@@ -57,6 +61,11 @@ module _ (ks os : List ℕ) (n : ℕ) (w v : List ℕ) (x : ℕ) (e : x ≡ posi
 missing-zero : (ks os : List ℕ) (n : ℕ) (w : List ℕ) → missing ks os n w ≡ 0 → positionFor ks os n w < n
 missing-zero ks os n w h = leOr n (positionFor ks os n w) (λ l. absurd (omega (arith, missing-yes ks os n w w _ refl refl l))) (λ l. l)
 
+-- a found point is of the id's round
+pub found-round : (ks os : List ℕ) (n : ℕ) (w : List ℕ) → positionFor ks os n w < n → roundAt ks (placeAt os (positionFor ks os n w)) ≡ getD w 0 0
+unfolding pointAt key
+found-round ks os n w l = ap (λ (k : List ℕ). getD k 0 0) (same-eq _ _ (and-l _ _ (first-hit _ n l)))
+
 -- the place that the code returns
 pub point-there : (s : State) (ks os : List ℕ) (i : PointId) (v : List ℕ) (x q : ℕ) → v ≡ idWords i → x ≡ positionFor ks os (s .count) v → q ≡ placeAt os x → q ≡ placeFor s ks os i
 unfolding placeFor
@@ -68,11 +77,12 @@ module _ (s : State) (ks os : List ℕ) (i : PointId) (z : pointCode s ks os i �
   unfolding pointCode
   point-at = missing-zero ks os (s .count) (idWords i) (else-zero _ _ z .1)
 
-  -- which the code finds
-  pub point-low : (v : List ℕ) (x : ℕ) → v ≡ idWords i → x ≡ positionFor ks os (s .count) v → x < s .count
-  point-low v x e f = omega (arith, point-at, f ∙ ap (positionFor ks os (s .count)) e)
-
   -- its place is used
   pub point-used : Used os (s .count) (placeFor s ks os i)
   unfolding placeFor
   point-used = (positionFor ks os (s .count) (idWords i), point-at, refl)
+
+  -- the point there is of the id's round
+  pub point-round : roundAt ks (placeFor s ks os i) ≡ i .round .0
+  unfolding placeFor idWords
+  point-round = found-round ks os (s .count) (idWords i) point-at

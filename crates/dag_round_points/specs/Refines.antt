@@ -1,5 +1,5 @@
 -- The tables that naming leaves are read as the store that it leaves.
-use Prim.Native.Nat.{ℕ, _+_, _*_, _^_, _≤_, _<_}
+use Prim.Native.Nat.{ℕ, _+_, _*_, _≤_, _<_}
 use mathlib.Core.Path.{_≡_, refl, sym, _∙_, ap, subst}
 use mathlib.Core.List.{List}
 use mathlib.Core.Bool.{true, false, cond}
@@ -7,21 +7,21 @@ use mathlib.Core.Logic.{⊎-elim, inr}
 use native.Mathlib.Omega.{arith}
 use native.Mathlib.Numerals.{add-one}
 use lib.Dec.{eqb}
-use lib.ListN.{length, getD, set, drop, length-set}
+use lib.ListN.{length, getD, set, length-set}
 use lib.Seq.{getD-set-same, getD-set-other}
 use borrow.Author.Tests.{eq-eqb, ne-eqb}
 use Rattle.laws.specs.Test.{clash, both, sameOr}
 use Rattle.laws.specs.Scan.{first-le}
-use Rattle.laws.specs.Bytes.{number}
 use Rattle.spec.specs.Store.{unresolved, free, withPoints}
 use Rattle.spec.specs.Rules.{countsAsStarted}
 use Rattle.spec.specs.Calls.{newPoint, nameAt}
 use Rattle.models.specs.Parts.{idOf}
 use Rattle.models.specs.Cert.{flagsOf, heightOf}
 use Rattle.models.specs.Digest.{Fit, words, digestAt}
-use Rattle.models.specs.Tables.{statusAt, digestOf, Inside, Used, isUsed, used-is}
+use Rattle.models.specs.Tables.{statusAt, Inside, Used, isUsed, used-is}
 use Rattle.models.specs.declared.parts.PointId.{PointId}
 use Rattle.dag_round_keys.specs.Key.{key}
+use Rattle.dag_round_keys.specs.Digest.{key-digest}
 use Rattle.dag_round_keys.specs.Sorted.{Sorted, keyAt, placeOf, place-le, standing, standing-none}
 use Rattle.dag_round_order.specs.Free.{free-is-free}
 use Rattle.dag_round_order.specs.Shift.{inserted, inserted-inside}
@@ -38,11 +38,6 @@ use Rattle.tables_test.specs.Refines.{Started, counted}
 use Rattle.dag_round_points.specs.Model.{Ready, idWords, nameCode, taken, namedState, namedKeys, namedCerts, namedOrder, table-zero, name-zero}
 use Rattle.dag_round_points.specs.Used.{inserted-length, used-inserted, inserted-used, has-place}
 use Rattle.dag_round_points.specs.Tests.{ready}
-
--- a digest is the rest of its key
-digest-key : (ks us : List ℕ) (p q : ℕ) → key us p ≡ key ks q → digestOf us p ≡ digestOf ks q
-unfolding key digestAt
-digest-key ks us p q e = ap (λ (l : List ℕ). number (2 ^ 64) 0 (drop 1 l)) e
 
 module _ (s : State) (ks ls cs os : List ℕ) (i : PointId) (fk : Fit ks) (fl : Fit ls) (h : countsAsStarted (view s ks ls cs os) ≡ true) (z : nameCode s ks os i ≡ 0) where
   -- the number of used places
@@ -137,7 +132,7 @@ module _ (s : State) (ks ls cs os : List ℕ) (i : PointId) (fk : Fit ks) (fl : 
   unfolding pointAt resolutionAt newPoint flagsOf idWords words digestAt
   point-own = λ j. record {
     named = true;
-    id = record { round = own 0 (omega arith) j; author = own 1 (omega arith) j; digest = digest-key w us q 0 (key-own ks w q fits) j };
+    id = record { round = own 0 (omega arith) j; author = own 1 (omega arith) j; digest = key-digest us w q 0 (key-own ks w q fits) j };
     resolution = resolution j;
     flags = flagsOf (cert-own j);
   }
@@ -188,7 +183,7 @@ module _ (s : State) (ks ls cs os : List ℕ) (i : PointId) (fk : Fit ks) (fl : 
       used-elim p u
       (λ e. absurd (let st : statusAt us q ≡ 0 = own 6 (omega arith) in let y : statusAt us p ≡ statusAt us q = ap (statusAt us) e in omega (arith, st, y, live .0)))
       (λ v. let d = apart p v in
-      let old : Live (s .bottom .0) ks p k = (omega (arith, live .0, other p d 6 (omega arith)), live .1, omega (arith, live .2, other p d 0 (omega arith))) in
+      let old : Live (s .bottom .0) ks p k = (omega (arith, live .0, other p d 6 (omega arith)), live .1, omega (arith, live .2, other p d 0 (omega arith)), omega (arith, live .3, other p d 6 (omega arith))) in
       let (x, y, e, m) = t .facts .right p k v old a in
       (x, still-used x y, e, same-names ls ls p (λ j l. refl) ks us k x (other p d) (other x (apart x y)) (live .1) m))
 

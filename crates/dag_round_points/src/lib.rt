@@ -7,10 +7,13 @@ ghost use Rattle.laws.specs.Scan.{those};
 ghost use Rattle.models.specs.Refusal.{numbered};
 ghost use Rattle.models.specs.Tables.{Inside};
 ghost use Rattle.dag_round_keys.specs.Sorted.{Sorted};
-ghost use Rattle.dag_round_points.specs.Model.{Ready, idWords, isVersion, versionAt, idCode, tableCode, nameCode, namedState, namedKeys, namedCerts, namedOrder};
+ghost use Rattle.dag_round_order.specs.Free.{firstFree};
+ghost use Rattle.dag_round_points.specs.Model.{Ready, idWords, isVersion, versionAt, idCode, tableCode, nameCode, taken, namedState, namedKeys, namedCerts, namedOrder};
+ghost use Rattle.dag_round_points.specs.Codes.{found};
 ghost use Rattle.dag_round_points.specs.Point.{pointCode, placeFor};
 use commit_state::state::State;
 use models::parts::PointId;
+use models::parts::Round;
 use models::refusal::Check;
 use models::refusal::DIGEST_NAMED;
 use models::refusal::FIFTH_DIGEST;
@@ -19,6 +22,12 @@ use models::refusal::NOT_A_PEER;
 use models::refusal::NOT_NAMED;
 use models::refusal::NOT_RETAINED;
 use models::refusal::Refusal;
+
+// Where a point stands, or is to stand, or why it is refused.
+pub enum Found {
+    At(usize),
+    Refused(Refusal),
+}
 
 // The id as the words of a place that is named.
 pub fn id_words(id: PointId) -> [u64; 8]
@@ -33,23 +42,23 @@ pub fn id_words(id: PointId) -> [u64; 8]
 }
 
 // Whether the place has the round and the author.
-fn is_version(keys: &[u64], q: usize, round: u64, author: u64) -> bool
+fn is_version(keys: &[u64], q: usize, round: Round, author: u32) -> bool
     requires { ⌜ q * 8 + 8 ≤ length (now keys) ⌝ }
-    ensures { λ r. ⌜ r ≡ isVersion (now (keys .entry)) round author q ⌝ }
+    ensures { λ r. ⌜ r ≡ isVersion (now (keys .entry)) (round .0) author q ⌝ }
 {
     let r = keys[q * 8 + 0];
     let a = keys[q * 8 + 1];
-    if r != round {
+    if r != round.0 as u64 {
         return false;
     }
-    a == author
+    a == author as u64
 }
 
 // How many of the first n places have the round and the author.
-fn versions(keys: &[u64], order: &[u64], n: usize, round: u64, author: u64) -> usize
+fn versions(keys: &[u64], order: &[u64], n: usize, round: Round, author: u32) -> usize
     requires { ⌜ (length (now keys) ≡ length (now order) * 8) × (n ≤ length (now order)) ⌝ }
     requires { ⌜ Inside (now order) n (length (now order)) ⌝ }
-    ensures { λ r. ⌜ r ≡ length (those n (versionAt (now (keys .entry)) (now (order .entry)) round author)) ⌝ }
+    ensures { λ r. ⌜ r ≡ length (those n (versionAt (now (keys .entry)) (now (order .entry)) (round .0) author)) ⌝ }
 {
     let mut count: usize = 0;
     let mut i: usize = 0;
@@ -63,9 +72,9 @@ fn versions(keys: &[u64], order: &[u64], n: usize, round: u64, author: u64) -> u
     count
 }
 
-// What an id is refused with, 0 if it is not.
-pub fn id_code(s: State, id: PointId) -> u32
-    ensures { λ r. ⌜ r ≡ idCode s id ⌝ }
+// Whether an id is refused.
+pub fn check_id(s: State, id: PointId) -> Check
+    ensures { λ r. ⌜ r ≡ numbered (idCode s id) ⌝ }
 {
     let round = id.round;
     let bottom = s.bottom;
@@ -73,57 +82,55 @@ pub fn id_code(s: State, id: PointId) -> u32
     let r = round.0;
     let author = id.author;
     if 32 <= author {
-        return NOT_A_PEER;
+        return Check::Failed(Refusal::Number(NOT_A_PEER));
     }
     if r < bottom.0 {
-        return NOT_RETAINED;
+        return Check::Failed(Refusal::Number(NOT_RETAINED));
     }
     if top.0 < r {
-        return NOT_RETAINED;
+        return Check::Failed(Refusal::Number(NOT_RETAINED));
     }
     let x = s.rounds[(r % 512) as usize];
     if !models::parts::has_peer(x.peers, author) {
-        return NOT_A_PEER;
+        return Check::Failed(Refusal::Number(NOT_A_PEER));
     }
-    0
+    Check::Passed
 }
 
-// Whether naming is refused after the id's own tests: the digest is there, a fifth of its author, or no place is free.
-fn check_table(keys: &[u64], order: &[u64], n: usize, id: &[u64]) -> Check
-    requires { ⌜ (length (now keys) ≡ length (now order) * 8) × (length (now order) ≤ 4096) × (n ≤ length (now order)) × (8 ≤ length (now id)) ⌝ }
+// The lowest free place, unless naming is refused after the id's own tests: the digest is there, a fifth of its author, or no place is free.
+fn check_table(keys: &[u64], order: &[u64], n: usize, id: PointId) -> Found
+    requires { ⌜ (length (now keys) ≡ length (now order) * 8) × (length (now order) ≤ 4096) × (n ≤ length (now order)) ⌝ }
     requires { ⌜ Inside (now order) n (length (now order)) ⌝ }
     requires { ⌜ Sorted (now keys) (now order) n ⌝ }
-    ensures { λ r. ⌜ r ≡ numbered (tableCode (now (keys .entry)) (now (order .entry)) n (now (id .entry))) ⌝ }
+    ensures { λ r. ⌜ r ≡ found (tableCode (now (keys .entry)) (now (order .entry)) n (idWords id)) (firstFree (now (order .entry)) n (length (now (order .entry)))) ⌝ }
 {
-    let at = dag_round_keys::find(keys, order, n, id);
+    let words = id_words(id);
+    let at = dag_round_keys::find(keys, order, n, &words);
     if at < n {
-        return Check::Failed(Refusal::Number(DIGEST_NAMED));
+        return Found::Refused(Refusal::Number(DIGEST_NAMED));
     }
-    let round = id[0];
-    let author = id[1];
-    let count = versions(keys, order, n, round, author);
+    let count = versions(keys, order, n, id.round, id.author);
     if 4 <= count {
-        return Check::Failed(Refusal::Number(FIFTH_DIGEST));
+        return Found::Refused(Refusal::Number(FIFTH_DIGEST));
     }
     let places = order.len();
     let q = dag_round_order::free_place(order, n, places);
     if q < places {
-        return Check::Passed;
+        return Found::At(q);
     }
-    Check::Failed(Refusal::Number(FULL))
+    Found::Refused(Refusal::Number(FULL))
 }
 
-// Whether naming is refused: the tests of the id, then those of the tables.
-pub fn check_name(s: State, keys: &[u64], order: &[u64], id: PointId) -> Check
+// The place that a point is to take, unless naming is refused: the tests of the id, then those of the tables.
+pub fn check_name(s: State, keys: &[u64], order: &[u64], id: PointId) -> Found
     requires { ⌜ Ready s (now keys) (now order) ⌝ }
-    ensures { λ r. ⌜ r ≡ numbered (nameCode s (now (keys .entry)) (now (order .entry)) id) ⌝ }
+    ensures { λ r. ⌜ r ≡ found (nameCode s (now (keys .entry)) (now (order .entry)) id) (taken s (now (order .entry))) ⌝ }
 {
-    let code = id_code(s, id);
-    if code != 0 {
-        return Check::Failed(Refusal::Number(code));
+    let check = check_id(s, id);
+    if let Check::Failed(why) = check {
+        return Found::Refused(why);
     }
-    let words = id_words(id);
-    check_table(keys, order, s.count, &words)
+    check_table(keys, order, s.count, id)
 }
 
 // The state with one place more in use.
@@ -137,56 +144,42 @@ fn named(s: State) -> State
     next
 }
 
-// Puts the point into the lowest free place.
+// Puts the point into place q, the lowest free one.
 pub fn name_point(
     s: State,
     keys: &mut [u64],
     certs: &mut [u64],
     order: &mut [u64],
     id: PointId,
+    q: usize,
 ) -> State
     requires { ⌜ Ready s (now keys) (now order) ⌝ }
-    requires { ⌜ (length (now certs) ≡ length (now order)) × (nameCode s (now keys) (now order) id ≡ 0) ⌝ }
+    requires { ⌜ (length (now certs) ≡ length (now order)) × (nameCode s (now keys) (now order) id ≡ 0) × (q ≡ taken s (now order)) ⌝ }
     ensures state { λ r. ⌜ r ≡ namedState s ⌝ }
     ensures keys { λ _. ⌜ now (keys .exit) ≡ namedKeys s (now (keys .entry)) (now (order .entry)) id ⌝ }
     ensures certs { λ _. ⌜ now (certs .exit) ≡ namedCerts s (now (certs .entry)) (now (order .entry)) ⌝ }
     ensures order { λ _. ⌜ now (order .exit) ≡ namedOrder s (now (keys .entry)) (now (order .entry)) id ⌝ }
 {
-    let n = s.count;
     let words = id_words(id);
-    let places = order.len();
-    let q = dag_round_order::free_place(order, n, places);
-    dag_round_order::put(keys, order, n, q, &words);
+    dag_round_order::put(keys, order, s.count, q, &words);
     certs[q] = 0;
     named(s)
 }
 
-// What a call that names a point by its id is refused with, 0 if it isn't: the tests of the id, then whether it is named.
-pub fn point_code(s: State, keys: &[u64], order: &[u64], id: PointId) -> u32
+// The place of the point that an id names, unless a call that names it is refused: the tests of the id, then whether it is named.
+pub fn find_named(s: State, keys: &[u64], order: &[u64], id: PointId) -> Found
     requires { ⌜ Ready s (now keys) (now order) ⌝ }
-    ensures { λ r. ⌜ r ≡ pointCode s (now (keys .entry)) (now (order .entry)) id ⌝ }
+    ensures { λ r. ⌜ r ≡ found (pointCode s (now (keys .entry)) (now (order .entry)) id) (placeFor s (now (keys .entry)) (now (order .entry)) id) ⌝ }
 {
-    let code = id_code(s, id);
-    if code != 0 {
-        return code;
+    let check = check_id(s, id);
+    if let Check::Failed(why) = check {
+        return Found::Refused(why);
     }
     let words = id_words(id);
     let n = s.count;
     let at = dag_round_keys::find_point(keys, order, n, &words);
     if at < n {
-        return 0;
+        return Found::At(dag_round_keys::place(order, n, at));
     }
-    NOT_NAMED
-}
-
-// The place of the point.
-pub fn point_place(s: State, keys: &[u64], order: &[u64], id: PointId) -> usize
-    requires { ⌜ Ready s (now keys) (now order) ⌝ }
-    requires { ⌜ pointCode s (now keys) (now order) id ≡ 0 ⌝ }
-    ensures { λ r. ⌜ r ≡ placeFor s (now (keys .entry)) (now (order .entry)) id ⌝ }
-{
-    let words = id_words(id);
-    let n = s.count;
-    let at = dag_round_keys::find_point(keys, order, n, &words);
-    dag_round_keys::place(order, n, at)
+    Found::Refused(Refusal::Number(NOT_NAMED))
 }

@@ -1,5 +1,5 @@
--- Demand 3 (01: 'Demand 3') of the code: whatever list of calls is made, one after another on the board that the one before left, with
--- answers, boards and bytes as their contracts say.
+-- Demand 3 (01: 'Demand 3') of the code: whatever list of calls is made, one after another on the tables that the one before left, with
+-- answers, tables and bytes as their contracts say.
 use Prim.Native.Nat.{ℕ, suc}
 use mathlib.Core.Path.{_≡_, refl, sym, _∙_, subst, ap, ap₂}
 use mathlib.Core.Bool.{true}
@@ -24,7 +24,7 @@ use Rattle.commit_answer.specs.declared.answer.Answer.the-variants.{Done, Flag,
 use Rattle.models.specs.Refusal.{refusalOf}
 use Rattle.commit_answer.specs.Answer.{Tables, viewOf, Left, outcomeOf, answerOf, Did}
 
--- one call that was made: 01's call that it is, the board before it, what it left, and that it has done what its contract says
+-- one call that was made: 01's call that it is, the tables before it, what it left, and that it has done what its contract says
 pub record Made : Type 0 where
   pub what : Call
   pub before : Tables
@@ -37,11 +37,11 @@ abbrev pub outcome : Made → calls.Outcome
 outcome m = outcomeOf (m .left)
 
 -- "each call gets the whole store .. as the one before left it"
-abbrev pub Runs : Tables → List Made → Type 0
-Runs d [] = Unit {0}
-Runs d (m ∷ ms) = (m .before ≡ d) × Runs (m .left .tables) ms
+abbrev pub Chained : Tables → List Made → Type 0
+Chained d [] = Unit {0}
+Chained d (m ∷ ms) = (m .before ≡ d) × Chained (m .left .tables) ms
 
--- the board after them, and 01's calls that they are
+-- the tables after them, and 01's calls that they are
 unfoldable pub lastTables : Tables → List Made → Tables
 lastTables d [] = d
 lastTables d (m ∷ ms) = lastTables (m .left .tables) ms
@@ -66,7 +66,7 @@ AllSaid (m ∷ ms) = AsSaid (viewOf (m .before)) (m .what) (outcome m) × AllSai
 -- "no point stands in two histories or twice in one, and each history holds exactly the points .. that any path from the anchor reaches and
 -- no earlier history held": after a start of the code that answers done. Each call does as said, and the start adds its bottom, no other round
 abbrev pub FirstHalf : Type 0
-FirstHalf = (s : Made) (b : StartArgs) (ms : List Made) → s .what ≡ start b → answerOf (s .left .answer) ≡ done → Runs (s .left .tables) ms → AllInList (callsOf ms)
+FirstHalf = (s : Made) (b : StartArgs) (ms : List Made) → s .what ≡ start b → answerOf (s .left .answer) ≡ done → Chained (s .left .tables) ms → AllInList (callsOf ms)
     → NoDup (joined (λ (h : History). h .ids) (historiesIn ms)) × AllExact (resolutionsIn ms) [] (historiesIn ms) × AllSaid ms × ((r : ℕ) → retained (viewOf (s .left .tables)) r ≡ eqb r (b .bottom))
 
 -- "The second list begins at any tables that count as started", of 64-bit words. "The commit after it is compared with the same one made
@@ -74,7 +74,7 @@ FirstHalf = (s : Made) (b : StartArgs) (ms : List Made) → s .what ≡ start b 
 abbrev pub SecondHalf : Type 0
 SecondHalf = (d : Tables) → Fit (d .keys) → Fit (d .links) → countsAsStarted (viewOf d) ≡ true → (i : Id) (b : List ℕ) (n : ℕ) (m l : Made) (ms : List Made)
     → m .before ≡ d → m .what ≡ commit i b → answerOf (m .left .answer) ≡ anchors (suc n)
-    → Runs d ms → AllArrive (viewOf d) (callsOf ms)
+    → Chained d ms → AllArrive (viewOf d) (callsOf ms)
     → l .before ≡ lastTables d ms → l .what ≡ commit i b
     → (l .left .answer ≡ m .left .answer) × (l .left .buffer ≡ m .left .buffer)
 
@@ -96,28 +96,28 @@ left-is m = refl
 store-is : (m : Made) (s : Store) → viewOf (m .before) ≡ s → viewOf (m .left .tables) ≡ call s (m .what) .store
 store-is m s e = sym (left-is m) ∙ (ap (λ (o : calls.Outcome). o .store) (m .did .answer) ∙ ap (λ t. call t (m .what) .store) e)
 
-histories-is : (s : Store) (d : Tables) (ms : List Made) → viewOf d ≡ s → Runs d ms → historiesIn ms ≡ histories s (callsOf ms)
+histories-is : (s : Store) (d : Tables) (ms : List Made) → viewOf d ≡ s → Chained d ms → historiesIn ms ≡ histories s (callsOf ms)
 unfolding historiesIn histories
 histories-is s d [] e r = refl
 histories-is s d (m ∷ ms) e (b, r) =
     let k : viewOf (m .before) ≡ s = ap viewOf b ∙ e in
     ap₂ _++_ (ap (wrote (viewOf (m .before)) (m .what)) (m .did .answer) ∙ ap (λ t. wrote t (m .what) (call t (m .what))) k) (histories-is (call s (m .what) .store) (m .left .tables) ms (store-is m s k) r)
 
-resolutions-is : (s : Store) (d : Tables) (ms : List Made) → viewOf d ≡ s → Runs d ms → resolutionsIn ms ≡ resolutions s (callsOf ms)
+resolutions-is : (s : Store) (d : Tables) (ms : List Made) → viewOf d ≡ s → Chained d ms → resolutionsIn ms ≡ resolutions s (callsOf ms)
 unfolding resolutionsIn resolutions
 resolutions-is s d [] e r = refl
 resolutions-is s d (m ∷ ms) e (b, r) =
     let k : viewOf (m .before) ≡ s = ap viewOf b ∙ e in
     ap₂ _++_ (ap (gave (m .what)) (sym (answer-is m) ∙ (ap (λ (o : calls.Outcome). o .answer) (m .did .answer) ∙ ap (λ t. call t (m .what) .answer) k))) (resolutions-is (call s (m .what) .store) (m .left .tables) ms (store-is m s k) r)
 
-said-is : (s : Store) (d : Tables) (ms : List Made) → viewOf d ≡ s → Runs d ms → AllAsSaid s (callsOf ms) → AllSaid ms
+said-is : (s : Store) (d : Tables) (ms : List Made) → viewOf d ≡ s → Chained d ms → AllAsSaid s (callsOf ms) → AllSaid ms
 said-is s d [] e r a = tt
 said-is s d (m ∷ ms) e (b, r) (a, rest) =
     let k : viewOf (m .before) ≡ s = ap viewOf b ∙ e in
     let o : outcome m ≡ call s (m .what) = m .did .answer ∙ ap (λ t. call t (m .what)) k in
     (subst (λ t. AsSaid t (m .what) (outcome m)) (sym k) (subst (AsSaid s (m .what)) (sym o) a), said-is (call s (m .what) .store) (m .left .tables) ms (store-is m s k) r rest)
 
-last-is : (s : Store) (d : Tables) (ms : List Made) → viewOf d ≡ s → Runs d ms → viewOf (lastTables d ms) ≡ after s (callsOf ms)
+last-is : (s : Store) (d : Tables) (ms : List Made) → viewOf d ≡ s → Chained d ms → viewOf (lastTables d ms) ≡ after s (callsOf ms)
 unfolding lastTables after
 last-is s d [] e r = e
 last-is s d (m ∷ ms) e (b, r) = last-is (call s (m .what) .store) (m .left .tables) ms (store-is m s (ap viewOf b ∙ e)) r

@@ -13,6 +13,7 @@ ghost use Rattle.info_checks.specs.Dangling.{foundAt, isDangling, anyDan
 use commit_state::state::State;
 use models::dag_point::Resolved;
 use models::info::PointInfo;
+use models::parts::Round;
 
 // The peer of link j.
 pub fn peer(refs: &[u64], j: usize) -> u64
@@ -44,15 +45,15 @@ fn rises(refs: &[u64], from: usize, m: usize) -> bool
 }
 
 // Whether the m links from `from` on, which lead d rounds down, are as 11 asks them to be.
-fn refs_ok(refs: &[u64], from: usize, m: usize, d: u64, round: u64) -> bool
+fn refs_ok(refs: &[u64], from: usize, m: usize, d: u32, round: Round) -> bool
     requires { ⌜ (from + m) * 5 ≤ length (now refs) ⌝ }
     requires { ⌜ m ≤ 32 ⌝ }
-    ensures { λ r. ⌜ r ≡ refsOk d round (refsOf (now (refs .entry)) from m) ⌝ }
+    ensures { λ r. ⌜ r ≡ refsOk d (round .0) (refsOf (now (refs .entry)) from m) ⌝ }
 {
     if !rises(refs, from, m) {
         return false;
     }
-    if d <= round {
+    if d <= round.0 {
         return true;
     }
     m == 0
@@ -88,9 +89,9 @@ fn is_bare(includes: usize, witness: usize, evidence: u32) -> bool
 }
 
 // The tests of a resolution whose links are as many as it says.
-fn given_ok(round: u64, info: PointInfo, refs: &[u64]) -> bool
+fn given_ok(round: Round, info: PointInfo, refs: &[u64]) -> bool
     requires { ⌜ Shaped info (now refs) ⌝ }
-    ensures { λ r. ⌜ r ≡ wellFormed round (infoOf info (now (refs .entry))) ⌝ }
+    ensures { λ r. ⌜ r ≡ wellFormed (round .0) (infoOf info (now (refs .entry))) ⌝ }
 {
     let i = info.includes;
     let w = info.witness;
@@ -110,8 +111,8 @@ fn given_ok(round: u64, info: PointInfo, refs: &[u64]) -> bool
 
 // Whether the resolution is as 11 asks it to be, for a point of this round. The numbers of its links are tested first: within their range
 // no product overflows.
-pub fn well_formed(round: u64, info: PointInfo, refs: &[u64]) -> bool
-    ensures { λ r. ⌜ r ≡ wellFormed round (infoOf info (now (refs .entry))) ⌝ }
+pub fn well_formed(round: Round, info: PointInfo, refs: &[u64]) -> bool
+    ensures { λ r. ⌜ r ≡ wellFormed (round .0) (infoOf info (now (refs .entry))) ⌝ }
 {
     let i = info.includes;
     let w = info.witness;
@@ -128,12 +129,19 @@ pub fn well_formed(round: u64, info: PointInfo, refs: &[u64]) -> bool
 }
 
 // The position of the point that link j leads to in this round, or the number of used places.
-pub fn find_link(s: State, keys: &[u64], order: &[u64], refs: &[u64], j: usize, round: u64) -> usize
+pub fn find_link(
+    s: State,
+    keys: &[u64],
+    order: &[u64],
+    refs: &[u64],
+    j: usize,
+    round: Round,
+) -> usize
     requires { ⌜ Ready s (now keys) (now order) ⌝ }
     requires { ⌜ j * 5 + 5 ≤ length (now refs) ⌝ }
-    ensures { λ r. ⌜ r ≡ foundAt s (now (keys .entry)) (now (order .entry)) (now (refs .entry)) j round ⌝ }
+    ensures { λ r. ⌜ r ≡ foundAt s (now (keys .entry)) (now (order .entry)) (now (refs .entry)) j (round .0) ⌝ }
 {
-    let words = dag_round_keys::id_at(refs, j * 5 + 1, round, peer(refs, j));
+    let words = dag_round_keys::id_at(refs, j * 5 + 1, round.0 as u64, peer(refs, j));
     dag_round_keys::find_point(keys, order, s.count, &words)
 }
 
@@ -144,19 +152,18 @@ fn is_dangling(
     order: &[u64],
     refs: &[u64],
     j: usize,
-    d: u64,
-    round: u64,
+    d: u32,
+    round: Round,
 ) -> bool
     requires { ⌜ Ready s (now keys) (now order) ⌝ }
     requires { ⌜ (j * 5 + 5 ≤ length (now refs)) × (d ≤ 2) ⌝ }
-    ensures { λ r. ⌜ r ≡ isDangling s (now (keys .entry)) (now (order .entry)) (now (refs .entry)) d round j ⌝ }
+    ensures { λ r. ⌜ r ≡ isDangling s (now (keys .entry)) (now (order .entry)) (now (refs .entry)) d (round .0) j ⌝ }
 {
     let bottom = s.bottom;
-    let b = bottom.0 as u64;
-    if round < b + d {
+    if (round.0 as u64) < bottom.0 as u64 + d as u64 {
         return false;
     }
-    let at = find_link(s, keys, order, refs, j, round - d);
+    let at = find_link(s, keys, order, refs, j, Round(round.0 - d));
     s.count <= at
 }
 
@@ -169,12 +176,12 @@ pub fn any_dangling(
     refs: &[u64],
     from: usize,
     m: usize,
-    d: u64,
-    round: u64,
+    d: u32,
+    round: Round,
 ) -> bool
     requires { ⌜ Ready s (now keys) (now order) ⌝ }
     requires { ⌜ ((from + m) * 5 ≤ length (now refs)) × (d ≤ 2) ⌝ }
-    ensures { λ r. ⌜ r ≡ anyDangling s (now (keys .entry)) (now (order .entry)) (now (refs .entry)) d round from m ⌝ }
+    ensures { λ r. ⌜ r ≡ anyDangling s (now (keys .entry)) (now (order .entry)) (now (refs .entry)) d (round .0) from m ⌝ }
 {
     let mut i: usize = 0;
     while i < m {

@@ -26,7 +26,7 @@ use Rattle.tables_test.specs.View.{view, seen-used}
 use Rattle.tables_test.specs.Edges.{resolved-is}
 use Rattle.dag_round_points.specs.Model.{Ready, idWords, orElse}
 use Rattle.dag_round_points.specs.Codes.{unless}
-use Rattle.dag_round_points.specs.Point.{pointCode, placeFor, point-used}
+use Rattle.dag_round_points.specs.Point.{pointCode, placeFor, point-used, point-round}
 use Rattle.dag_round_points.specs.RefinesPoint.{point-is}
 use Rattle.info_checks.specs.Form.{Shaped, formed-shaped}
 use Rattle.info_checks.specs.Dangling.{anyDangling}
@@ -44,26 +44,24 @@ resolveCode s ks os i info rs = orElse (pointCode s ks os i) (infoCode s ks os (
 
 -- one law for each way out of the code
 module _ (s : State) (ks os : List ℕ) (q : ℕ) (info : PointInfo) (rs : List ℕ) where
-  abbrev r : ℕ
-  r = roundAt ks q
-
   pub info-resolved : (statusAt ks q ≡ 0 → ⊥) → 10 ≡ infoCode s ks os q info rs
   unfolding infoCode
   info-resolved d = rw (ne-eqb (statusAt ks q) 0 d) refl
 
-  module _ (z : statusAt ks q ≡ 0) (f : Bool) (e : f ≡ wellFormed (roundAt ks q) (infoOf info rs)) where
+  -- the point is of round r
+  module _ (r : ℕ) (is : roundAt ks q ≡ r) (z : statusAt ks q ≡ 0) (f : Bool) (e : f ≡ wellFormed r (infoOf info rs)) where
     pub info-unformed : not f ≡ true → 11 ≡ infoCode s ks os q info rs
     unfolding infoCode
-    info-unformed h = rw (eq-eqb (statusAt ks q) 0 z, sym e ∙ not-true f h) refl
+    info-unformed h = rw (eq-eqb (statusAt ks q) 0 z, is, sym e ∙ not-true f h) refl
 
     -- the two kinds of links
     pub info-links : not f ≡ false → (a b : Bool) → a ≡ anyDangling s ks os rs 1 r 0 (info .includes) → b ≡ anyDangling s ks os rs 2 r (info .includes) (info .witness) → cond (a || b) 12 0 ≡ infoCode s ks os q info rs
     unfolding infoCode
-    info-links h a b x y = rw (eq-eqb (statusAt ks q) 0 z, sym e ∙ not-false f h, sym x, sym y) refl
+    info-links h a b x y = rw (eq-eqb (statusAt ks q) 0 z, is, sym e ∙ not-false f h, sym x, sym y) refl
 
     -- the links are as many as it says
     pub info-shaped : not f ≡ false → Shaped info rs
-    info-shaped h = formed-shaped info rs (roundAt ks q) (sym e ∙ not-false f h)
+    info-shaped h = formed-shaped info rs r (sym e ∙ not-false f h)
 
 -- the first kind decides, or the second
 pub first-dangling : (a b : Bool) → a ≡ true → _≡_ {A = ℕ} 12 (cond (a || b) 12 0)
@@ -130,9 +128,9 @@ module _ (s : State) (ks ls cs os : List ℕ) (fk : Fit ks) (fl : Fit ls) (h : c
       ∙ later (pointCode s ks os i) (infoCode s ks os (placeFor s ks os i) info rs) (resolving v t (placeFor s ks os i)) (good (resolveAt v t (placeFor s ks os i)))
       (λ z. resolving-is (placeFor s ks os i) (point-used s ks os i z))
 
--- the place of a point is one of the table's
-pub place-there : (s : State) (ks os : List ℕ) (i : PointId) (k q : ℕ) → Ready s ks os → k ≡ pointCode s ks os i → k ≡ 0 → q ≡ placeFor s ks os i → q < length os
-place-there s ks os i k q r e z f = let (j, l, g) = point-used s ks os i (sym e ∙ z) in omega (arith, r .3 j l, g, f)
+-- the place of a point is one of the table's, and the point there is of the id's round
+pub place-there : (s : State) (ks os : List ℕ) (i : PointId) (q : ℕ) → Ready s ks os → pointCode s ks os i ≡ 0 → q ≡ placeFor s ks os i → (q < length os) × (roundAt ks q ≡ i .round .0)
+place-there s ks os i q r z f = let (j, l, g) = point-used s ks os i z in (omega (arith, r .3 j l, g, f), ap (roundAt ks) f ∙ point-round s ks os i z)
 
 -- what the tests say that none of them refuses
 pub record Accepted (s : State) (ks os : List ℕ) (q : ℕ) (info : PointInfo) (rs : List ℕ) : Type 0 where

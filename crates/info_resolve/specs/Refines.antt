@@ -1,14 +1,14 @@
 -- The tables that a resolution leaves are read as the store that it leaves (01: cert.rs).
-use Prim.Native.Nat.{ℕ, _*_, _≤_, _<_}
+use Prim.Native.Nat.{ℕ, zero, suc, _*_, _≤_, _<_}
 use mathlib.Core.Path.{_≡_, refl, sym, _∙_, ap, subst}
 use mathlib.Core.List.{List}
-use mathlib.Core.Bool.{true, false}
+use mathlib.Core.Bool.{Bool, true, false}
 use mathlib.Core.Logic.{_≢_}
 use native.Mathlib.Omega.{arith}
-use lib.Dec.{eqb}
+use lib.Dec.{eqb, leb}
 use lib.ListN.{length, getD, set}
 use lib.Seq.{set-getD}
-use borrow.Author.Tests.{le-leb, lt-leb}
+use borrow.Author.Tests.{lt-leb}
 use Rattle.laws.specs.Test.{sameOr}
 use Rattle.spec.specs.Store.{Flags, word}
 use Rattle.spec.specs.Rules.{wellFormed, countsAsStarted}
@@ -17,6 +17,10 @@ use Rattle.models.specs.Info.{infoOf}
 use Rattle.models.specs.Cert.{flagsOf, heightOf, linked}
 use Rattle.models.specs.Digest.{Fit}
 use Rattle.models.specs.Tables.{roundAt, statusAt, Used}
+use Rattle.models.specs.DagPoint.{caseOf, hasInfo}
+use Rattle.models.specs.declared.dag_point.DagPoint.{DagPoint}
+use Rattle.models.specs.declared.dag_point.Resolved.{Resolved}
+use Rattle.models.specs.declared.dag_point.Resolved.the-variants.{Case, Nothing}
 use Rattle.models.specs.declared.info.PointInfo.{PointInfo}
 use Rattle.tables_heights.specs.View.{heightAt, topAt, reach, reach-live, reach-unresolved}
 use Rattle.tables_heights.specs.Refines.{Leads}
@@ -33,10 +37,11 @@ use Rattle.dag_round_points.specs.Tests.{ready}
 use Rattle.cert_certify.specs.Settled.{cert-small, rooted, placed, settled-from}
 use Rattle.cert_certify.specs.On.{still-tops, still-met, still-on}
 use Rattle.info_checks.specs.Dangling.{anyDangling}
+use Rattle.info_checks.specs.Form.{formed}
 use Rattle.info_store.specs.Model.{storedKeys, storedLinks}
 use Rattle.info_store.specs.Flags.{certOf, depsSet, cert-height, cert-flags}
 use Rattle.info_store.specs.Ranged.{Ranged}
-use Rattle.info_store.specs.Refines.{keys-other, keys-kept, links-other, cert-own, cert-other, regular-resolution, shape-resolution, resolution-pt}
+use Rattle.info_store.specs.Refines.{status-own, keys-other, keys-kept, links-other, cert-own, cert-other, regular-resolution, shape-resolution, resolution-pt}
 
 -- the links of a place depend on its words alone
 leads-same : (b : ℕ) (ks ks2 ls ls2 os : List ℕ) (n p x : ℕ) → Same ks 8 p ks2 → Same ls 328 p ls2 → Leads b ks ls os n p x → Leads b ks2 ls2 os n p x
@@ -62,14 +67,44 @@ Resolvable s ks ls cs os q info rs =
     × ((length (storedKeys ks q info) ≡ length (depsSet cs q (info .status)) * 8) × (length (storedLinks s ks ls os q info rs) ≡ length (depsSet cs q (info .status)) * 328)
     × Placed (s .bottom .0) (storedKeys ks q info) (storedLinks s ks ls os q info rs) (depsSet cs q (info .status)) q)
 
--- the code's steps
-pub deps-none : (cs : List ℕ) (q status : ℕ) → 3 < status → cs ≡ depsSet cs q status
-unfolding depsSet certOf
-deps-none cs q status l = rw (lt-leb status 3 l) (sym (set-getD cs q 0))
+-- a point of this case has links
+unfoldable hasLinks : Resolved → Bool
+hasLinks (Case p) = hasInfo p
+hasLinks Nothing = false
 
-pub deps-set : (cs : List ℕ) (q status w : ℕ) → status ≤ 3 → w ≡ word (linked (flagsOf (getD cs q 0))) (heightOf (getD cs q 0)) → set cs q w ≡ depsSet cs q status
-unfolding depsSet certOf
-deps-set cs q status w l e = rw (le-leb status 3 l, e) refl
+-- by its status, which is above 0
+links-is : (n : ℕ) → 0 < n → hasLinks (caseOf n) ≡ leb n 3
+unfolding hasLinks caseOf hasInfo
+links-is zero l = absurd (omega arith)
+links-is (suc zero) l = refl
+links-is (suc (suc zero)) l = refl
+links-is (suc (suc (suc zero))) l = refl
+links-is (suc (suc (suc (suc zero)))) l = refl
+links-is (suc (suc (suc (suc (suc zero))))) l = refl
+links-is (suc (suc (suc (suc (suc (suc n)))))) l = sym (lt-leb (suc (suc (suc (suc (suc (suc n)))))) 3 (omega arith))
+
+-- the code's steps: r is the case of the status
+module _ (cs : List ℕ) (q status : ℕ) (r : Resolved) (some : 0 < status) (is : r ≡ caseOf status) where
+  few : (x : Resolved) → r ≡ x → leb status 3 ≡ hasLinks x
+  few x e = sym (links-is status some) ∙ ap hasLinks (sym is ∙ e)
+
+  kept : leb status 3 ≡ false → cs ≡ depsSet cs q status
+  unfolding depsSet certOf
+  kept l = rw l (sym (set-getD cs q 0))
+
+  pub deps-nothing : r ≡ Nothing → cs ≡ depsSet cs q status
+  unfolding hasLinks
+  deps-nothing e = kept (few Nothing e)
+
+  -- a case without links, and one with them
+  module _ (p : DagPoint) (i : Bool) (e : r ≡ Case p) (f : i ≡ hasInfo p) where
+    pub deps-none : i ≡ false → cs ≡ depsSet cs q status
+    unfolding hasLinks
+    deps-none h = kept (few (Case p) e ∙ (sym f ∙ h))
+
+    pub deps-set : (w : ℕ) → i ≡ true → w ≡ word (linked (flagsOf (getD cs q 0))) (heightOf (getD cs q 0)) → set cs q w ≡ depsSet cs q status
+    unfolding depsSet certOf hasLinks
+    deps-set w h g = rw (few (Case p) e ∙ (sym f ∙ h), g) refl
 
 -- what the queue of heights needs, of the tables by then
 pub placed-by : (s : State) (ks ls cs os : List ℕ) (q : ℕ) (info : PointInfo) (rs us zs ws : List ℕ) → us ≡ storedKeys ks q info → zs ≡ storedLinks s ks ls os q info rs → ws ≡ depsSet cs q (info .status)
@@ -126,6 +161,12 @@ module _ (s : State) (ks ls cs os : List ℕ) (fk : Fit ks) (fl : Fit ls) (h : c
   rounds : (p : ℕ) → Used os n p → roundAt us p ≡ roundAt ks p
   rounds p v = keys-kept s ks ls cs os fk fl h q u info rs g p 0 (omega arith)
 
+  status-most : (p : ℕ) → Used os n p → statusAt us p ≤ 5
+  status-most p v =
+      sameOr p q
+      (λ e. rw e (omega (arith, status-own s ks ls cs os fk fl h q u info rs g, formed info rs (roundAt ks q) g .status)))
+      (λ d. omega (arith, keys-other s ks ls cs os fk fl h q u info rs g p d 6 (omega arith), t .facts .words p v .named .status))
+
   own : getD ws q 0 ≡ certOf (info .status) (getD cs q 0)
   own = cert-own s ks ls cs os fk fl h q u info rs g tame1 tame2 range
 
@@ -170,6 +211,7 @@ module _ (s : State) (ks ls cs os : List ℕ) (fk : Fit ks) (fl : Fit ls) (h : c
     resolved-view fu fz =
         settled-from s us zs ws os q sh rg small u fu fz
         (λ p v. subst (λ r. s .bottom .0 ≤ r) (sym (rounds p v)) (low-of s ks ls cs os fk fl (t .shaped) (t .facts .ids) p v))
+        status-most
         (still-tops (s .bottom .0) H ks ls cs os n q root (t .facts .heights) us zs ws rounds heights tops more less)
         (still-met (s .bottom .0) H ks ls cs os n q root (t .facts .heights) us zs ws rounds heights tops more less)
         (still-on (s .bottom .0) H ks ls cs os n q root (t .facts .heights) us zs ws rounds heights tops more less)

@@ -4,6 +4,7 @@ ghost use mathlib.Core.Path.{_≡_};
 ghost use Prim.Native.Nat.{_+_, _*_, _<_, _≤_};
 ghost use lib.ListN.{length, getD};
 ghost use Rattle.models.specs.Refusal.{numbered};
+ghost use Rattle.models.specs.Tables.{roundAt};
 ghost use Rattle.dag_round_points.specs.Model.{Ready};
 ghost use Rattle.info_store.specs.Model.{storedKeys, storedLinks};
 ghost use Rattle.info_store.specs.Flags.{depsSet};
@@ -13,31 +14,33 @@ use commit_state::state::State;
 use info_checks::any_dangling;
 use info_checks::well_formed;
 use models::cert::Cert;
+use models::dag_point::Resolved;
 use models::info::PointInfo;
+use models::parts::Round;
 use models::refusal::BAD_INFO;
 use models::refusal::Check;
 use models::refusal::LINK_NOT_NAMED;
 use models::refusal::RESOLVED;
 use models::refusal::Refusal;
 
-// Whether a resolution of the point at place q is refused: it is resolved, what is given isn't well-formed, or a link dangles.
+// Whether a resolution of the point at place q, of this round, is refused: it is resolved, what is given isn't well-formed, or a link dangles.
 pub fn check_resolution(
     s: State,
     keys: &[u64],
     order: &[u64],
     q: usize,
+    round: Round,
     info: PointInfo,
     refs: &[u64],
 ) -> Check
     requires { ⌜ Ready s (now keys) (now order) ⌝ }
-    requires { ⌜ q < length (now order) ⌝ }
+    requires { ⌜ (q < length (now order)) × (roundAt (now keys) q ≡ round .0) ⌝ }
     ensures { λ r. ⌜ r ≡ numbered (infoCode s (now (keys .entry)) (now (order .entry)) q info (now (refs .entry))) ⌝ }
 {
     let status = keys[q * 8 + 6];
     if status != 0 {
         return Check::Failed(Refusal::Number(RESOLVED));
     }
-    let round = keys[q * 8 + 0];
     if !well_formed(round, info, refs) {
         return Check::Failed(Refusal::Number(BAD_INFO));
     }
@@ -52,20 +55,25 @@ pub fn check_resolution(
     Check::Passed
 }
 
-// The certificate word of place q once the links of its point are set; statuses 4 and 5 have none.
+// The certificate word of place q once the links of its point are set, if a point of this status has links.
 fn set_deps(certs: &mut [u64], q: usize, status: u32)
-    requires { ⌜ (q < length (now certs)) × (getD (now certs) q 0 < 65536) ⌝ }
+    requires { ⌜ (q < length (now certs)) × (getD (now certs) q 0 < 65536) × (0 < status) ⌝ }
     ensures { λ _. ⌜ now (certs .exit) ≡ depsSet (now (certs .entry)) q status ⌝ }
 {
-    if 3 < status {
-        return;
+    let case = models::dag_point::of_status(status as u64);
+    match case {
+        Resolved::Case(p) => {
+            if p.has_info() {
+                let cert = Cert(certs[q]);
+                let set = cert.set_deps();
+                certs[q] = set.0;
+            }
+        }
+        Resolved::Nothing => {}
     }
-    let cert = Cert(certs[q]);
-    let set = cert.set_deps();
-    certs[q] = set.0;
 }
 
-// Resolves the point at place q: its words and flags, and its height handed on.
+// Resolves the point at place q, of this round: its words and flags, and its height handed on.
 pub fn resolve_at(
     s: State,
     keys: &mut [u64],
@@ -73,16 +81,18 @@ pub fn resolve_at(
     certs: &mut [u64],
     order: &[u64],
     q: usize,
+    round: Round,
     info: PointInfo,
     refs: &[u64],
 )
     requires { ⌜ Resolvable s (now keys) (now links) (now certs) (now order) q info (now refs) ⌝ }
+    requires { ⌜ roundAt (now keys) q ≡ round .0 ⌝ }
     ensures keys { λ _. ⌜ now (keys .exit) ≡ storedKeys (now (keys .entry)) q info ⌝ }
     ensures links { λ _. ⌜ now (links .exit) ≡ storedLinks s (now (keys .entry)) (now (links .entry)) (now (order .entry)) q info (now (refs .entry)) ⌝ }
     ensures certs { λ _. ⌜ now (certs .exit) ≡ resolvedCerts s (now (keys .entry)) (now (links .entry)) (now (certs .entry)) (now (order .entry)) q info (now (refs .entry)) ⌝ }
 {
     let bottom = s.bottom;
-    info_store::store_info(s, keys, links, order, q, info, refs);
+    info_store::store_info(s, keys, links, order, q, round, info, refs);
     set_deps(certs, q, info.status);
     cert_certify::traverse_certify(keys, links, certs, q, bottom);
 }

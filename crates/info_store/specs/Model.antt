@@ -90,13 +90,13 @@ pub links-end : (f : ℕ → ℕ) (ls gs : List ℕ) (q b : ℕ) (rs : List ℕ)
 links-end f ls gs q b rs j i m e l k = let x : i ≡ m = omega arith in rw x at e
 
 -- zeros, evidence and top proof, includes, witness
-pub resolution-by : (s : State) (ks ls os : List ℕ) (q : ℕ) (info : PointInfo) (rs ws l1 l2 l3 l4 : List ℕ) → ws ≡ headWords info → l1 ≡ zeroed ls (q * 328) 328 → l2 ≡ copied l1 (q * 328) ws 0 7
-    → l3 ≡ linksPut (targetOf s ks os rs 1 (roundAt ks q)) l2 q 0 rs 0 (info .includes) → l4 ≡ linksPut (targetOf s ks os rs 2 (roundAt ks q)) l3 q 32 rs (info .includes) (info .witness)
+pub resolution-by : (s : State) (ks ls os : List ℕ) (q : ℕ) (info : PointInfo) (rs ws l1 l2 l3 l4 : List ℕ) (r : ℕ) → roundAt ks q ≡ r → ws ≡ headWords info → l1 ≡ zeroed ls (q * 328) 328 → l2 ≡ copied l1 (q * 328) ws 0 7
+    → l3 ≡ linksPut (targetOf s ks os rs 1 r) l2 q 0 rs 0 (info .includes) → l4 ≡ linksPut (targetOf s ks os rs 2 r) l3 q 32 rs (info .includes) (info .witness)
     → l4 ≡ storedLinks s ks ls os q info rs
 unfolding storedLinks headPut
-resolution-by s ks ls os q info rs ws l1 l2 l3 l4 a b c d e =
-    e ∙ ap (λ (x : List ℕ). linksPut (targetOf s ks os rs 2 (roundAt ks q)) x q 32 rs (info .includes) (info .witness))
-    (d ∙ ap (λ (x : List ℕ). linksPut (targetOf s ks os rs 1 (roundAt ks q)) x q 0 rs 0 (info .includes)) (c ∙ ap₂ (λ (x y : List ℕ). copied x (q * 328) y 0 7) b a))
+resolution-by s ks ls os q info rs ws l1 l2 l3 l4 r i a b c d e =
+    rw i (e ∙ ap (λ (x : List ℕ). linksPut (targetOf s ks os rs 2 r) x q 32 rs (info .includes) (info .witness))
+    (d ∙ ap (λ (x : List ℕ). linksPut (targetOf s ks os rs 1 r) x q 0 rs 0 (info .includes)) (c ∙ ap₂ (λ (x y : List ℕ). copied x (q * 328) y 0 7) b a)))
 
 -- ---- lengths
 

@@ -133,7 +133,7 @@ module _ (s : State) (ks ls cs os : List ℕ) (fk : Fit ks) (fl : Fit ls) (h : c
   digest-kept p = digest-alike us ks (p * 8 + 2) (p * 8 + 2) (words-kept p)
 
   -- the status
-  status-own : statusAt us q ≡ info .status
+  pub status-own : statusAt us q ≡ info .status
   unfolding storedKeys
   status-own =
       getD-set-other (set ks (q * 8 + 6) (info .status)) (q * 8 + 7) (q * 8 + 6) _ 0 (λ e. omega arith)
@@ -301,7 +301,7 @@ module _ (s : State) (ks ls cs os : List ℕ) (fk : Fit ks) (fl : Fit ls) (h : c
     old-right : (p k : ℕ) → (p ≡ q → ⊥) → Used os (s .count) p → Live (s .bottom .0) us p k → 0 < targetAt ts p k → Right p k
     old-right p k d v live a =
         let e : targetAt ts p k ≡ targetAt ls p k = same-target ls ts p (links-same p d) k (live .1) in
-        let old : Live (s .bottom .0) ks p k = (omega (arith, live .0, keys-other p d 6 (omega arith)), live .1, omega (arith, live .2, keys-kept p 0 (omega arith))) in
+        let old : Live (s .bottom .0) ks p k = (omega (arith, live .0, keys-other p d 6 (omega arith)), live .1, omega (arith, live .2, keys-kept p 0 (omega arith)), omega (arith, live .3, keys-other p d 6 (omega arith))) in
         let (z, w, y, m) = t .facts .right p k v old (omega arith) in (
           z,
           w,

@@ -13,6 +13,7 @@ ghost use Rattle.info_checks.specs.Form.{Peers};
 ghost use Rattle.info_store.specs.Model.{marksOf, headWords, targetOf, linkPut, linksPut, storedKeys, storedLinks};
 use commit_state::state::State;
 use models::info::PointInfo;
+use models::parts::Round;
 
 // The bit of weight w, if it is set.
 fn weight(w: u64, set: bool) -> u64
@@ -52,19 +53,18 @@ fn target_word(
     order: &[u64],
     refs: &[u64],
     j: usize,
-    d: u64,
-    round: u64,
+    d: u32,
+    round: Round,
 ) -> u64
     requires { ⌜ Ready s (now keys) (now order) ⌝ }
     requires { ⌜ (j * 5 + 5 ≤ length (now refs)) × (d ≤ 2) ⌝ }
-    ensures { λ r. ⌜ r ≡ targetOf s (now (keys .entry)) (now (order .entry)) (now (refs .entry)) d round j ⌝ }
+    ensures { λ r. ⌜ r ≡ targetOf s (now (keys .entry)) (now (order .entry)) (now (refs .entry)) d (round .0) j ⌝ }
 {
     let bottom = s.bottom;
-    let b = bottom.0 as u64;
-    if round < b + d {
+    if (round.0 as u64) < bottom.0 as u64 + d as u64 {
         return 1;
     }
-    let at = info_checks::find_link(s, keys, order, refs, j, round - d);
+    let at = info_checks::find_link(s, keys, order, refs, j, Round(round.0 - d));
     let n = s.count;
     if n <= at {
         return 1;
@@ -92,15 +92,16 @@ fn put_links(
     refs: &[u64],
     from: usize,
     m: usize,
-    d: u64,
-    round: u64,
+    d: u32,
+    round: Round,
 )
     requires { ⌜ Ready s (now keys) (now order) ⌝ }
     requires { ⌜ (q * 328 + 328 ≤ length (now links)) × ((from + m) * 5 ≤ length (now refs)) × (1 ≤ d) × (d ≤ 2) ⌝ }
     requires { ⌜ Peers (now refs) from m ⌝ }
-    ensures { λ _. ⌜ now (links .exit) ≡ linksPut (targetOf s (now (keys .entry)) (now (order .entry)) (now (refs .entry)) d round) (now (links .entry)) q ((d - 1) * 32) (now (refs .entry)) from m ⌝ }
+    ensures { λ _. ⌜ now (links .exit) ≡ linksPut (targetOf s (now (keys .entry)) (now (order .entry)) (now (refs .entry)) d (round .0))
+        (now (links .entry)) q ((d - 1) * 32) (now (refs .entry)) from m ⌝ }
 {
-    let base = laws::slot((d - 1) * 32);
+    let base = ((d - 1) * 32) as usize;
     let mut i: usize = 0;
     while i < m {
         let j = from + i;
@@ -111,22 +112,22 @@ fn put_links(
     }
 }
 
-// Writes evidence, top proof and links into place q, after zeros: a free place may hold anything.
+// Writes evidence, top proof and links into place q, of a point of this round, after zeros: a free place may hold anything.
 fn store_links(
     s: State,
     keys: &[u64],
     links: &mut [u64],
     order: &[u64],
     q: usize,
+    round: Round,
     info: PointInfo,
     refs: &[u64],
 )
     requires { ⌜ Ready s (now keys) (now order) ⌝ }
     requires { ⌜ (length (now links) ≡ length (now order) * 328) × (q < length (now order)) ⌝ }
-    requires { ⌜ wellFormed (roundAt (now keys) q) (infoOf info (now refs)) ≡ true ⌝ }
+    requires { ⌜ (roundAt (now keys) q ≡ round .0) × (wellFormed (round .0) (infoOf info (now refs)) ≡ true) ⌝ }
     ensures { λ _. ⌜ now (links .exit) ≡ storedLinks s (now (keys .entry)) (now (links .entry)) (now (order .entry)) q info (now (refs .entry)) ⌝ }
 {
-    let round = keys[q * 8 + 0];
     let i = info.includes;
     let w = info.witness;
     let head = head_words(info);
@@ -146,7 +147,7 @@ fn store_status(keys: &mut [u64], q: usize, info: PointInfo)
     keys[q * 8 + 7] = word;
 }
 
-// Writes what a resolution gives into place q: status and marks, evidence, top proof, and for each link its digest and the place it leads
+// Writes what a resolution gives into place q, of a point of this round: status and marks, evidence, top proof, and for each link its digest and the place it leads
 // to.
 pub fn store_info(
     s: State,
@@ -154,15 +155,16 @@ pub fn store_info(
     links: &mut [u64],
     order: &[u64],
     q: usize,
+    round: Round,
     info: PointInfo,
     refs: &[u64],
 )
     requires { ⌜ Ready s (now keys) (now order) ⌝ }
     requires { ⌜ (length (now links) ≡ length (now order) * 328) × (q < length (now order)) ⌝ }
-    requires { ⌜ wellFormed (roundAt (now keys) q) (infoOf info (now refs)) ≡ true ⌝ }
+    requires { ⌜ (roundAt (now keys) q ≡ round .0) × (wellFormed (round .0) (infoOf info (now refs)) ≡ true) ⌝ }
     ensures keys { λ _. ⌜ now (keys .exit) ≡ storedKeys (now (keys .entry)) q info ⌝ }
     ensures links { λ _. ⌜ now (links .exit) ≡ storedLinks s (now (keys .entry)) (now (links .entry)) (now (order .entry)) q info (now (refs .entry)) ⌝ }
 {
-    store_links(s, keys, links, order, q, info, refs);
+    store_links(s, keys, links, order, q, round, info, refs);
     store_status(keys, q, info);
 }

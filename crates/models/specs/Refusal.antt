@@ -1,6 +1,6 @@
 -- What a call is refused with, as 01's refusal, and a test that may refuse.
 use Prim.Native.Nat.{ℕ, zero, suc}
-use mathlib.Core.Path.{_≡_, refl, sym, ap}
+use mathlib.Core.Path.{_≡_, refl, sym}
 use mathlib.Core.Bool.{Bool, true, false, cond, true≢false}
 use lib.Dec.{ltb}
 use native.Mathlib.Omega.{arith}
@@ -40,11 +40,6 @@ unfolding numbered
 numbered-passed zero e = refl
 numbered-passed (suc n) e = absurd (not-failed _ e)
 
-pub numbered-failed : (n : ℕ) (r : Refusal) → numbered n ≡ Failed r → n ≡ 0 → ⊥
-unfolding numbered
-numbered-failed zero r e z = let o : _≡_ {A = ℕ} 0 1 = cc in omega arith
-numbered-failed (suc n) r e z = omega arith
-
 -- a history conflict in the round r
 abbrev pub conflicting : ℕ → Check
 conflicting r = Failed (Conflict (record { 0 = r }))
@@ -61,12 +56,6 @@ notValid c r = cond (ltb 0 (heightOf c)) (conflicting r) (failed 15)
 unfoldable pub isFailed : Check → Bool
 isFailed Passed = false
 isFailed (Failed r) = true
-
--- two tests, then what follows
-pub unless-next : {A : Type 0} (c d : Check) (o : Out A) → unlessFailed (orNext c d) o ≡ unlessFailed c (unlessFailed d o)
-unfolding unlessFailed orNext
-unless-next Passed d o = refl
-unless-next (Failed r) d o = refl
 
 -- 01's verdict on a resolved point that isn't usable
 pub checkedAs-not : (c r q : ℕ) → checkedAs true false (ltb 0 (heightOf c)) r q ≡ unlessFailed (notValid c r) (good q)

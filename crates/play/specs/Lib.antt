@@ -1,3 +1,3 @@
 pub mod Sized
-pub mod Steps
 pub mod Plays
+pub mod Runs

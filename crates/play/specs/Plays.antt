@@ -1,164 +1,68 @@
--- What a record that is played answers and leaves.
-use Prim.Native.Nat.{ℕ}
-use mathlib.Core.Path.{_≡_, refl, sym, subst}
-use mathlib.Core.List.{List}
-use mathlib.Core.Bool.{Bool, true, false, cond}
-use Rattle.laws.specs.Test.{clash, cond-yes, cond-no}
-use Rattle.spec.specs.Chain as chain
-use Rattle.spec.specs.Calls as calls
-use Rattle.spec.specs.Demand.{finished}
-use Rattle.models.specs.declared.parts.Round.{Round}
-use Rattle.commit_state.specs.declared.state.State.{State}
-use Rattle.models.specs.Refusal.{refusalOf}
-use Rattle.commit_answer.specs.Answer.{Tables, tables, Left, left, answerOf, Did}
-use Rattle.models.specs.declared.refusal.Refusal.{Refusal}
-use Rattle.models.specs.declared.refusal.Refusal.the-variants as why
-use Rattle.commit_answer.specs.declared.answer.Answer.{Answer}
-use Rattle.commit_answer.specs.declared.answer.Answer.the-variants as answer
+-- What a record that is played does.
+use Prim.Native.Nat.{ℕ, _-_, _<_}
+use mathlib.Core.Path.{_≡_, refl, subst}
+use mathlib.Core.List.{List, []}
+use mathlib.Core.Bool.{true, false, cond}
+use native.Mathlib.Omega.{arith}
+use lib.ListN.{getD, take, drop, length-take, List·getD-eq-default}
+use lib.Seq.{getD-take, getD-drop}
+use Rattle.laws.specs.Test.{clash, leOr}
+use Rattle.models.specs.Digest.{Fit}
+use Rattle.commit_answer.specs.Answer.{Tables, tables, left, Did}
+use Rattle.commit_answer.specs.declared.answer.Answer.the-variants.{Done}
 use Rattle.commit_answer.specs.declared.answer.Outcome.{Outcome}
-use Rattle.trace.specs.Head.{part}
+use Rattle.trace.specs.Head.{part, headAt}
 use Rattle.trace.specs.Fields.{callBy}
 use Rattle.trace.specs.declared.head.Kind.{Kind}
-use Rattle.trace.specs.declared.head.Kind.the-variants as kind
 use Rattle.trace.specs.declared.head.Record.{Record}
-use Rattle.play.specs.declared.line.Line.{Line}
-use Rattle.play.specs.declared.line.Line.the-variants as line
-use Rattle.play.specs.declared.line.Step.{Step}
+use Rattle.play_calls.specs.Calls.{isCall, takesBuffer, modelBy}
 
--- the line of a refusal of 01
-unfoldable pub refusedWith : chain.Refusal → Line
-refusedWith (chain.number n) = line.Refused n
-refusedWith (chain.conflict r) = line.Conflict r
+-- What is done for a kind and its fields f. d, w: the tables and the buffer before it; o: the outcome; e, v: the tables and the buffer after it.
+-- made: the record of its call. still: the buffer stays unless the call takes it. broken: all stays for a kind that isn't a call.
+pub record Makes (k : Kind) (f : List ℕ) (d : Tables) (w : List ℕ) (o : Outcome) (e : Tables) (v : List ℕ) : Type 0 where
+  pub made : isCall k ≡ true → Did (callBy k f w) (modelBy k f w) d (record { answer = o .answer; tables = e; buffer = cond (takesBuffer k) v [] })
+  pub still : takesBuffer k ≡ false → v ≡ w
+  pub broken : isCall k ≡ false → (o .answer ≡ Done) × (e ≡ d) × (v ≡ w)
 
--- the line of an answer of 01; y and n are the lines of a call that says yes or no
-unfoldable pub lineSaid : Line → Line → calls.Answer → Line
-lineSaid y n calls.done = line.Ok
-lineSaid y n (calls.flag b) = cond b y n
-lineSaid y n (calls.anchors m) = line.Ok
-lineSaid y n (calls.refused r m) = refusedWith r
+-- What a record that is played does, and what the machine's types give, so that no theorem about a run has a premise about widths. words: those
+-- of the keys and the links fit 64 bits. bytes: the fields are bytes.
+pub record Plays (k : Kind) (f : List ℕ) (d : Tables) (w : List ℕ) (o : Outcome) (e : Tables) (v : List ℕ) : Type 0 where
+  pub makes : Makes k f d w o e v
+  pub words : Fit (d .keys) × Fit (d .links)
+  pub bytes : (p : ℕ) → getD f p 0 < 256
 
--- the kinds whose calls are made
-abbrev pub isMade : Kind → Bool
-isMade k = elim k [ kind.Start ↦ true | kind.Round ↦ true | kind.Name ↦ true | kind.Resolve ↦ true | kind.Certify ↦ true | kind.Commit ↦ true | kind.Remove ↦ false | kind.Drop ↦ true | kind.Gap ↦ true | kind.Reset ↦ true | kind.Outlook ↦ false | kind.Broken ↦ false ]
-
--- those of them that take a buffer
-abbrev pub isLent : Kind → Bool
-isLent k = elim k [ kind.Start ↦ false | kind.Round ↦ false | kind.Name ↦ false | kind.Resolve ↦ false | kind.Certify ↦ false | kind.Commit ↦ true | kind.Remove ↦ false | kind.Drop ↦ false | kind.Gap ↦ false | kind.Reset ↦ false | kind.Outlook ↦ false | kind.Broken ↦ false ]
-
--- the lines of yes and no
-abbrev pub yesOf : Kind → Line
-yesOf k = elim k [ kind.Start ↦ line.Ok | kind.Round ↦ line.Ok | kind.Name ↦ line.Ok | kind.Resolve ↦ line.Ok | kind.Certify ↦ line.Ok | kind.Commit ↦ line.Ok | kind.Remove ↦ line.Ok | kind.Drop ↦ line.DropYes | kind.Gap ↦ line.GapYes | kind.Reset ↦ line.Ok | kind.Outlook ↦ line.Ok | kind.Broken ↦ line.Ok ]
-
-abbrev pub noOf : Kind → Line
-noOf k = elim k [ kind.Start ↦ line.Ok | kind.Round ↦ line.Ok | kind.Name ↦ line.Ok | kind.Resolve ↦ line.Ok | kind.Certify ↦ line.Ok | kind.Commit ↦ line.Ok | kind.Remove ↦ line.Ok | kind.Drop ↦ line.DropNo | kind.Gap ↦ line.GapNo | kind.Reset ↦ line.Ok | kind.Outlook ↦ line.Ok | kind.Broken ↦ line.Ok ]
-
--- the line of a record whose call isn't made
-abbrev pub idle : Kind → Line
-idle k = elim k [ kind.Start ↦ line.Unsupported | kind.Round ↦ line.Unsupported | kind.Name ↦ line.Unsupported | kind.Resolve ↦ line.Unsupported | kind.Certify ↦ line.Unsupported | kind.Commit ↦ line.Unsupported | kind.Remove ↦ line.Unsupported | kind.Drop ↦ line.Unsupported | kind.Gap ↦ line.Unsupported | kind.Reset ↦ line.Unsupported | kind.Outlook ↦ line.Unsupported | kind.Broken ↦ line.Broken ]
-
--- A call that was made: w is the buffer that is there, c and v are the board and the buffer after it. The call did what its contract says;
--- line and anchors are those of its answer; the buffer stays unless the call takes it.
-pub record Made (k : Kind) (b : Tables) (w f : List ℕ) (t : Step) (c : Tables) (v : List ℕ) : Type 0 where
-  pub left : Left
-  pub model : Tables → Left
-  pub did : Did (callBy k f w) model b left
-  pub tables : c ≡ left .tables
-  pub line : t .line ≡ lineSaid (yesOf k) (noOf k) (answerOf (left .answer))
-  pub anchors : t .anchors ≡ finished (answerOf (left .answer))
-  pub buffer : v ≡ cond (isLent k) (left .buffer) w
-
--- a record whose call is made, or all stays
-unfoldable pub Plays : Kind → Tables → List ℕ → List ℕ → Step → Tables → List ℕ → Type 0
-Plays k b w f t c v = (isMade k ≡ true → Made k b w f t c v) × (isMade k ≡ false → (c ≡ b) × (t .line ≡ idle k) × (t .anchors ≡ 0) × (v ≡ w))
-
--- a call that takes no buffer, whatever buffer there is
-abbrev pub PlaysPlain : Kind → Tables → List ℕ → Step → Tables → Type 0
-PlaysPlain k b f t c = (w : List ℕ) → Plays k b w f t c w
+-- the record of bs at p makes e of the tables d, and v of the buffer w
+abbrev pub PlaysAt : List ℕ → ℕ → Tables → List ℕ → Outcome → Tables → List ℕ → Type 0
+PlaysAt bs p d w o e v = Plays (headAt bs p .kind) (part bs (headAt bs p .from) (headAt bs p .end)) d w o e v
 
 -- ---- laws
 
--- by cases on the answer
-pub refused-number : (w : Refusal) (n : ℕ) → w ≡ why.Number n → line.Refused n ≡ refusedWith (refusalOf w)
-unfolding refusedWith refusalOf
-refused-number w n e = rw e refl
-
-pub refused-conflict : (w : Refusal) (r : Round) → w ≡ why.Conflict r → line.Conflict (r .0) ≡ refusedWith (refusalOf w)
-unfolding refusedWith refusalOf
-refused-conflict w r e = rw e refl
-
-module _ (a : Answer) where
-  pub anchors-done : a ≡ answer.Done → 0 ≡ finished (answerOf a)
-  unfolding finished answerOf
-  anchors-done e = rw e refl
-
-  pub anchors-said : (b : Bool) → a ≡ answer.Flag b → 0 ≡ finished (answerOf a)
-  unfolding finished answerOf
-  anchors-said b e = rw e refl
-
-  pub anchors-handed : (n : ℕ) → a ≡ answer.Anchors n → n ≡ finished (answerOf a)
-  unfolding finished answerOf
-  anchors-handed n e = rw e refl
-
-  pub anchors-refused : (w : Refusal) (n : ℕ) → a ≡ answer.Refused w n → n ≡ finished (answerOf a)
-  unfolding finished answerOf
-  anchors-refused w n e = rw e refl
-
-module _ (a : Answer) (y n : Line) where
-  pub line-done : a ≡ answer.Done → line.Ok ≡ lineSaid y n (answerOf a)
-  unfolding lineSaid answerOf
-  line-done e = rw e refl
-
-  pub line-said : (b : Bool) → a ≡ answer.Flag b → cond b y n ≡ lineSaid y n (answerOf a)
-  unfolding lineSaid answerOf
-  line-said b e = rw e refl
-
-  pub line-yes : (b : Bool) → a ≡ answer.Flag b → b ≡ true → y ≡ lineSaid y n (answerOf a)
-  line-yes b e h = rw h at (line-said b e)
-
-  pub line-no : (b : Bool) → a ≡ answer.Flag b → b ≡ false → n ≡ lineSaid y n (answerOf a)
-  line-no b e h = rw h at (line-said b e)
-
-  pub line-handed : (m : ℕ) → a ≡ answer.Anchors m → line.Ok ≡ lineSaid y n (answerOf a)
-  unfolding lineSaid answerOf
-  line-handed m e = rw e refl
-
-  pub line-refused : (w : Refusal) (m : ℕ) (x : Line) → a ≡ answer.Refused w m → x ≡ refusedWith (refusalOf w) → x ≡ lineSaid y n (answerOf a)
-  unfolding lineSaid answerOf
-  line-refused w m x e h = rw (e, h) refl
-
--- from its parts
-pub step-is : (l m : Line) (n k : ℕ) (s : State) → l ≡ m → n ≡ k → _≡_ {A = Step} (record { line = l; anchors = n; state = s }) (record { line = m; anchors = k; state = s })
-step-is l m n k s e h = rw (e, h) refl
-
--- the step of an answer
-abbrev pub stepOf : Kind → Answer → State → Step
-stepOf j a s = record { line = lineSaid (yesOf j) (noOf j) (answerOf a); anchors = finished (answerOf a); state = s }
-
--- a call that is made, with the outcome o
-module _ (j : Kind) (m : Tables → Left) (b : Tables) (f : List ℕ) (o : Outcome) (ks ls cs os : List ℕ) (t : Step) (y : isMade j ≡ true) (g : t ≡ stepOf j (o .answer) (o .state)) (w v : List ℕ) where
-  plays : (u : List ℕ) → Did (callBy j f w) m b (left o ks ls cs os v) → u ≡ cond (isLent j) v w → Plays j b w f t (tables (t .state) ks ls cs os) u
-  unfolding Plays
-  plays u h e = rw g (λ _. record { left = left o ks ls cs os v; model = m; did = h; tables = refl; line = refl; anchors = refl; buffer = e }, λ n. absurd (clash y n))
-
-  -- without a buffer
-  pub plays-plain : isLent j ≡ false → Did (callBy j f w) m b (left o ks ls cs os v) → Plays j b w f t (tables (t .state) ks ls cs os) w
-  plays-plain l h = plays w h (sym (cond-no _ _ _ l refl))
-
-  -- with one
-  pub plays-bufferOf : isLent j ≡ true → Did (callBy j f w) m b (left o ks ls cs os v) → Plays j b w f t (tables (t .state) ks ls cs os) v
-  plays-bufferOf l h = plays v h (sym (cond-yes _ _ _ l refl))
-
--- a record of that kind, its fields also others that make the same call
-pub plays-at : (k j : Kind) (b c : Tables) (w v f g : List ℕ) (t : Step) → k ≡ j → callBy j g w ≡ callBy j f w → Plays j b w g t c v → Plays k b w f t c v
-unfolding Plays
-plays-at k j b c w v f g t e h p = rw e (λ y. let m = p .0 y in record { left = m .left; model = m .model; did = subst (λ x. Did x (m .model) b (m .left)) h (m .did); tables = m .tables; line = m .line; anchors = m .anchors; buffer = m .buffer }, p .1)
+module _ (k j : Kind) (f : List ℕ) (d : Tables) (w v : List ℕ) (o : Outcome) (e : k ≡ j) where
+  -- a call that is made
+  pub makes-call : (ks ls cs os : List ℕ) → isCall j ≡ true → (takesBuffer j ≡ false → v ≡ w) → Did (callBy j f w) (modelBy j f w) d (left o ks ls cs os (cond (takesBuffer j) v []))
+      → Makes k f d w o (tables (o .state) ks ls cs os) v
+  makes-call ks ls cs os y s h = rw e (record { made = λ _. h; still = s; broken = λ n. absurd (clash y n) })
 
 -- one that isn't
-pub plays-unmade : (k j : Kind) (b : Tables) (w f : List ℕ) (t : Step) → k ≡ j → isMade j ≡ false → t ≡ record { line = idle j; anchors = 0; state = b .state }
-    → Plays k b w f t (tables (t .state) (b .keys) (b .links) (b .certs) (b .order)) w
-unfolding Plays
-plays-unmade k j b w f t e m g = rw (g, e) (λ n. absurd (clash n m), λ _. (refl, refl, refl, refl))
+pub makes-none : (k j : Kind) (f : List ℕ) (d : Tables) (w : List ℕ) (o : Outcome) → k ≡ j → isCall j ≡ false → o ≡ record { answer = Done; state = d .state }
+    → Makes k f d w o (tables (o .state) (d .keys) (d .links) (d .certs) (d .order)) w
+makes-none k j f d w o e n g = rw (g, e) (record { made = λ y. absurd (clash y n); still = λ _. refl; broken = λ _. (refl, refl, refl) })
+
+-- a part of bytes is bytes
+bytes-taken : (bs : List ℕ) (n p : ℕ) → ((q : ℕ) → getD bs q 0 < 256) → getD (take n bs) p 0 < 256
+bytes-taken bs n p h =
+    leOr n p
+    (λ l. rw (List·getD-eq-default (take n bs) 0 {n = p} (omega (arith, length-take n bs))) (omega arith))
+    (λ l. rw (getD-take n bs p 0 l) (h p))
+
+bytes-part : (bs : List ℕ) (a b : ℕ) → ((q : ℕ) → getD bs q 0 < 256) → (p : ℕ) → getD (part bs a b) p 0 < 256
+bytes-part bs a b h p = bytes-taken (drop a bs) (b - a) p (λ q. rw (getD-drop a bs q 0) (h _))
 
 -- the record that was found
-pub plays-head : (bs : List ℕ) (r h : Record) (b c : Tables) (w v : List ℕ) (t : Step) → r ≡ h → Plays (r .kind) b w (part bs (r .from) (r .end)) t c v → Plays (h .kind) b w (part bs (h .from) (h .end)) t c v
-plays-head bs r h b c w v t e p = rw (sym e) p
+pub plays-head : (bs : List ℕ) (p : ℕ) (r : Record) (d e : Tables) (w v : List ℕ) (o : Outcome) → r ≡ headAt bs p → Fit (d .keys) → Fit (d .links) → ((q : ℕ) → getD bs q 0 < 256)
+    → Makes (r .kind) (part bs (r .from) (r .end)) d w o e v → PlaysAt bs p d w o e v
+plays-head bs p r d e w v o g fk fl fb m = record {
+  makes = subst (λ (h : Record). Makes (h .kind) (part bs (h .from) (h .end)) d w o e v) g m;
+  words = (fk, fl);
+  bytes = bytes-part bs (headAt bs p .from) (headAt bs p .end) fb;
+}

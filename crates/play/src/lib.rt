@@ -1,6 +1,3 @@
 // Origin: none.
-// Plays recorded calls: reads a record, makes its call, and says what it answered.
-pub mod line;
+// Plays recorded calls: reads a record, makes its call, and says what the call answered.
 pub mod one;
-pub mod points;
-pub mod rounds;

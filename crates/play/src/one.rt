@@ -4,30 +4,42 @@ ghost use mathlib.Core.Path.{_≡_};
 ghost use mathlib.Core.Bool.{true};
 ghost use Prim.Native.Nat.{_<_, _≤_};
 ghost use lib.ListN.{length};
-ghost use Rattle.trace.specs.Head.{known, part, headAt};
+ghost use Rattle.trace.specs.Head.{known, headAt};
 ghost use Rattle.commit_answer.specs.Answer.{tables};
+ghost use Rattle.commit_answer.specs.declared.answer.Answer.the-variants as answers;
 ghost use Rattle.play.specs.Sized.{Sized};
-ghost use Rattle.play.specs.Plays.{Plays};
-use crate::line::Line;
-use crate::line::Step;
-use crate::line::unmade;
-use crate::points::play_certify;
-use crate::points::play_commit;
-use crate::points::play_name;
-use crate::points::play_resolve;
-use crate::rounds::play_drop;
-use crate::rounds::play_gap;
-use crate::rounds::play_reset;
-use crate::rounds::play_round;
-use crate::rounds::play_start;
+ghost use Rattle.play.specs.Plays.{Makes, PlaysAt};
+use commit_answer::answer::Answer;
+use commit_answer::answer::Outcome;
+use commit_rounds::is_once_after_gap;
+use commit_start::reset;
 use commit_state::state::State;
+use play_calls::points::play_certify;
+use play_calls::points::play_commit;
+use play_calls::points::play_name;
+use play_calls::points::play_resolve;
+use play_calls::rounds::play_drop;
+use play_calls::rounds::play_round;
+use play_calls::rounds::play_start;
 use trace::head::Kind;
 use trace::head::record_at;
 
-// What a record answered and left, and where the next record begins: for Broken, at the offset itself.
+// The kind of a record, what its call answered and the state after it, and where the next record begins: for Broken, at the offset
+// itself.
 pub struct Played {
-    pub step: Step,
+    pub kind: Kind,
+    pub outcome: Outcome,
     pub end: usize,
+}
+
+// What a record leaves whose call isn't made: the state stays.
+fn unmade(s: State) -> Outcome
+    ensures { λ r. ⌜ r ≡ record { answer = answers.Done; state = s } ⌝ }
+{
+    Outcome {
+        answer: Answer::Done,
+        state: s,
+    }
 }
 
 // Makes the call of a kind and its fields; b: the buffer that is lent to a call that takes one. A remove and an outlook are not made.
@@ -40,9 +52,9 @@ fn play_fields(
     order: &mut [u64],
     b: &mut [u8],
     f: &[u8],
-) -> Step
+) -> Outcome
     requires { ⌜ Sized kind (now f) ⌝ }
-    ensures { λ r. ⌜ Plays kind (tables s (now (keys .entry)) (now (links .entry)) (now (certs .entry)) (now (order .entry))) (now (b .entry)) (now (f .entry)) r
+    ensures { λ r. ⌜ Makes kind (now (f .entry)) (tables s (now (keys .entry)) (now (links .entry)) (now (certs .entry)) (now (order .entry))) (now (b .entry)) r
         (tables (r .state) (now (keys .exit)) (now (links .exit)) (now (certs .exit)) (now (order .exit))) (now (b .exit)) ⌝ }
 {
     match kind {
@@ -52,12 +64,12 @@ fn play_fields(
         Kind::Resolve => play_resolve(s, keys, links, certs, order, f),
         Kind::Certify => play_certify(s, keys, links, certs, order, f),
         Kind::Commit => play_commit(s, keys, links, certs, order, b, f),
-        Kind::Remove => unmade(Line::Unsupported, s),
+        Kind::Remove => unmade(s),
         Kind::Drop => play_drop(s, keys, links, certs, order, f),
-        Kind::Gap => play_gap(s, keys, links, certs, order),
-        Kind::Reset => play_reset(s, keys, links, certs, order),
-        Kind::Outlook => unmade(Line::Unsupported, s),
-        Kind::Broken => unmade(Line::Broken, s),
+        Kind::Gap => is_once_after_gap(s, keys, links, certs, order),
+        Kind::Reset => reset(s, keys, links, certs, order),
+        Kind::Outlook => unmade(s),
+        Kind::Broken => unmade(s),
     }
 }
 
@@ -74,14 +86,15 @@ pub fn play_one(
     at: usize,
 ) -> Played
     ensures end { λ r. ⌜ (r .end ≡ headAt (now (bytes .entry)) at .end) × (at ≤ r .end) × (at ≤ length (now (bytes .entry)) → r .end ≤ length (now (bytes .entry))) ⌝ }
-    ensures plays { λ r. ⌜ Plays (headAt (now (bytes .entry)) at .kind) (tables s (now (keys .entry)) (now (links .entry)) (now (certs .entry)) (now (order .entry))) (now (b .entry))
-        (part (now (bytes .entry)) (headAt (now (bytes .entry)) at .from) (headAt (now (bytes .entry)) at .end)) (r .step)
-        (tables (r .step .state) (now (keys .exit)) (now (links .exit)) (now (certs .exit)) (now (order .exit))) (now (b .exit)) ⌝ }
+    ensures kind { λ r. ⌜ r .kind ≡ headAt (now (bytes .entry)) at .kind ⌝ }
+    ensures plays { λ r. ⌜ PlaysAt (now (bytes .entry)) at (tables s (now (keys .entry)) (now (links .entry)) (now (certs .entry)) (now (order .entry))) (now (b .entry))
+        (r .outcome) (tables (r .outcome .state) (now (keys .exit)) (now (links .exit)) (now (certs .exit)) (now (order .exit))) (now (b .exit)) ⌝ }
     ensures moves { λ r. ⌜ (known (headAt (now (bytes .entry)) at .kind) ≡ true → at < r .end) ⌝ }
 {
     if bytes.len() < at {
         return Played {
-            step: unmade(Line::Broken, s),
+            kind: Kind::Broken,
+            outcome: unmade(s),
             end: at,
         };
     }
@@ -89,6 +102,6 @@ pub fn play_one(
     let kind = found.kind;
     let from = found.from;
     let end = found.end;
-    let step = play_fields(kind, s, keys, links, certs, order, b, &bytes[from..end]);
-    Played { step, end }
+    let outcome = play_fields(kind, s, keys, links, certs, order, b, &bytes[from..end]);
+    Played { kind, outcome, end }
 }

@@ -1,14 +1,30 @@
 // Origin: none.
 // The lines of committed anchors, from the records in an answer buffer.
 ghost use Prim.Native.Nat.{_+_, _*_, _≤_};
+ghost use mathlib.Core.Path.{_≡_};
 ghost use lib.ListN.{length};
+ghost use Rattle.spec.specs.Demand.{finished};
+ghost use Rattle.commit_answer.specs.Answer.{answerOf};
 use crate::lines::write;
 use crate::lines::write_digest;
 use crate::lines::write_number;
+use commit_answer::answer::Answer;
 use models::parts::PointId;
 use trace::anchors::AnchorHead;
 use trace::anchors::anchor_head;
 use trace::bytes::id_of;
+
+// The anchors that an answer hands out, or that were finished before a refusal.
+pub fn anchors_of(answer: Answer) -> u32
+    ensures { λ r. ⌜ r ≡ finished (answerOf answer) ⌝ }
+{
+    match answer {
+        Answer::Done => 0,
+        Answer::Flag(_said) => 0,
+        Answer::Anchors(n) => n,
+        Answer::Refused(_why, finished) => finished,
+    }
+}
 
 // An id after its name, with a mark between its parts.
 fn write_id(name: &[u8], id: PointId, mark: &[u8]) {

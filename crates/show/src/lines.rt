@@ -1,6 +1,8 @@
 // Origin: none.
 // The line of one call.
-use play::line::Line;
+use commit_answer::answer::Answer;
+use models::refusal::Refusal;
+use trace::head::Kind;
 
 pub fn write(text: &[u8]) {
     let _all = io::write_all(1, text);
@@ -26,35 +28,59 @@ pub fn write_digest(a: u64, b: u64, c: u64, d: u64) {
     let _all = io::print_hex(1, d, 16);
 }
 
-// The line of the record at an offset.
-pub fn write_line(line: Line, at: u64) {
-    match line {
-        Line::Ok => {
-            write(b"ok\n");
-        }
-        Line::Refused(n) => {
+// The line of a refusal: document 01's number, and the round of a history conflict.
+fn write_refusal(why: Refusal) {
+    match why {
+        Refusal::Number(n) => {
             write_numbered(b"refused ", n as u64);
         }
-        Line::Conflict(round) => {
-            write_numbered(b"refused 13 ", round as u64);
+        Refusal::Conflict(round) => {
+            write_numbered(b"refused 13 ", round.0 as u64);
         }
-        Line::GapYes => {
-            write(b"gap yes\n");
+    }
+}
+
+// The line of an answer; name: of the call, before a yes or a no.
+fn write_answer(name: &[u8], answer: Answer) {
+    match answer {
+        Answer::Done => {
+            write(b"ok\n");
         }
-        Line::GapNo => {
-            write(b"gap no\n");
+        Answer::Flag(said) => {
+            write(name);
+            if said {
+                write(b" yes\n");
+            } else {
+                write(b" no\n");
+            }
         }
-        Line::DropYes => {
-            write(b"drop yes\n");
+        Answer::Anchors(_n) => {
+            write(b"ok\n");
         }
-        Line::DropNo => {
-            write(b"drop no\n");
+        Answer::Refused(why, _finished) => {
+            write_refusal(why);
         }
-        Line::Unsupported => {
+    }
+}
+
+// The line of the record at an offset, by its kind and what its call answered. Of the calls that are made only the gap question and a drop
+// are answered by yes or no.
+pub fn write_line(kind: Kind, answer: Answer, at: u64) {
+    match kind {
+        Kind::Broken => {
+            write_numbered(b"broken record ", at);
+        }
+        Kind::Remove => {
             write(b"unsupported\n");
         }
-        Line::Broken => {
-            write_numbered(b"broken record ", at);
+        Kind::Outlook => {
+            write(b"unsupported\n");
+        }
+        Kind::Drop => {
+            write_answer(b"drop", answer);
+        }
+        _ => {
+            write_answer(b"gap", answer);
         }
     }
 }

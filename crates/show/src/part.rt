@@ -1,27 +1,21 @@
 // Origin: none.
 // Records played one after another.
-ghost use mathlib.Core.Path.{_≡_};
 ghost use Prim.Native.Nat.{_≤_};
 ghost use lib.ListN.{length};
 ghost use Rattle.commit_answer.specs.Answer.{tables};
-ghost use Rattle.show.specs.Runs.{Runs, Ends, leastLeft};
+ghost use Rattle.play.specs.Runs.{Runs, Ends};
+use crate::anchors::anchors_of;
 use crate::anchors::write_anchors;
 use crate::lines::write_line;
 use commit_state::state::State;
 use play::one::play_one;
+use trace::head::least_left;
 
 // The state after the records that were played, the offset of the first that was not, and whether that one is broken.
 pub struct Part {
     pub state: State,
     pub at: usize,
     pub broken: bool,
-}
-
-// How many bytes must be left for a record to be played: 4,100, the most that a record has, unless the bytes are the last.
-fn least_left(last: bool) -> usize
-    ensures { λ r. ⌜ r ≡ leastLeft last ⌝ }
-{
-    if last { 1 } else { 4100 }
 }
 
 // Plays the records of the bytes and writes their lines, until one is broken or too few bytes are left. b: the buffer that is lent to
@@ -48,13 +42,14 @@ pub fn play_part(
     let least = least_left(last);
     while least <= n - at {
         let played = play_one(now, keys, links, certs, order, b, bytes, at);
-        let step = played.step;
-        let line = step.line;
-        let next = step.state;
+        let kind = played.kind;
+        let outcome = played.outcome;
+        let answer = outcome.answer;
+        let next = outcome.state;
         let end = played.end;
         now = next;
-        write_anchors(b, step.anchors);
-        write_line(line, std::num::wrapping_add_u64(base, at as u64));
+        write_anchors(b, anchors_of(answer));
+        write_line(kind, answer, std::num::wrapping_add_u64(base, at as u64));
         if end <= at {
             broken = true;
             break;

@@ -1,4 +1,4 @@
--- Demand 3, the statement (01: 'Demand 3'). Its proof is in Proof.antt.
+-- Demand 3, the statement (01: 'Demand 3'). Its proof is in Demand3.antt.
 use Prim.Native.Nat.{ℕ, zero, suc, _+_, _-_, _*_, _^_, _<_, _≤_}
 use mathlib.Core.Path.{_≡_}
 use mathlib.Core.Logic.{_⊎_, _≢_, _↔_}

@@ -20,7 +20,7 @@ use Rattle.spec.specs.Paths.{Path, here, step, LinkedTo}
 use Rattle.spec.specs.Rules.{isPeer, placesOk}
 use Rattle.spec.specs.Chain.{Refusal, Out, bad, good, EnqueuedAnchor, orZero, anchorsOf}
 use Rattle.spec.specs.History.{limit, lowest, inHistory, history, recordBytes, testAnchor, dequeued, Finished, commitAll}
-use Rattle.spec.specs.Calls.{refused, Outcome, finish, StartArgs, startOk, memoryKept, doStart, begun, doResolve, commitEnd, doCommit, drained, newBottom, Call, start, resetAll, round, name, resolve, certify, gapQuestion, commit, outlook, remove, drop as dropTo, perform, call}
+use Rattle.spec.specs.Calls.{Outcome, finish, StartArgs, startOk, memoryKept, doStart, begun, doResolve, commitEnd, doCommit, drained, newBottom, Call, start, resetAll, round, name, resolve, certify, gapQuestion, commit, outlook, remove, drop as dropTo, perform, call}
 use Rattle.spec.specs.Graph.{snoc, path-down}
 use Rattle.spec.specs.Links.{down, linked}
 use Rattle.spec.specs.WellFormed.{Wf}
@@ -28,10 +28,10 @@ use Rattle.spec.specs.Order.{history-elim, history-named, history-once}
 use Rattle.spec.specs.Accepted.{finish-store, gapQuestion-way, remove-way, drop-way, round-way, name-way, resolve-way, certify-way}
 use Rattle.spec.specs.Demand.{InList, AllInList, History, readRecords, finished, wrote, histories, Given, accepted, gave, resolutions, Edge, Exact, AllExact, Writes, StartRefused, AsSaid, AllAsSaid, FirstHalf, Demand3}
 use Rattle.spec.specs.Demand3Second.{commit-is, second-half}
-use Rattle.spec.specs.Records.{Fits, Event, passed, bytesOf, commit-buffer, Readable, read-all, readAs}
+use Rattle.spec.specs.Records.{Fits, Event, passed, passedBy, bytesOf, commit-buffer, Readable, read-all, readAs}
 use Rattle.spec.specs.Preservation.{begun-kept, call-perform, start-begun, start-same, new-bottom}
 use Rattle.spec.specs.Invariant.{Inv, hist-paths, history-is}
-use Rattle.spec.specs.Demand3First.{ids, allIds, Right, AllRight, finishes, eventsOf, Keeps, call-keeps, outlook-store}
+use Rattle.spec.specs.Demand3First.{ids, allIds, Right, AllRight, finishesBy, commitBy, finishes, eventsOf, Keeps, call-keeps, outlook-store}
 use Rattle.spec.specs.Demand3Calls.{Frame, frame-mark, commit-keeps-all, anchorId, commit-writes, start-refused, perform-retains, begun-retains}
 use Rattle.spec.specs.Demand3Paths.{givenOf, given, Log, edge-down, path-under, edge-link, ids→places, places→ids, numbers-log, round-log, cert-log, mark-log, drain-log, name-log, res-log, res-first}
 
@@ -160,7 +160,7 @@ passed-from P k s left [] h e m = absurd (List·Memᴰ·not-nil m)
 passed-from P k s left (x ∷ xs) h e m = go (testAnchor s left (length (recordBytes s x)) (x .anchor)) m (λ n. passed-from P k (dequeued s x) (left - length (recordBytes s x)) xs (k s x h) e n)
   where
     evs : Out ℕ → List Event
-    evs o = elim o [ bad r ↦ [] | good a ↦ record { from = s; enq = x } ∷ passed (dequeued s x) (left - length (recordBytes s x)) xs ]
+    evs = passedBy s left x xs
 
     go : (o : Out ℕ) → List·Memᴰ e (evs o) → (List·Memᴰ e (passed (dequeued s x) (left - length (recordBytes s x)) xs) → P (e .from)) → P (e .from)
     go (bad r) n i = absurd (List·Memᴰ·not-nil n)
@@ -178,7 +178,7 @@ events-from P k s gapQuestion h e m = absurd (List·Memᴰ·not-nil m)
 events-from P k s (commit i b) h e m = go (anchorsOf s i) m
   where
     evs : Out (List EnqueuedAnchor) → List Event
-    evs o = elim o [ bad r ↦ [] | good es ↦ passed s (length b) es ]
+    evs = finishesBy s b
 
     go : (o : Out (List EnqueuedAnchor)) → List·Memᴰ e (evs o) → P (e .from)
     go (bad r) n = absurd (List·Memᴰ·not-nil n)
@@ -226,10 +226,10 @@ unfolding doCommit finishes finished
 wrote-commit s hs i b r = go (anchorsOf s i) r
   where
     evs : Out (List EnqueuedAnchor) → List Event
-    evs o = elim o [ bad r ↦ [] | good es ↦ passed s (length b) es ]
+    evs = finishesBy s b
 
     out : Out (List EnqueuedAnchor) → Outcome
-    out o = elim o [ bad r ↦ record { answer = refused r 0; store = s; buffer = b } | good es ↦ commitEnd (commitAll s b 0 0 es) ]
+    out = commitBy s b
 
     go : (o : Out (List EnqueuedAnchor)) → AllRight hs (evs o) → readRecords s (finished (out o .answer)) (out o .buffer) ≡ asHistories s (evs o)
     go (bad r) a = none-read s b
@@ -439,7 +439,7 @@ begun-inv n m b h = record {
   wf = begun-kept n m b h;
   firm = λ p k. absurd (false≢true k);
   closed = λ p q k. absurd (false≢true k);
-  resolution = λ p k. absurd (false≢true k);
+  handed = λ p k. absurd (false≢true k);
   held = λ x k. absurd (List·Memᴰ·not-nil k);
   wide = λ p k. absurd (false≢true k);
   order = omega arith;

@@ -22,9 +22,9 @@ use Rattle.spec.specs.Calls.{done, anchors, refused, Outcome, finish, St
 use Rattle.spec.specs.WellFormed.{Wf, countsAsStarted-intro}
 use Rattle.spec.specs.Accepted.{finish-store, gapQuestion-way, name-way, resolve-way, certify-way}
 use Rattle.spec.specs.Demand.{InList, History, readRecords, finished, testAfter, Stops, OneForEach, Writes, StartRefused, isDone, adds, drains, Retains}
-use Rattle.spec.specs.Records.{Event, passed, room-left, commit-buffer}
+use Rattle.spec.specs.Records.{Event, passed, finishedBy, passedBy, room-left, commit-buffer}
 use Rattle.spec.specs.Preservation.{start-same}
-use Rattle.spec.specs.Demand3First.{finishes, outlook-store}
+use Rattle.spec.specs.Demand3First.{finishesBy, commitBy, finishes, outlook-store}
 
 -- ---- what a commit keeps
 
@@ -43,10 +43,7 @@ commit-marks P k s b at n [] h = h
 commit-marks P k s b at n (e ∷ es) h = go (testAnchor s (length b - at) (length (recordBytes s e)) (e .anchor)) (λ b at n. commit-marks P k (dequeued s e) b at n es (k s e h))
   where
     fin : Out ℕ → Finished
-    fin o = elim o [
-      | bad r ↦ record { store = s; buffer = b; anchors = n; stopped = some r }
-      | good a ↦ commitAll (dequeued s e) (written b at (recordBytes s e)) (at + length (recordBytes s e)) (suc n) es
-    ]
+    fin = finishedBy s b at n e es
 
     go : (o : Out ℕ) → ((b : List ℕ) (at n : ℕ) → P (commitAll (dequeued s e) b at n es .store)) → P (fin o .store)
     go (bad r) i = h
@@ -119,13 +116,10 @@ cut s b at n (e ∷ es) = go (testAnchor s (length b - at) (length (recordBytes 
     left = length b - at
 
     fin : Out ℕ → Finished
-    fin o = elim o [
-      | bad r ↦ record { store = s; buffer = b; anchors = n; stopped = some r }
-      | good a ↦ commitAll (dequeued s e) (written b at vs) (at + length vs) (suc n) es
-    ]
+    fin = finishedBy s b at n e es
 
     evs : Out ℕ → List Event
-    evs o = elim o [ bad r ↦ [] | good a ↦ record { from = s; enq = e } ∷ passed (dequeued s e) (left - length vs) es ]
+    evs = passedBy s left e es
 
     go : (o : Out ℕ) → testAnchor s left (length vs) (e .anchor) ≡ o
         → ((b : List ℕ) (at n : ℕ) → Cut (dequeued s e) (length b - at) es (passed (dequeued s e) (length b - at) es) (commitAll (dequeued s e) b at n es .stopped))
@@ -171,10 +165,10 @@ unfolding doCommit finishes
 commit-writes s i b e = go (anchorsOf s i) e
   where
     evs : Out (List EnqueuedAnchor) → List Event
-    evs o = elim o [ bad r ↦ [] | good es ↦ passed s (length b) es ]
+    evs = finishesBy s b
 
     out : Out (List EnqueuedAnchor) → Outcome
-    out o = elim o [ bad r ↦ record { answer = refused r 0; store = s; buffer = b } | good es ↦ commitEnd (commitAll s b 0 0 es) ]
+    out = commitBy s b
 
     go : (o : Out (List EnqueuedAnchor)) → anchorsIn s (out o) ≡ map anchorId (evs o) → Writes s b o (out o)
     go (bad r) e = refl

@@ -4,7 +4,6 @@ use mathlib.Core.Path.{_≡_, refl, sym, _∙_, subst, ap}
 use mathlib.Core.Logic.{_≢_, ⊎-elim}
 use mathlib.Core.Bool.{true, false≢true}
 use mathlib.Core.List.{List, [], _∷_, _++_, append-assoc, append-nil, List·Memᴰ}
-use mathlib.Core.Option.{some}
 use lib.ListN.{length}
 use native.Mathlib.Omega.{arith}
 use native.Mathlib.Nat.{le-trans, sub-zero}
@@ -25,7 +24,7 @@ use Rattle.spec.specs.Order.{history-named}
 use Rattle.spec.specs.Walk.{find-some, Anchored, Rising, rising-less, Tested, test-good}
 use Rattle.spec.specs.Accepted.{finish-store, gapQuestion-way, remove-way, drop-way, round-way, Naming, name-way, Resolving, resolve-way, certify-way}
 use Rattle.spec.specs.Demand.{InList}
-use Rattle.spec.specs.Records.{Event, passed, room-left}
+use Rattle.spec.specs.Records.{Event, passed, finishedBy, passedBy, room-left}
 use Rattle.spec.specs.Preservation.{name-at, name-off, name-link, name-kept, round-kept, res-kept, cert-kept, drain-kept, numbers-kept, rising-mark, anchors-rising, start-same, new-bottom}
 use Rattle.spec.specs.Invariant.{Inv, floor, Next, mark-inv}
 
@@ -38,7 +37,7 @@ numbers-inv s p m hs a b v = record {
   wf = numbers-kept s p m (v .wf);
   firm = v .firm;
   closed = λ x y d e l. v .closed x y d e (subst (λ o. max (limit (s .conf) (orZero o)) (s .bottom) ≤ roundAt s y) a l);
-  resolution = v .resolution;
+  handed = v .handed;
   held = v .held;
   wide = v .wide;
   order = subst (λ o. orZero o ≤ orZero (p .lastProof)) (sym a) (subst (λ o. orZero (s .progress .lastAnchor) ≤ orZero o) (sym b) (v .order));
@@ -46,7 +45,7 @@ numbers-inv s p m hs a b v = record {
 
 round-inv : (s : Store) (peers : ℕ) (hs : List Id) → suc (s .top) ≤ lastRound → suc (s .top) - s .bottom < 512 → Inv s hs → Inv (addRound s peers) hs
 unfolding addRound
-round-inv s peers hs a b v = record { wf = round-kept s (v .wf) peers a b; firm = v .firm; closed = v .closed; resolution = v .resolution; held = v .held; wide = v .wide; order = v .order }
+round-inv s peers hs a b v = record { wf = round-kept s (v .wf) peers a b; firm = v .firm; closed = v .closed; handed = v .handed; held = v .held; wide = v .wide; order = v .order }
 
 module _ (s : Store) (i : Id) (t : Store) (n : Naming s i t) (hs : List Id) (v : Inv s hs) (fits : i .digest < 256 ^ 32) where
   abbrev q : ℕ
@@ -84,7 +83,7 @@ module _ (s : Store) (i : Id) (t : Store) (n : Naming s i t) (hs : List Id) (v :
     wf = name-kept s (v .wf) i (n .place) (n .inside) (n .unused) (n .id .low) (n .id .high) (n .new) (n .id .peer) (n .few);
     firm = λ p h. subst (λ (x : Point). resolved x ≡ true) (sym (off p (old p h))) (v .firm p (subst (λ (x : Point). x .flags .committed ≡ true) (off p (old p h)) h));
     closed = λ p x h e l. closed p x h (name-link s (v .wf) i (n .place) (n .inside) (n .unused) (n .id .low) (n .id .high) (n .new) p x e) l;
-    resolution = λ p h. subst (λ (x : Point). List·Memᴰ (x .id) hs) (sym (off p (old p h))) (v .resolution p (subst (λ (x : Point). x .flags .committed ≡ true) (off p (old p h)) h));
+    handed = λ p h. subst (λ (x : Point). List·Memᴰ (x .id) hs) (sym (off p (old p h))) (v .handed p (subst (λ (x : Point). x .flags .committed ≡ true) (off p (old p h)) h));
     held = λ x m b. held x (v .held x m (subst (λ k. k ≤ x .round) same-bottom b));
     wide = λ p h. wide p h (ℕ-discrete p (n .place));
     order = same-order;
@@ -118,7 +117,7 @@ module _ (s : Store) (i : Id) (resolution : Resolution) (t : Store) (r : Resolvi
     wf = res-kept s (v .wf) (r .place) resolution (find-some s i (r .place) (r .found) .named) (r .late) (r .formed) (r .tame);
     firm = res-firm;
     closed = λ p x h e l. v .closed p x h (res-before p x h e) l;
-    resolution = v .resolution;
+    handed = v .handed;
     held = v .held;
     wide = v .wide;
     order = v .order;
@@ -126,7 +125,7 @@ module _ (s : Store) (i : Id) (resolution : Resolution) (t : Store) (r : Resolvi
 
 cert-inv : (s : Store) (q : ℕ) (hs : List Id) → s .pt q .named ≡ true → Inv s hs → Inv (certifyAt s q) hs
 unfolding certifyAt withPathHeights withPoints setTop linksTo resolved
-cert-inv s q hs n v = record { wf = cert-kept s (v .wf) q n; firm = v .firm; closed = v .closed; resolution = v .resolution; held = v .held; wide = v .wide; order = v .order }
+cert-inv s q hs n v = record { wf = cert-kept s (v .wf) q n; firm = v .firm; closed = v .closed; handed = v .handed; held = v .held; wide = v .wide; order = v .order }
 
 module _ (s : Store) (b : ℕ) (up : s .bottom ≤ b) (under : b ≤ s .top) (hs : List Id) (v : Inv s hs) where
   -- a committed point that is there after stands as it did
@@ -154,7 +153,7 @@ module _ (s : Store) (b : ℕ) (up : s .bottom ≤ b) (under : b ≤ s .top) (hs
     firm = λ p h. subst (λ (x : Point). resolved x ≡ true) (sym (drain-kept-point p h)) (v .firm p (subst (λ (x : Point). x .flags .committed ≡ true) (drain-kept-point p h) h));
     closed = λ p q h e l. let k = drain-was s b q (linked _ _ e .named-is) .0 in
         subst (λ (x : Point). x .flags .committed ≡ true) (sym k) (v .closed p q (subst (λ (x : Point). x .flags .committed ≡ true) (drain-kept-point p h) h) (drain-link s b p q e) (le-trans floor-up (subst (λ (x : Point). floor (drained s b) ≤ x .id .round) k l)));
-    resolution = λ p h. subst (λ (x : Point). List·Memᴰ (x .id) hs) (sym (drain-kept-point p h)) (v .resolution p (subst (λ (x : Point). x .flags .committed ≡ true) (drain-kept-point p h) h));
+    handed = λ p h. subst (λ (x : Point). List·Memᴰ (x .id) hs) (sym (drain-kept-point p h)) (v .handed p (subst (λ (x : Point). x .flags .committed ≡ true) (drain-kept-point p h) h));
     held = λ x m l. held x (subst (λ k. k ≤ x .round) drain-bottom l) (v .held x m (le-trans up (subst (λ k. k ≤ x .round) drain-bottom l)));
     wide = λ p h. let k = drain-was s b p h .0 in subst (λ (x : Point). x .id .digest < 256 ^ 32) (sym k) (v .wide p (subst (λ (x : Point). x .named ≡ true) k h));
     order = drain-order;
@@ -238,13 +237,10 @@ commit-right s hs b at n (e ∷ es) v r = go (testAnchor s (length b - at) (leng
     vs = recordBytes s e
 
     fin : Out ℕ → Finished
-    fin o = elim o [
-      | bad r ↦ record { store = s; buffer = b; anchors = n; stopped = some r }
-      | good a ↦ commitAll (dequeued s e) (written b at vs) (at + length vs) (suc n) es
-    ]
+    fin = finishedBy s b at n e es
 
     evs : Out ℕ → List Event
-    evs o = elim o [ bad r ↦ [] | good a ↦ record { from = s; enq = e } ∷ passed (dequeued s e) (length b - at - length vs) es ]
+    evs = passedBy s (length b - at) e es
 
     go : (o : Out ℕ) → testAnchor s (length b - at) (length vs) (e .anchor) ≡ o
         → ((hs : List Id) (b : List ℕ) (at n : ℕ) → Inv (dequeued s e) hs → Rising (dequeued s e) (lowestWalked (dequeued s e)) es
@@ -266,9 +262,16 @@ commit-right s hs b at n (e ∷ es) v r = go (testAnchor s (length b - at) (leng
 
 -- ---- all calls
 
+-- the anchors that a commit finishes, and what it leaves, by its walk
+abbrev pub finishesBy : Store → List ℕ → Out (List EnqueuedAnchor) → List Event
+finishesBy s b o = elim o [ bad r ↦ [] | good es ↦ passed s (length b) es ]
+
+abbrev pub commitBy : Store → List ℕ → Out (List EnqueuedAnchor) → Outcome
+commitBy s b o = elim o [ bad r ↦ record { answer = refused r 0; store = s; buffer = b } | good es ↦ commitEnd (commitAll s b 0 0 es) ]
+
 -- the anchors that a call finishes
 unfoldable pub finishes : Store → Id → List ℕ → List Event
-finishes s i b = elim (anchorsOf s i) [ bad r ↦ [] | good es ↦ passed s (length b) es ]
+finishes s i b = finishesBy s b (anchorsOf s i)
 
 unfoldable pub eventsOf : Store → Call → List Event
 eventsOf s c = elim c [ start b ↦ [] | resetAll ↦ [] | round r peers ↦ [] | name i ↦ [] | resolve i t ↦ [] | certify i ↦ [] | gapQuestion ↦ [] | commit i b ↦ finishes s i b | outlook i b ↦ [] | remove r from b ↦ [] | drop r ↦ [] ]
@@ -287,10 +290,10 @@ unfolding finishes doCommit commitEnd
 commit-keeps s i b hs v = go (anchorsOf s i) refl
   where
     evs : Out (List EnqueuedAnchor) → List Event
-    evs o = elim o [ bad r ↦ [] | good es ↦ passed s (length b) es ]
+    evs = finishesBy s b
 
     out : Out (List EnqueuedAnchor) → Outcome
-    out o = elim o [ bad r ↦ record { answer = refused r 0; store = s; buffer = b } | good es ↦ commitEnd (commitAll s b 0 0 es) ]
+    out = commitBy s b
 
     go : (o : Out (List EnqueuedAnchor)) → anchorsOf s i ≡ o → AllRight hs (evs o) × Inv (out o .store) (hs ++ allIds (evs o))
     go (bad r) e = (tt, plain hs s v)

@@ -102,8 +102,8 @@ abbrev fourth : List Call
 fourth = twelve ++ (name (id 11 0 1) ∷ name (id 11 0 2) ∷ name (id 11 0 3) ∷ name (id 11 0 4) ∷ [])
 
 -- the point 12.1 resolved with this
-abbrev resolution : Resolution → List ℕ
-resolution t = answer 4 named (resolve (id 12 1 121) t)
+abbrev resolvedWith : Resolution → List ℕ
+resolvedWith t = answer 4 named (resolve (id 12 1 121) t)
 
 abbrev points : List Row
 points =
@@ -125,20 +125,20 @@ points =
     ∷ row 15 (answer 4 named (certify (id 12 1 121))) (0 ∷ [])
     ∷ row 16 (answer 4 (named ++ (resolve (id 12 1 121) (gave 5 [] []) ∷ [])) (resolve (id 12 1 121) (gave 9 [] []))) (stop 10)
     -- 11
-    ∷ row 17 (resolution (gave 0 [] [])) (stop 11)
-    ∷ row 18 (resolution (gave 6 [] [])) (stop 11)
-    ∷ row 19 (resolution (gave 1 (ref 1 5 ∷ ref 0 110 ∷ []) [])) (stop 11)
-    ∷ row 20 (resolution (gave 1 (ref 0 110 ∷ ref 0 110 ∷ []) [])) (stop 11)
-    ∷ row 21 (resolution (gave 1 (ref 0 110 ∷ ref 32 5 ∷ []) [])) (stop 11)
-    ∷ row 22 (resolution (gave 4 (ref 0 110 ∷ []) [])) (stop 11)
-    ∷ row 23 (resolution (gave 3 (ref 0 110 ∷ []) [])) (0 ∷ [])
-    ∷ row 24 (resolution (record { status = 5; proof = true; trigger = true; cause = true; topProof = id 10 31 0; evidence = 0; includes = []; witness = [] })) (0 ∷ [])
-    ∷ row 25 (resolution (record { status = 5; proof = true; trigger = true; cause = true; topProof = id 10 32 0; evidence = 0; includes = []; witness = [] })) (stop 11)
-    ∷ row 26 (resolution (record { status = 5; proof = false; trigger = false; cause = false; topProof = id 10 0 0; evidence = 1; includes = []; witness = [] })) (stop 11)
+    ∷ row 17 (resolvedWith (gave 0 [] [])) (stop 11)
+    ∷ row 18 (resolvedWith (gave 6 [] [])) (stop 11)
+    ∷ row 19 (resolvedWith (gave 1 (ref 1 5 ∷ ref 0 110 ∷ []) [])) (stop 11)
+    ∷ row 20 (resolvedWith (gave 1 (ref 0 110 ∷ ref 0 110 ∷ []) [])) (stop 11)
+    ∷ row 21 (resolvedWith (gave 1 (ref 0 110 ∷ ref 32 5 ∷ []) [])) (stop 11)
+    ∷ row 22 (resolvedWith (gave 4 (ref 0 110 ∷ []) [])) (stop 11)
+    ∷ row 23 (resolvedWith (gave 3 (ref 0 110 ∷ []) [])) (0 ∷ [])
+    ∷ row 24 (resolvedWith (record { status = 5; proof = true; trigger = true; cause = true; topProof = id 10 31 0; evidence = 0; includes = []; witness = [] })) (0 ∷ [])
+    ∷ row 25 (resolvedWith (record { status = 5; proof = true; trigger = true; cause = true; topProof = id 10 32 0; evidence = 0; includes = []; witness = [] })) (stop 11)
+    ∷ row 26 (resolvedWith (record { status = 5; proof = false; trigger = false; cause = false; topProof = id 10 0 0; evidence = 1; includes = []; witness = [] })) (stop 11)
     -- 12, after 11; no test below the bottom
-    ∷ row 27 (resolution (gave 1 (ref 1 5 ∷ []) [])) (stop 12)
-    ∷ row 28 (resolution (gave 1 (ref 0 110 ∷ []) (ref 1 5 ∷ []))) (stop 12)
-    ∷ row 29 (resolution (gave 6 (ref 1 5 ∷ []) [])) (stop 11)
+    ∷ row 27 (resolvedWith (gave 1 (ref 1 5 ∷ []) [])) (stop 12)
+    ∷ row 28 (resolvedWith (gave 1 (ref 0 110 ∷ []) (ref 1 5 ∷ []))) (stop 12)
+    ∷ row 29 (resolvedWith (gave 6 (ref 1 5 ∷ []) [])) (stop 11)
     ∷ row 30 (answer 4 named (resolve (id 11 0 110) (gave 1 [] (ref 1 5 ∷ [])))) (0 ∷ [])
     ∷ row 31 (answer 4 (start (begin (confOf 0 2 5) 0 none) ∷ round 1 3 ∷ name (id 1 0 1) ∷ []) (resolve (id 1 0 1) (gave 1 [] (ref 0 5 ∷ [])))) (stop 11)
     ∷ row 32 (answer 4 (start (begin (confOf 0 2 5) 0 none) ∷ name (id 0 0 1) ∷ []) (resolve (id 0 0 1) (gave 1 (ref 0 5 ∷ []) []))) (stop 11)

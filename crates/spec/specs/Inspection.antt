@@ -654,9 +654,9 @@ total-most s w a (v ∷ vs) n t few h =
     (total-most s w a vs (n + 128) (merge t (v .round) c) (λ u m. few u (List·Memᴰ·tail m)) (merge-most n t (v .round) c h k))
 
 -- "Counts always fit": at most 511 rounds are drained, so each counter of a remove's answer is at most 511 * 128
-pub countsAsStarted-fit : (s : Store) → Wf s → length (s .memory .entries) ≤ 128 → (b : ℕ) → b ≤ s .top → (from : Option ℕ) (a : ℕ) → StatsMost 65_408 (statsOf s b from a)
+pub counts-fit : (s : Store) → Wf s → length (s .memory .entries) ≤ 128 → (b : ℕ) → b ≤ s .top → (from : Option ℕ) (a : ℕ) → StatsMost 65_408 (statsOf s b from a)
 unfolding statsOf
-countsAsStarted-fit s w l b h from a =
+counts-fit s w l b h from a =
     stats-more (0 + length vs * 128) 65_408 (total s a vs none) (omega (arith, w .few, shown-length s b, keep-length picks (shown s b)))
     (total-most s w a vs 0 none few tt)
   where
@@ -673,4 +673,4 @@ countsAsStarted-fit s w l b h from a =
 
 -- the same for the bottom that a remove moves to
 pub remove-fits : (s : Store) → Wf s → length (s .memory .entries) ≤ 128 → (r : ℕ) (from : Option ℕ) (a : ℕ) → StatsMost 65_408 (statsOf s (newBottom s r) from a)
-remove-fits s w l r from a = countsAsStarted-fit s w l (newBottom s r) (new-bottom s w r .1) from a
+remove-fits s w l r from a = counts-fit s w l (newBottom s r) (new-bottom s w r .1) from a

@@ -32,7 +32,7 @@ pub record Inv (s : Store) (hs : List Id) : Type 0 where
   pub firm : (p : ℕ) → s .pt p .flags .committed ≡ true → resolved (s .pt p) ≡ true
   pub closed : (p q : ℕ) → s .pt p .flags .committed ≡ true → LinkedTo s p q → floor s ≤ roundAt s q → s .pt q .flags .committed ≡ true
   -- a retained point is committed exactly if a history held it
-  pub resolution : (p : ℕ) → s .pt p .flags .committed ≡ true → List·Memᴰ (idAt s p) hs
+  pub handed : (p : ℕ) → s .pt p .flags .committed ≡ true → List·Memᴰ (idAt s p) hs
   pub held : (x : Id) → List·Memᴰ x hs → s .bottom ≤ x .round → (p : ℕ) × (s .pt p .flags .committed ≡ true) × (idAt s p ≡ x)
   -- digests have 32 bytes
   pub wide : (p : ℕ) → s .pt p .named ≡ true → idAt s p .digest < 256 ^ 32
@@ -127,7 +127,7 @@ module _ (s : Store) (hs : List Id) (i : Inv s hs) (a : ℕ) (n : Next s a) wher
       from (q, e, w, l, old) = Memᴰ·cast (sym e) (history-intro s (i .wf) a (n .there) q (hist-paths q .1 (w, subst (λ (y : Id). lowest s a ≤ y .round) (sym e) l, fresh (yes-or-no _))))
         where
           fresh : (s .pt q .flags .committed ≡ true) ⊎ (s .pt q .flags .committed ≡ false) → s .pt q .flags .committed ≡ false
-          fresh (inl d) = absurd (old (Memᴰ·cast (sym e) (i .resolution q d)))
+          fresh (inl d) = absurd (old (Memᴰ·cast (sym e) (i .handed q d)))
           fresh (inr d) = d
 
 -- one anchor's commit keeps what every store satisfies
@@ -141,7 +141,7 @@ module _ (s : Store) (hs : List Id) (i : Inv s hs) (e : EnqueuedAnchor) (ok : An
     wf = mark-kept s (i .wf) e ok c;
     firm = λ p d. firm p (or-cases _ _ d);
     closed = λ p q d k l. closed p q (or-cases _ _ d) k l;
-    resolution = λ p d. resolution p (or-cases _ _ d);
+    handed = λ p d. handed p (or-cases _ _ d);
     held = λ x m b. held x b (List·Memᴰ·append-cases hs m);
     wide = i .wide;
     order = omega (arith, ok .above);
@@ -162,9 +162,9 @@ module _ (s : Store) (hs : List Id) (i : Inv s hs) (e : EnqueuedAnchor) (ok : An
           go (inr d) = or-l (inHistory s (e .anchor) q) _ (paths q .1 (snoc (paths p .0 h .0) k, l, d))
       closed p q (inr d) k l = or-r (inHistory s (e .anchor) q) _ (i .closed p q d k (le-trans (floor-low s (e .anchor) (n .later)) l))
 
-      resolution : (p : ℕ) → (inHistory s (e .anchor) p ≡ true) ⊎ (s .pt p .flags .committed ≡ true) → List·Memᴰ (idAt s p) (hs ++ history s (e .anchor))
-      resolution p (inl h) = Memᴰ·append-right hs (history-intro s (i .wf) (e .anchor) (n .there) p h)
-      resolution p (inr d) = Memᴰ·append-left (history s (e .anchor)) (i .resolution p d)
+      handed : (p : ℕ) → (inHistory s (e .anchor) p ≡ true) ⊎ (s .pt p .flags .committed ≡ true) → List·Memᴰ (idAt s p) (hs ++ history s (e .anchor))
+      handed p (inl h) = Memᴰ·append-right hs (history-intro s (i .wf) (e .anchor) (n .there) p h)
+      handed p (inr d) = Memᴰ·append-left (history s (e .anchor)) (i .handed p d)
 
       held : (x : Id) → s .bottom ≤ x .round → List·Memᴰ x hs ⊎ List·Memᴰ x (history s (e .anchor)) → (p : ℕ) × ((inHistory s (e .anchor) p || s .pt p .flags .committed) ≡ true) × (idAt s p ≡ x)
       held x b (inl m) = let (p, d, k) = i .held x m b in (p, or-r (inHistory s (e .anchor) p) _ d, k)

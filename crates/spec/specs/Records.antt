@@ -167,6 +167,16 @@ take-more b at vs l =
 pub room-left : (b at n size : ℕ) → n ≡ b → b - at - size ≡ n - (at + size)
 room-left b at n size e = omega arith
 
+-- what a commit ends with, and what passes, by the tests of its first anchor
+abbrev pub finishedBy : Store → List ℕ → ℕ → ℕ → EnqueuedAnchor → List EnqueuedAnchor → Out ℕ → Finished
+finishedBy s b at n e es o = elim o [
+  | bad r ↦ record { store = s; buffer = b; anchors = n; stopped = some r }
+  | good a ↦ commitAll (dequeued s e) (written b at (recordBytes s e)) (at + length (recordBytes s e)) (suc n) es
+]
+
+abbrev pub passedBy : Store → ℕ → EnqueuedAnchor → List EnqueuedAnchor → Out ℕ → List Event
+passedBy s left e es o = elim o [ bad r ↦ [] | good a ↦ record { from = s; enq = e } ∷ passed (dequeued s e) (left - length (recordBytes s e)) es ]
+
 -- the buffer after a commit: what stood before `at`, the records of the finished anchors, and a rest; and how many were finished
 pub commit-buffer : (s : Store) (b : List ℕ) (at n : ℕ) (es : List EnqueuedAnchor) → at ≤ length b
     → (rest : List ℕ) × (commitAll s b at n es .buffer ≡ take at b ++ (joined bytesOf (passed s (length b - at) es) ++ rest)) × (commitAll s b at n es .anchors ≡ n + length (passed s (length b - at) es))
@@ -178,13 +188,10 @@ commit-buffer s b at n (e ∷ es) l = go (testAnchor s (length b - at) (length (
     vs = recordBytes s e
 
     fin : Out ℕ → Finished
-    fin o = elim o [
-      | bad r ↦ record { store = s; buffer = b; anchors = n; stopped = some r }
-      | good a ↦ commitAll (dequeued s e) (written b at vs) (at + length vs) (suc n) es
-    ]
+    fin = finishedBy s b at n e es
 
     evs : Out ℕ → List Event
-    evs o = elim o [ bad r ↦ [] | good a ↦ record { from = s; enq = e } ∷ passed (dequeued s e) (length b - at - length vs) es ]
+    evs = passedBy s (length b - at) e es
 
     go : (o : Out ℕ) → testAnchor s (length b - at) (length vs) (e .anchor) ≡ o
         → ((b : List ℕ) (at n : ℕ) → at ≤ length b

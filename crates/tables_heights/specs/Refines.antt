@@ -8,7 +8,7 @@ use native.Mathlib.Omega.{arith}
 use native.Mathlib.Nat.{le-antisymm}
 use lib.Dec.{eqb}
 use lib.ListN.{getD, length, length-replicate, getD-replicate}
-use borrow.Author.Tests.{eqb-true, eqb-false, eq-eqb}
+use borrow.Author.Tests.{eqb-true, eq-eqb}
 use Rattle.laws.specs.Test.{byTest, clash, zero-or-more}
 use Rattle.laws.specs.Scan.{any, any-intro, any-elim, every-elim, every-intro}
 use Rattle.spec.specs.Paths.{Path, IsHeight}

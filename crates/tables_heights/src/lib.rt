@@ -8,6 +8,7 @@ ghost use Rattle.tables_heights.specs.Model.{raised, pushed, pushedOne, 
 ghost use Rattle.models.specs.Cert.{heightOf};
 ghost use Rattle.models.specs.Tables.{Inside, targetAt};
 use models::cert::Cert;
+use models::dag_point::Resolved;
 use models::parts::Height;
 use models::parts::Round;
 
@@ -52,18 +53,21 @@ pub fn live_links(keys: &[u64], bottom: Round, q: usize) -> usize
     ensures { λ r. ⌜ r ≡ reach (bottom .0) (now (keys .entry)) q ⌝ }
     ensures { λ r. ⌜ r ≤ 64 ⌝ }
 {
-    if keys[q * 8 + 6] == 0 {
-        return 0;
+    let case = dag_round_keys::case_at(keys, q);
+    match case {
+        Resolved::Nothing => 0,
+        Resolved::Case(_) => {
+            let r = keys[q * 8 + 0];
+            let b = bottom.0 as u64;
+            if r < b + 1 {
+                return 0;
+            }
+            if r < b + 2 {
+                return 32;
+            }
+            64
+        }
     }
-    let r = keys[q * 8 + 0];
-    let b = bottom.0 as u64;
-    if r < b + 1 {
-        return 0;
-    }
-    if r < b + 2 {
-        return 32;
-    }
-    64
 }
 
 // The height of a top for a top, else 0.

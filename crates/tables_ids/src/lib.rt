@@ -8,6 +8,7 @@ ghost use lib.Dec.{ltb};
 ghost use Rattle.tables_ids.specs.Model.{cellOf, cellAt, counted, versionsHold, Tallied};
 ghost use Rattle.models.specs.Tables.{placeAt, Inside};
 ghost use Rattle.tables_ids.specs.Ids.{idHolds};
+use models::parts::Round;
 use models::parts::has_peer;
 
 // The cell that a round and an author count in.
@@ -63,13 +64,13 @@ pub fn versions_hold(keys: &[u64], order: &[u64], n: usize) -> bool
 }
 
 // Whether a point of this round and author may stand in a table of the rounds from bottom to top; peers: the peers of its round.
-pub fn id_holds(round: u64, author: u64, bottom: u32, top: u32, peers: u32) -> bool
-    ensures { λ r. ⌜ r ≡ idHolds round author bottom top peers ⌝ }
+pub fn id_holds(round: u64, author: u64, bottom: Round, top: Round, peers: u32) -> bool
+    ensures { λ r. ⌜ r ≡ idHolds round author (bottom .0) (top .0) peers ⌝ }
 {
-    if round < bottom as u64 {
+    if round < bottom.0 as u64 {
         return false;
     }
-    if (top as u64) < round {
+    if (top.0 as u64) < round {
         return false;
     }
     if 31 < author {

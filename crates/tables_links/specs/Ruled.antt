@@ -49,7 +49,7 @@ module _ (ks ls : List ℕ) (q : ℕ) (status : statusAt ks q ≤ 5) where
       (λ a. absurd (let u = r .links k (omega arith) l a .0 in omega arith)))))
       (λ f. by-full ks ls q _ (omega arith) (omega arith) ∙ every-intro 64 _ (λ k l. leOr (targetAt ls q k) 0
       (λ a. empty-more ls q (reach 0 ks q) k (omega arith))
-      (λ a. let u = r .links k (omega arith) l a .1 in empty-below ls q (reach 0 ks q) k (reach-live 0 ks q k .1 (omega arith, l, omega arith))))))
+      (λ a. let u = r .links k (omega arith) l a .1 in empty-below ls q (reach 0 ks q) k (reach-live 0 ks q k .1 (omega arith, l, omega arith, status))))))
 
   -- sound and complete, of a status that 01 has
   pub bare-exact : (bareAt ks ls q ≡ true) ↔ Bare ks ls q

@@ -57,15 +57,15 @@ module _ (b n : ℕ) (ks ls cs os : List ℕ) (sorted : Sorted ks os n) (right :
   one-target p k q x u v m l =
       one-place q x u v (omega (arith, m .falls, l .falls)) (m .digest ∙ sym (l .digest))
 
-  pub edge-elim : (p q : ℕ) → Used os n p → Used os n q → linksTo (pointAt ks ls cs p) (pointAt ks ls cs q) ≡ true → Leads b ks ls os n p q
+  pub edge-elim : (p q : ℕ) → Used os n p → Used os n q → statusAt ks p ≤ 5 → linksTo (pointAt ks ls cs p) (pointAt ks ls cs q) ≡ true → Leads b ks ls os n p q
   unfolding linksTo pointAt
-  edge-elim p q u v h =
+  edge-elim p q u v fine h =
       let st : 0 < statusAt ks p = ltb-true _ _ (sym (resolved-is ks ls cs p) ∙ and-l _ _ h) in
       let g = subst (λ x. has (fits (roundAt ks p) (idOf q)) x ≡ true) (links-seen ks ls cs p st) (and-r true _ (and-r (resolved (pointAt ks ls cs p)) _ h)) in
       let (l, m, f) = has-elim (fits (roundAt ks p) (idOf q)) _ g in
       let (k, small, t, e) = links-elim ls p l m in
       let named : Names ks ls p k q = fits-names p k q (subst (λ x. fits (roundAt ks p) (idOf q) x ≡ true) e f) in
-      let live : Live b ks p k = (st, small, omega (arith, named .falls, low q v)) in
+      let live : Live b ks p k = (st, small, omega (arith, named .falls, low q v), fine) in
       let (x, w, a, names) = right p k u live t in
       record { from = u; which = k; live = reach-live b ks p k .1 live; to = a ∙ ap suc (one-target p k x q w v names named) }
 

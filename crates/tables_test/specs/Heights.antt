@@ -15,7 +15,7 @@ use Rattle.spec.specs.Links.{resolved-named}
 use Rattle.spec.specs.HeightEquations.{Sized, height-is}
 use Rattle.models.specs.Digest.{Fit}
 use Rattle.models.specs.Cert.{flagsOf}
-use Rattle.models.specs.Tables.{roundAt, Used}
+use Rattle.models.specs.Tables.{roundAt, statusAt, Used}
 use Rattle.dag_round_keys.specs.Sorted.{Sorted}
 use Rattle.tables_heights.specs.View.{heightAt}
 use Rattle.tables_heights.specs.Refines.{Leads, Top, Heights}
@@ -35,7 +35,7 @@ height-move {r = r} {s = s} {H = H} {p = p} {m = m} f g t u e h = record {
     same : (x : ℕ) → r x ≡ s x → heightFrom H r x p ≡ heightFrom H s x p
     same x d = rw (d, e) refl
 
-module _ (b n : ℕ) (ks ls cs os : List ℕ) (sorted : Sorted ks os n) (right : Links b ks ls os n) (low : (q : ℕ) → Used os n q → b ≤ roundAt ks q) (fk : Fit ks) (fl : Fit ls)
+module _ (b n : ℕ) (ks ls cs os : List ℕ) (sorted : Sorted ks os n) (right : Links b ks ls os n) (low : (q : ℕ) → Used os n q → b ≤ roundAt ks q) (fine : (q : ℕ) → Used os n q → statusAt ks q ≤ 5) (fk : Fit ks) (fl : Fit ls)
     (v : Store) (sized : Sized v) (sees : (q : ℕ) → v .pt q ≡ seenAt ks ls cs os n q) where
   -- a used place is a named one
   pub named-used : (q : ℕ) → v .pt q .named ≡ true → Used os n q
@@ -58,7 +58,7 @@ module _ (b n : ℕ) (ks ls cs os : List ℕ) (sorted : Sorted ks os n) (right :
   link-elim p q h =
       let u : Used os n p = named-used p (resolved-named (v .pt p) (and-l _ _ h)) in
       let w : Used os n q = named-used q (and-l _ _ (and-r (resolved (v .pt p)) _ h)) in
-      edge-elim b n ks ls cs os sorted right low fk fl p q u w (ap₂ linksTo (sym (used-point p u)) (sym (used-point q w)) ∙ h)
+      edge-elim b n ks ls cs os sorted right low fk fl p q u w (fine p u) (ap₂ linksTo (sym (used-point p u)) (sym (used-point q w)) ∙ h)
 
   pub link-intro : (p q : ℕ) → Leads b ks ls os n p q → LinkedTo v p q
   link-intro p q e = let (w, h) = edge-intro b n ks ls cs os sorted right low fk fl p q e in ap₂ linksTo (used-point p (e .from)) (used-point q w) ∙ h

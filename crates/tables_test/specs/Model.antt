@@ -4,6 +4,7 @@ use mathlib.Core.Path.{_≡_, refl, sym, _∙_, ap, ap₂}
 use mathlib.Core.List.{List}
 use mathlib.Core.Bool.{Bool, true, false, not, _&&_}
 use native.Mathlib.Omega.{arith}
+use native.Mathlib.Nat.{add-zero, div-add-mod', mul-div-cancel, mul-mod-left}
 use native.Mathlib.Numerals.{add-one}
 use lib.ListN.{length}
 use lib.Dec.{eqb, leb, ltb}
@@ -93,23 +94,15 @@ id-by r a x y b t p i e f h = h ∙ ap₂ (λ (u v : ℕ). idHolds u v b t p) e 
 
 -- ---- a product compared without being made
 
-pub eight-no : (a n : ℕ) → (a % 8 ≡ 0 → ⊥) → false ≡ eqb a (n * 8)
-eight-no a n d = sym (ne-eqb a (n * 8) (λ e. d (omega arith)))
+module _ (a n w : ℕ) where
+  pub product-no : (a % w ≡ 0 → ⊥) → false ≡ eqb a (n * w)
+  product-no d = sym (ne-eqb a (n * w) (λ e. d (ap (λ (x : ℕ). x % w) e ∙ mul-mod-left n w)))
 
-pub eight-yes : (a n : ℕ) → a % 8 ≡ 0 → eqb (a / 8) n ≡ eqb a (n * 8)
-eight-yes a n z =
-    sameOr (a / 8) n
-    (λ e. eq-eqb (a / 8) n e ∙ sym (eq-eqb a (n * 8) (omega arith)))
-    (λ d. ne-eqb (a / 8) n d ∙ sym (ne-eqb a (n * 8) (λ e. d (omega arith))))
-
-pub links-no : (a n : ℕ) → (a % 328 ≡ 0 → ⊥) → false ≡ eqb a (n * 328)
-links-no a n d = sym (ne-eqb a (n * 328) (λ e. d (omega arith)))
-
-pub links-yes : (a n : ℕ) → a % 328 ≡ 0 → eqb (a / 328) n ≡ eqb a (n * 328)
-links-yes a n z =
-    sameOr (a / 328) n
-    (λ e. eq-eqb (a / 328) n e ∙ sym (eq-eqb a (n * 328) (omega arith)))
-    (λ d. ne-eqb (a / 328) n d ∙ sym (ne-eqb a (n * 328) (λ e. d (omega arith))))
+  pub product-yes : 0 < w → a % w ≡ 0 → eqb (a / w) n ≡ eqb a (n * w)
+  product-yes l z =
+      sameOr (a / w) n
+      (λ e. eq-eqb (a / w) n e ∙ sym (eq-eqb a (n * w) (sym (div-add-mod' a w) ∙ (ap₂ (λ (x y : ℕ). x * w + y) e z ∙ add-zero (n * w)))))
+      (λ d. ne-eqb (a / w) n d ∙ sym (ne-eqb a (n * w) (λ e. d (ap (λ (x : ℕ). x / w) e ∙ mul-div-cancel n l))))
 
 -- ---- the number of places
 

@@ -140,7 +140,7 @@ module _ (s : State) (ks ls cs os : List ℕ) (fk : Fit ks) (fl : Fit ls) (sh : 
       let (u, st) = status-of q h in
       let (i, small, t, e) = links-elim ls q l (subst (List·Memᴰ l) (ap links (point q u) ∙ links-seen ks ls cs q st) m) in
       let d : l .dist ≡ dist i = ap (λ (x : Link). x .dist) e in
-      let live : Live (s .bottom .0) ks q i = (st, small, omega (arith, d, round-is q u, k)) in
+      let live : Live (s .bottom .0) ks q i = (st, small, omega (arith, d, round-is q u, k), f .words q u .named .status) in
       let (x, w, a, names) = f .right q i u live t in
       let g = names-fits (s .bottom .0) (s .count) ks ls cs os (f .sorted) (f .right) (low-of (f .ids)) fk fl q i x names in
       (x, ap (λ (p : Point). p .named) (point x w), (λ j. fits (round-is q u j) (point x w j .id) (e j)) ∙ g)
@@ -173,7 +173,7 @@ module _ (s : State) (ks ls cs os : List ℕ) (fk : Fit ks) (fl : Fit ls) (sh : 
       range = and-l _ _ ro
 
       heightsAre : (q : ℕ) → Used os (s .count) q → heightAt cs q ≡ height v q
-      heightsAre q u = heightsAre-elim (s .bottom .0) (s .count) ks ls cs os (f .sorted) (f .right) (low-of (f .ids)) fk fl v (sized (f .inside)) sees (f .heights) q u
+      heightsAre q u = heightsAre-elim (s .bottom .0) (s .count) ks ls cs os (f .sorted) (f .right) (low-of (f .ids)) (λ p x. f .words p x .named .status) fk fl v (sized (f .inside)) sees (f .heights) q u
 
   -- and back
   module _ (rg : regular s ks ls cs os ≡ true) (w : Wf v) where
@@ -240,5 +240,5 @@ module _ (s : State) (ks ls cs os : List ℕ) (fk : Fit ks) (fl : Fit ls) (sh : 
       bare = is-bare;
       ids = λ q u. both (le-leb _ _ (is-low q u)) (both (le-leb _ _ (is-high q u)) (is-peer q u));
       few = four-intro (s .count) ks ls cs os v named point (held .sorted) (subst (Inside os (s .count)) (sym places-is) (held .inside)) (λ q u. w .four q (is-named q u));
-      heights = heightsAre-intro (s .bottom .0) (s .count) ks ls cs os (held .sorted) (held .right) is-low fk fl v (sized (held .inside)) sees is-heightsAre;
+      heights = heightsAre-intro (s .bottom .0) (s .count) ks ls cs os (held .sorted) (held .right) is-low (λ p x. is-words p x .named .status) fk fl v (sized (held .inside)) sees is-heightsAre;
     }

@@ -13,24 +13,15 @@ ghost use Rattle.tables_test.specs.Model.{shape, stateHolds, orderHolds,
 use commit_state::state::State;
 use models::parts::Round;
 
-// Whether a is n * 8. The product may not fit, so a is divided.
-fn key_words(a: usize, n: usize) -> bool
-    ensures { λ r. ⌜ r ≡ eqb a (n * 8) ⌝ }
+// Whether a table of this many words has n places of `width` words. The product may not fit, so the words are divided.
+fn has_places(words: usize, n: usize, width: usize) -> bool
+    requires { ⌜ 0 < width ⌝ }
+    ensures { λ r. ⌜ r ≡ eqb words (n * width) ⌝ }
 {
-    if a % 8 != 0 {
+    if words % width != 0 {
         return false;
     }
-    a / 8 == n
-}
-
-// Whether a is n * 328. The product may not fit, so a is divided.
-fn link_words(a: usize, n: usize) -> bool
-    ensures { λ r. ⌜ r ≡ eqb a (n * 328) ⌝ }
-{
-    if a % 328 != 0 {
-        return false;
-    }
-    a / 328 == n
+    words / width == n
 }
 
 // Whether the tables have room for the same number of places.
@@ -38,10 +29,10 @@ pub fn shape_holds(keys: &[u64], links: &[u64], certs: &[u64], order: &[u64]) ->
     ensures { λ r. ⌜ r ≡ shape (now (keys .entry)) (now (links .entry)) (now (certs .entry)) (now (order .entry)) ⌝ }
 {
     let n = order.len();
-    if !key_words(keys.len(), n) {
+    if !has_places(keys.len(), n, 8) {
         return false;
     }
-    if !link_words(links.len(), n) {
+    if !has_places(links.len(), n, 328) {
         return false;
     }
     certs.len() == n
@@ -130,7 +121,7 @@ fn place_ok(
 {
     let round = dag_round_keys::round_word(keys, q);
     let author = dag_round_keys::author(keys, q);
-    if !tables_ids::id_holds(round, author, bottom.0, top.0, peers) {
+    if !tables_ids::id_holds(round, author, bottom, top, peers) {
         return false;
     }
     if !tables_links::live_right(keys, links, marks, places, q, bottom) {

@@ -5,7 +5,7 @@ use mathlib.Core.List.{List}
 use lib.ListN.{getD}
 use Rattle.spec.specs.Ids.{Id}
 use Rattle.models.specs.Parts.{idOf}
-use Rattle.trace.specs.Numbers.{numberAt, idAt}
+use Rattle.trace.specs.Numbers.{numberAt, idAt, pointIdAt, id-read}
 use Rattle.trace.specs.declared.anchors.AnchorHead.{AnchorHead}
 
 -- "Anchor record: anchor id, proof id, executable (1 byte), previous anchor round (4; 0 for none), number of points (4), their ids."
@@ -25,7 +25,7 @@ unfoldable pub anchorOf : AnchorHead → Anchor
 anchorOf h = record { anchor = idOf (h .anchor); proof = idOf (h .proof); executable = h .executable; previous = h .previous; points = h .points }
 
 -- from its parts
-pub anchor-is : (b : List ℕ) (p : ℕ) (h : AnchorHead) → idOf (h .anchor) ≡ idAt b p → idOf (h .proof) ≡ idAt b (p + 37) → h .executable ≡ getD b (p + 74) 0 → h .previous ≡ numberAt b (p + 75) 4
+pub anchor-is : (b : List ℕ) (p : ℕ) (h : AnchorHead) → h .anchor ≡ pointIdAt b p → h .proof ≡ pointIdAt b (p + 37) → h .executable ≡ getD b (p + 74) 0 → h .previous ≡ numberAt b (p + 75) 4
     → h .points ≡ numberAt b (p + 79) 4 → anchorOf h ≡ anchorIn b p
 unfolding anchorOf anchorIn
-anchor-is b p h i j k l m = rw (i, j, k, l, m) refl
+anchor-is b p h i j k l m = rw (id-read b p (h .anchor) i, id-read b (p + 37) (h .proof) j, k, l, m) refl

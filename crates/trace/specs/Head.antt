@@ -75,6 +75,10 @@ unfoldable pub headAt : List ℕ → ℕ → Record
 headAt bs p =
     cond (headOk bs p) (record { kind = kindOf (getD bs (p + 5) 0); from = p + 6; end = p + 4 + restAt bs p }) (record { kind = Broken; from = p; end = p })
 
+-- as many bytes must be left for a record to be played: the most that a record has, unless the bytes are the last
+abbrev pub leastLeft : Bool → ℕ
+leastLeft last = cond last 1 4100
+
 -- ---- laws
 
 -- two comparisons that hold together are one

@@ -13,14 +13,12 @@ use Rattle.laws.specs.Test.{sameOr, cond-yes}
 use Rattle.laws.specs.Bytes.{number, written, written-length, written-append, written-is}
 use Rattle.spec.specs.Ids.{Id, Ref}
 use Rattle.spec.specs.Store.{Resolution}
-use Rattle.models.specs.declared.parts.PointId.{PointId}
 use Rattle.models.specs.declared.info.PointInfo.{PointInfo}
 use Rattle.models.specs.Digest.{words, digestAt}
-use Rattle.models.specs.Parts.{idOf}
 use Rattle.models.specs.Info.{refAt, refsOf, infoOf}
-use Rattle.trace.specs.Numbers.{numberAt, idAt, digestWords, digest-is}
+use Rattle.trace.specs.Numbers.{numberAt, idAt, pointIdAt, digestWords, digest-is, id-read}
 use Rattle.trace.specs.Head.{linksIn}
-use Rattle.trace.specs.Fields.{linkIn, linksFrom, toldIn}
+use Rattle.trace.specs.Fields.{linkIn, linksFrom, resolutionIn, infoIn}
 
 -- the five words of the link at p: peer, then digest
 unfoldable pub linkWords : List ℕ → ℕ → List ℕ
@@ -125,26 +123,23 @@ telling f t is ws = record {
 }
 
 module _ (f : List ℕ) where
-  pub info-is : (s m e i w : ℕ) (t : PointId) → s ≡ getD f 37 0 → m ≡ getD f 38 0 → idOf t ≡ idAt f 39 → e ≡ numberAt f 76 4 → i ≡ getD f 80 0 → w ≡ getD f 81 0
-      → infoOf (record { status = s; proof = eqb (m % 2) 1; trigger = eqb (m / 2 % 2) 1; cause = eqb (m / 4 % 2) 1; «top_proof» = t; evidence = e; includes = i; witness = w }) (linksWords f (linksIn f)) ≡ toldIn f
-  unfolding infoOf toldIn linksIn
-  info-is s m e i w t hs hm ht he hi hw =
+  -- the fields of a resolution, read as 01's with the words of their links
+  pub info-read : infoOf (infoIn f) (linksWords f (linksIn f)) ≡ resolutionIn f
+  unfolding infoOf infoIn resolutionIn linksIn
+  info-read =
       let a : ℕ = getD f 80 0 in
       let b : ℕ = getD f 81 0 in
-      rw (hs, hm, he, hi, hw)
-      (cond-yes _ _ _ (eq-eqb _ _ (links-length f (a + b)))
-      (ap (λ (x : Id). telling f x (refsOf (linksWords f (a + b)) 0 a) (refsOf (linksWords f (a + b)) a b)) ht
-      ∙ ap₂ (telling f (idAt f 39)) (refs-are f (a + b) 0 a (omega arith)) (refs-are f (a + b) a b (omega arith))))
+      cond-yes _ _ _ (eq-eqb _ _ (links-length f (a + b)))
+      (ap (λ (x : Id). telling f x (refsOf (linksWords f (a + b)) 0 a) (refsOf (linksWords f (a + b)) a b)) (id-read f 39 (pointIdAt f 39) refl)
+      ∙ ap₂ (telling f (idAt f 39)) (refs-are f (a + b) 0 a (omega arith)) (refs-are f (a + b) a b (omega arith)))
 
   -- the number of links
-  pub links-are : (i w : ℕ) → i ≡ getD f 80 0 → w ≡ getD f 81 0 → i + w ≡ linksIn f
-  unfolding linksIn
-  links-are i w hi hw = rw (hi, hw) refl
+  pub links-are : (i : PointInfo) → i ≡ infoIn f → i .includes + i .witness ≡ linksIn f
+  unfolding linksIn infoIn
+  links-are i e = rw e refl
 
-  -- what is told, with the links as they stand in a slice: the words of all links from its start on
-  pub resolution-is : (i : PointInfo) (b r : List ℕ) → infoOf i (linksWords f (linksIn f)) ≡ toldIn f → i .includes + i .witness ≡ linksIn f → linksIn f * 5 ≤ length b
-      → r ≡ written b 0 (linksWords f (linksIn f)) → infoOf i (take ((i .includes + i .witness) * 5) r) ≡ toldIn f
-  resolution-is i b r h n l e =
-      let q : length (linksWords f (linksIn f)) ≡ (i .includes + i .witness) * 5 = links-length f (linksIn f) ∙ ap (λ (m : ℕ). m * 5) (sym n) in
-      ap (λ (x : List ℕ). infoOf i (take ((i .includes + i .witness) * 5) x)) (e ∙ written-is b 0 (linksWords f (linksIn f)) (omega (arith, q, l, n)))
-      ∙ (ap (infoOf i) (take-at (linksWords f (linksIn f)) _ ((i .includes + i .witness) * 5) q) ∙ h)
+  -- their words in a slice: they stand from its start on
+  pub links-taken : (b r : List ℕ) (n : ℕ) → n ≡ linksIn f → linksIn f * 5 ≤ length b → r ≡ written b 0 (linksWords f (linksIn f)) → take (n * 5) r ≡ linksWords f (linksIn f)
+  links-taken b r n h l e =
+      let q : length (linksWords f (linksIn f)) ≡ n * 5 = links-length f (linksIn f) ∙ ap (λ (m : ℕ). m * 5) (sym h) in
+      ap (take (n * 5)) (e ∙ written-is b 0 (linksWords f (linksIn f)) (omega (arith, q, l, h))) ∙ take-at (linksWords f (linksIn f)) _ (n * 5) q

@@ -8,6 +8,8 @@ use lib.ListN.{getD}
 use Rattle.laws.specs.Bytes.{number, value, value-append}
 use Rattle.spec.specs.Ids.{Id}
 use Rattle.models.specs.Digest.{words, digestAt}
+use Rattle.models.specs.Parts.{idOf}
+use Rattle.models.specs.declared.parts.PointId.{PointId}
 
 -- "all big-endian": the number in the m bytes of f from p on
 unfoldable pub numberAt : List ℕ → ℕ → ℕ → ℕ
@@ -20,6 +22,10 @@ idAt f p = record { round = numberAt f p 4; author = getD f (p + 4) 0; digest = 
 -- the digest in the 32 bytes from p on as four words
 unfoldable pub digestWords : List ℕ → ℕ → List ℕ
 digestWords f p = numberAt f p 8 ∷ numberAt f (p + 8) 8 ∷ numberAt f (p + 16) 8 ∷ numberAt f (p + 24) 8 ∷ []
+
+-- the id in the 37 bytes from p on, as the code has it
+unfoldable pub pointIdAt : List ℕ → ℕ → PointId
+pointIdAt f p = record { round = record { 0 = numberAt f p 4 }; author = getD f (p + 4) 0; digest = record { 0 = digestWords f (p + 5) } }
 
 -- ---- laws
 
@@ -73,6 +79,11 @@ digest-is f p =
 
 -- an id from its parts
 pub id-is : (f : List ℕ) (p r a : ℕ) (d : List ℕ) → r ≡ numberAt f p 4 → a ≡ getD f (p + 4) 0 → d ≡ digestWords f (p + 5)
-    → _≡_ {A = Id} (record { round = r; author = a; digest = digestAt d 0 }) (idAt f p)
-unfolding idAt
-id-is f p r a d i j k = rw (i, j, k, digest-is f (p + 5)) refl
+    → _≡_ {A = PointId} (record { round = record { 0 = r }; author = a; digest = record { 0 = d } }) (pointIdAt f p)
+unfolding pointIdAt
+id-is f p r a d i j k = rw (i, j, k) refl
+
+-- read as 01's
+pub id-read : (f : List ℕ) (p : ℕ) (i : PointId) → i ≡ pointIdAt f p → idOf i ≡ idAt f p
+unfolding pointIdAt idAt
+id-read f p i e = ap idOf e ∙ rw (digest-is f (p + 5)) refl

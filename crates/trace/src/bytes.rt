@@ -3,8 +3,7 @@
 ghost use mathlib.Core.Path.{_≡_};
 ghost use Prim.Native.Nat.{_+_, _<_, _≤_};
 ghost use lib.ListN.{length, getD};
-ghost use Rattle.models.specs.Parts.{idOf};
-ghost use Rattle.trace.specs.Numbers.{numberAt, digestWords, idAt};
+ghost use Rattle.trace.specs.Numbers.{numberAt, digestWords, pointIdAt};
 use models::parts::Digest;
 use models::parts::PointId;
 use models::parts::Round;
@@ -54,7 +53,7 @@ pub fn digest_words(f: &[u8], at: usize) -> [u64; 4]
 // The id in 37 bytes.
 pub fn id_of(f: &[u8], at: usize) -> PointId
     requires { ⌜ at + 37 ≤ length (now f) ⌝ }
-    ensures { λ r. ⌜ idOf r ≡ idAt (now (f .entry)) at ⌝ }
+    ensures { λ r. ⌜ r ≡ pointIdAt (now (f .entry)) at ⌝ }
 {
     let round = number_of(f, at);
     let author = byte_of(f, at + 4);

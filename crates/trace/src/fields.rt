@@ -4,12 +4,9 @@ ghost use mathlib.Core.Path.{_≡_};
 ghost use Prim.Native.Nat.{_+_, _*_, _≤_};
 ghost use lib.ListN.{length};
 ghost use Rattle.laws.specs.Bytes.{written};
-ghost use Rattle.commit_state.specs.Back.{usedOf};
-ghost use Rattle.commit_state.specs.Reads.{startArgsOf};
-ghost use Rattle.models.specs.Info.{infoOf};
 ghost use Rattle.trace.specs.Numbers.{numberAt};
 ghost use Rattle.trace.specs.Head.{linksIn};
-ghost use Rattle.trace.specs.Fields.{usedIn, startIn, sinceIn, sinceOf, toldIn};
+ghost use Rattle.trace.specs.Fields.{usedAuthorIn, startArgsIn, sinceIn, sinceOf, infoIn};
 ghost use Rattle.trace.specs.Links.{linkWords, linksWords};
 use crate::bytes::byte_of;
 use crate::bytes::digest_words;
@@ -40,7 +37,7 @@ pub struct RemoveFields {
 
 // The used author that a byte stands for.
 fn used_of(byte: u32) -> UsedAuthor
-    ensures { λ r. ⌜ usedOf r ≡ usedIn byte ⌝ }
+    ensures { λ r. ⌜ r ≡ usedAuthorIn byte ⌝ }
 {
     if byte == 255 {
         return UsedAuthor::Nobody;
@@ -51,7 +48,7 @@ fn used_of(byte: u32) -> UsedAuthor
 // The fields of a start.
 pub fn start_of(f: &[u8]) -> StartArgs
     requires { ⌜ 22 ≤ length (now f) ⌝ }
-    ensures { λ r. ⌜ startArgsOf r ≡ startIn (now (f .entry)) ⌝ }
+    ensures { λ r. ⌜ r ≡ startArgsIn (now (f .entry)) ⌝ }
 {
     let genesis = number_of(f, 0);
     let commit_history_rounds = number_of(f, 4);
@@ -107,8 +104,7 @@ pub fn remove_of(f: &[u8]) -> RemoveFields
 // The fields of a resolution, but for its id and links.
 pub fn info_of(f: &[u8]) -> PointInfo
     requires { ⌜ 82 ≤ length (now f) ⌝ }
-    ensures resolution { λ r. ⌜ infoOf r (linksWords (now (f .entry)) (linksIn (now (f .entry)))) ≡ toldIn (now (f .entry)) ⌝ }
-    ensures links { λ r. ⌜ r .includes + r .witness ≡ linksIn (now (f .entry)) ⌝ }
+    ensures { λ r. ⌜ r ≡ infoIn (now (f .entry)) ⌝ }
 {
     let status = byte_of(f, 37);
     let marks = byte_of(f, 38);

@@ -5,7 +5,7 @@ ghost use Prim.Native.Nat.{_+_, _*_, _≤_};
 ghost use lib.Dec.{eqb};
 ghost use mathlib.Core.Bool.{true};
 ghost use lib.ListN.{length};
-ghost use Rattle.trace.specs.Head.{kindOf, linksIn, fits, restAt, wholeAt, headAt};
+ghost use Rattle.trace.specs.Head.{kindOf, linksIn, fits, restAt, wholeAt, headAt, leastLeft};
 use crate::bytes::byte_of;
 use crate::bytes::number_of;
 
@@ -144,4 +144,11 @@ pub fn record_at(bytes: &[u8], at: usize) -> Record
     }
     let rest = number_of(bytes, at) as usize;
     whole_record(bytes, at, rest)
+}
+
+// How many bytes must be left for a record to be played: 4,100, the most that a record has, unless the bytes are the last.
+pub fn least_left(last: bool) -> usize
+    ensures { λ r. ⌜ r ≡ leastLeft last ⌝ }
+{
+    if last { 1 } else { 4100 }
 }

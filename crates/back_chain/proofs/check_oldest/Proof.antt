@@ -1,4 +1,3 @@
-use native.Mathlib.Omega.{arith}
 use mathlib.Core.Path.{refl}
 use Rattle.back_chain.specs.Chain.{check-bad, check-none, check-apart, check-on}
 use borrow.Author.Needs.{needs}

@@ -1,5 +1,4 @@
 use borrow.Author.Needs.{needs}
-use native.Mathlib.Omega.{arith}
 use Rattle.commit_state.specs.View.{recordOf}
 use Rattle.back_walk.specs.Model.{step-pass, step-above, step-used, step-bad, step-low, step-on, proof-used}
 use Rattle.back_walk.proofs.visit.Statement.{statement}

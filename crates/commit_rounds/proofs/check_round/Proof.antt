@@ -3,23 +3,18 @@ use Rattle.commit_rounds.specs.Round.{round-beyond, round-last, round-ol
 use Rattle.commit_rounds.proofs.check_round.Statement.{statement}
 use Rattle.commit_rounds.proofs.check_round.Tie as tie
 
--- src/calls.rt:52:9
 returns : tie.Need-returns
 returns c = search round-beyond
 
--- src/calls.rt:55:9
 returns-2 : tie.Need-returns-2
 returns-2 c = search round-last
 
--- src/calls.rt:58:9
 returns-3 : tie.Need-returns-3
 returns-3 c = search round-old
 
--- src/calls.rt:61:9
 returns-4 : tie.Need-returns-4
 returns-4 c = search round-full
 
--- src/calls.rt:47:1
 returns-5 : tie.Need-returns-5
 returns-5 c = search round-new
 

@@ -3,7 +3,9 @@ use Rattle.commit_answer.specs.Answer.{tested-no, tested-by, left-refused, left
 use Rattle.commit_rounds.specs.Drop.{drop-did, given, dropped-is}
 use borrow.Author.Needs.{needs}
 use native.Mathlib.Omega.{arith}
+use Rattle.spec.specs.Rules.{countsAsStarted}
 use Rattle.models.specs.Digest.{Fit}
+use Rattle.tables_test.specs.View.{view}
 use Rattle.back_drain.specs.Model.{below-le}
 use Rattle.commit_rounds.proofs.drop_upto.Statement.{statement}
 use Rattle.commit_rounds.proofs.drop_upto.Tie as tie
@@ -44,8 +46,9 @@ drop-state-requires c κs =
 
 returns-2 : tie.Need-returns-2
 returns-2 c =
+    let a = c .before .before .before .before .before .before .before .before .before .before .before .before .before .before .before .before .before .before .before .before .before .before .before .before .before .before .before .before .before .before .before .before .before .args in
     let k = c .before .before .before .before .before .before .before .before .before .before .before .drain-upto .ensures in
-    drop-did _ _ (λ p. c .before .before .before .before .before .before .before .before .before .before .before .before .before .before .before .before .before .before .before .before .before .before .before .before .before .before .before .before .before .before .before .before .slice-known .given p .fits) (λ p. c .before .before .before .before .before .before .before .before .before .before .before .before .before .before .before .before .before .before .before .before .before .before .before .before .before .before .before .before .before .before .before .slice-known2 .given p .fits) _ (left-done _ _ _ (tested-by _ _ _ (c .before .before .before .before .before .before .before .before .before .before .before .before .before .before .before .before .before .before .before .before .before .before .before .before .counts-as-started .ensures) (c .before .before .before .before .before .before .before .before .before .before .before .before .before .before .before .before .before .before .before .before .before .before .before .if1 .left) _ refl) _ (dropped-is _ _ _ _ _ (c .before .before .before .before .before .before .before .before .before .before .before .before .before .before .before .before .before .before .before .before .min .ensures) (c .before .before .before .before .before .before .before .before .before .before .before .before .before .before .before .before .before .before .before .max .ensures) (c .before .before .before .before .before .before .before .before .before .before .before .before .before .before .before .before .cut .ensures) _ (c .before .before .drop-state .ensures) (k .0) (k .1 .0) (k .1 .1 .0) (k .1 .1 .1)))
+    drop-did _ _ (λ p. c .before .before .before .before .before .before .before .before .before .before .before .before .before .before .before .before .before .before .before .before .before .before .before .before .before .before .before .before .before .before .before .before .slice-known .given p .fits) (λ p. c .before .before .before .before .before .before .before .before .before .before .before .before .before .before .before .before .before .before .before .before .before .before .before .before .before .before .before .before .before .before .before .slice-known2 .given p .fits) _ (left-done _ _ _ (tested-by (countsAsStarted (view (a .s) (a .keys .now) (a .links .now) (a .certs .now) (a .order .now))) _ _ (c .before .before .before .before .before .before .before .before .before .before .before .before .before .before .before .before .before .before .before .before .before .before .before .before .counts-as-started .ensures) (c .before .before .before .before .before .before .before .before .before .before .before .before .before .before .before .before .before .before .before .before .before .before .before .if1 .left) _ refl) _ (dropped-is _ _ _ _ _ (c .before .before .before .before .before .before .before .before .before .before .before .before .before .before .before .before .before .before .before .before .min .ensures) (c .before .before .before .before .before .before .before .before .before .before .before .before .before .before .before .before .before .before .before .max .ensures) (c .before .before .before .before .before .before .before .before .before .before .before .before .before .before .before .before .cut .ensures) _ (c .before .before .drop-state .ensures) (k .0) (k .1 .0) (k .1 .1 .0) (k .1 .1 .1)))
 
 pub drop-upto-spec : {M : Type 1} → statement M
 drop-upto-spec =

@@ -10,7 +10,7 @@ use Rattle.dag_round_points.proofs.versions.Statement.{statement}
 use Rattle.dag_round_points.proofs.versions.Tie as tie
 
 abbrev Inv-loop : tie.InvT-loop
-Inv-loop keys order n round author count₀ i₀ count i = (i ≤ n) × (count ≡ length (those i (versionAt keys order round author)))
+Inv-loop keys order n round author count₀ i₀ count i = (i ≤ n) × (count ≡ length (those i (versionAt keys order (round .0) author)))
 
 abbrev μ-loop : tie.MeasureT-loop
 μ-loop keys order n round author count₀ i₀ count i = n - i
@@ -23,14 +23,14 @@ add-count : tie.Need-add-count Inv-loop μ-loop
 add-count c =
     let l = c .before .before .before .before .loop in
     let a = c .before .before .before .before .before .before .before .args in
-    omega (arith, l .inv .1, those-most (l .i) (versionAt (a .keys .now) (a .order .now) (a .round) (a .author)))
+    omega (arith, l .inv .1, those-most (l .i) (versionAt (a .keys .now) (a .order .now) (a .round .0) (a .author)))
 
 loop-again : tie.Need-loop-again Inv-loop μ-loop
 loop-again c =
     let l = c .before .before .before .before .loop in
     let a = c .before .before .before .before .before .before .before .args in
-    let f = versionAt (a .keys .now) (a .order .now) (a .round) (a .author) in
-    let e = c .before .is-version .ensures ∙ ap (isVersion (a .keys .now) (a .round) (a .author)) (c .before .before .place .ensures .0) in
+    let f = versionAt (a .keys .now) (a .order .now) (a .round .0) (a .author) in
+    let e = c .before .is-version .ensures ∙ ap (isVersion (a .keys .now) (a .round .0) (a .author)) (c .before .before .place .ensures .0) in
     ⊎-elim
     (λ w. (search needs, w .1 ∙ count-yes f (l .i) (l .count) (l .inv .1) (sym e ∙ w .0 .taken)))
     (λ w. (search needs, w .1 ∙ count-no f (l .i) (l .count) (l .inv .1) (sym e ∙ w .0 .left)))

@@ -8,7 +8,7 @@ use Rattle.info_checks.proofs.any_dangling.Statement.{statement}
 use Rattle.info_checks.proofs.any_dangling.Tie as tie
 
 abbrev Inv-loop : tie.InvT-loop
-Inv-loop s keys order refs from m d round i₀ i = (i ≤ m) × (any i (λ x. isDangling s keys order refs d round (from + x)) ≡ false)
+Inv-loop s keys order refs from m d round i₀ i = (i ≤ m) × (any i (λ x. isDangling s keys order refs d (round .0) (from + x)) ≡ false)
 
 abbrev μ-loop : tie.MeasureT-loop
 μ-loop s keys order refs from m d round i₀ i = m - i

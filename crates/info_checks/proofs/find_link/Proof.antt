@@ -6,7 +6,7 @@ use Rattle.info_checks.proofs.find_link.Tie as tie
 
 find-point-requires : tie.Need-find-point-requires
 find-point-requires c κs =
-    let s = c .before .before .before .before .before .before in
+    let s = c .before .before .before .before .before .before .before in
     ((search needs, (search needs, inside-keys (s .args .keys .now) (s .args .order .now) (s .args .s .count) (s .pre .0 .0) (s .pre .0 .3))), s .pre .0 .4)
 
 returns : tie.Need-returns
@@ -14,4 +14,4 @@ returns c = found-by _ _ _ _ _ _ _ _ _ (c .before .before .before .peer .ensures
 
 pub find-link-spec : {M : Type 1} → statement M
 find-link-spec =
-    tie.close (tie.spec (λ c. search needs) (λ c. search needs) (λ c κs. search needs) (λ c κs. search needs) (λ c. search needs) find-point-requires returns)
+    tie.close (tie.spec (λ c. search needs) (λ c. search needs) (λ c. search needs) (λ c κs. search needs) (λ c κs. search needs) (λ c. search needs) find-point-requires returns)

@@ -1,5 +1,5 @@
 use Prim.Native.Nat.{_+_, _*_, _≤_, _-_}
-use mathlib.Core.Path.{_≡_, refl, _∙_, ap, ap₂}
+use mathlib.Core.Path.{_≡_, refl, _∙_, ap}
 use native.Mathlib.Omega.{arith}
 use lib.ListN.{length}
 use Rattle.info_store.specs.Model.{targetOf, linksPut, links-more, links-end, link-length}
@@ -8,7 +8,7 @@ use Rattle.info_store.proofs.put_links.Statement.{statement}
 use Rattle.info_store.proofs.put_links.Tie as tie
 
 abbrev Inv-loop : tie.InvT-loop
-Inv-loop s keys links₀ order q refs from m d round base i₀ links i = (i ≤ m) × (length links ≡ length links₀) × (links ≡ linksPut (targetOf s keys order refs d round) links₀ q ((d - 1) * 32) refs from i)
+Inv-loop s keys links₀ order q refs from m d round base i₀ links i = (i ≤ m) × (length links ≡ length links₀) × (links ≡ linksPut (targetOf s keys order refs d (round .0)) links₀ q ((d - 1) * 32) refs from i)
 
 abbrev μ-loop : tie.MeasureT-loop
 μ-loop s keys links₀ order q refs from m d round base i₀ links i = m - i
@@ -19,22 +19,22 @@ loop-holds c = (search needs, refl, refl)
 
 add-put-link : tie.Need-add-put-link Inv-loop μ-loop
 add-put-link c =
-    let s = c .before .before .before .before .before .before .before .before .before .before .before in
+    let s = c .before .before .before .before .before .before .before .before .before .before in
     let l = c .before .before .before .before .before .loop in
-    omega (arith, s .pre .1 .0, s .pre .1 .1 (l .i) (c .before .before .before .before .loop-test .taken), c .before .before .slot2 .ensures, c .before .before .before .before .before .before .slot .ensures)
+    omega (arith, s .pre .1 .0, s .pre .1 .1 (l .i) (c .before .before .before .before .loop-test .taken), c .before .before .slot .ensures)
 
 put-link-requires : tie.Need-put-link-requires Inv-loop μ-loop
 put-link-requires c κs =
-    let s = c .before .before .before .before .before .before .before .before .before .before .before in
+    let s = c .before .before .before .before .before .before .before .before .before .before in
     let l = c .before .before .before .before .before .loop in
     let p = s .pre .1 .1 (l .i) (c .before .before .before .before .loop-test .taken) in
-    (omega (arith, s .pre .1 .0 .0, l .inv .1), omega (arith, s .pre .1 .0 .3, p, c .before .before .slot2 .ensures, c .before .before .before .before .before .before .slot .ensures), omega (arith, s .pre .1 .0 .1, c .before .before .before .before .loop-test .taken))
+    (omega (arith, s .pre .1 .0 .0, l .inv .1), omega (arith, s .pre .1 .0 .3, p, c .before .before .slot .ensures), omega (arith, s .pre .1 .0 .1, c .before .before .before .before .loop-test .taken))
 
 loop-again : tie.Need-loop-again Inv-loop μ-loop
 loop-again c =
     let l = c .before .before .before .before .before .before .before .before .loop in
     let z = c .before .before .put-link .ensures in
-    let k = ap₂ _+_ (c .before .before .before .before .before .before .before .before .before .slot .ensures) (c .before .before .before .before .before .slot2 .ensures ∙ c .before .before .before .before .before .before .peer .ensures) in
+    let k = ap (_+_ ((c .before .before .before .before .before .before .before .before .before .before .before .before .before .args .d - 1) * 32)) (c .before .before .before .before .before .slot .ensures ∙ c .before .before .before .before .before .before .peer .ensures) in
     (search needs, ap length z ∙ (link-length (l .links) _ _ _ _ _ ∙ l .inv .1), links-more _ _ _ _ _ _ _ _ _ _ _ (l .inv .2) k (c .before .before .before .before .target-word .ensures) z)
 
 returns : tie.Need-returns Inv-loop μ-loop
@@ -48,7 +48,7 @@ put-links-spec =
     μ-loop
     (λ c. search needs)
     (λ c. search needs)
-    (λ c κs. search needs)
+    (λ c. search needs)
     loop-holds
     (λ c. search needs)
     (λ c κs. search needs)

@@ -17,4 +17,4 @@ returns-4 c = search id-peer
 
 pub id-holds-spec : {M : Type 1} → statement M
 id-holds-spec =
-    tie.close (tie.spec returns returns-2 returns-3 (λ c. search needs) (λ c κs. search needs) returns-4)
+    tie.close (tie.spec (λ c. search needs) returns (λ c. search needs) returns-2 returns-3 (λ c. search needs) (λ c κs. search needs) returns-4)

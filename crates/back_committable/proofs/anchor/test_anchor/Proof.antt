@@ -1,7 +1,6 @@
 use Rattle.models.specs.Digest.{Fit}
 use Rattle.back_committable.specs.Model.{tested-by, anchor-words, span-asked, span-range, span-ready, code-ready}
 use Rattle.back_committable.specs.Refines.{outcome-by}
-use borrow.Author.Needs.{needs}
 use Rattle.back_committable.proofs.anchor.test_anchor.Statement.{statement}
 use Rattle.back_committable.proofs.anchor.test_anchor.Tie as tie
 

@@ -3,7 +3,7 @@ use Rattle.models.specs.Info.{infoOf}
 use Rattle.models.specs.Parts.{idOf}
 use Rattle.models.specs.declared.info.PointInfo.{PointInfo}
 use Rattle.commit_points.specs.Resolve.{resolveLeft}
-use Rattle.committer.specs.Reply.{replies-with}
+use Rattle.committer.specs.Replies.{replies-with}
 use borrow.Author.Needs.{needs}
 use Rattle.committer.proofs.points.committer_resolve.Statement.{statement}
 use Rattle.committer.proofs.points.committer_resolve.Tie as tie

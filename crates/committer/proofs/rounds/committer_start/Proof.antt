@@ -2,7 +2,7 @@ use Rattle.spec.specs.Calls as calls
 use Rattle.commit_state.specs.declared.back.StartArgs.{StartArgs}
 use Rattle.commit_state.specs.Reads.{startArgsOf}
 use Rattle.commit_start.specs.Start.{startLeft}
-use Rattle.committer.specs.Reply.{replies-with}
+use Rattle.committer.specs.Replies.{replies-with}
 use borrow.Author.Needs.{needs}
 use Rattle.committer.proofs.rounds.committer_start.Statement.{statement}
 use Rattle.committer.proofs.rounds.committer_start.Tie as tie

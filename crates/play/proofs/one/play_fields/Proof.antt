@@ -1,7 +1,9 @@
 use mathlib.Core.Path.{refl}
+use mathlib.Core.Bool.{true≢false}
 use Rattle.trace.specs.Fields.{callBy}
 use Rattle.trace.specs.declared.head.Kind.the-variants as kind
-use Rattle.play.specs.Plays.{plays-at, plays-unmade}
+use Rattle.play_calls.specs.Calls.{modelBy}
+use Rattle.play.specs.Plays.{makes-call, makes-none}
 use Rattle.play.specs.Sized.{start-long, round-long, name-long, resolve-long, resolve-few, certify-long, commit-long, drop-long}
 use borrow.Author.Needs.{needs}
 use Rattle.play.proofs.one.play_fields.Statement.{statement}
@@ -29,42 +31,49 @@ play-drop-requires : tie.Need-play-drop-requires
 play-drop-requires c κs = drop-long _ _ (c .before .before .before .before .before .before .before .before .before .before .before .before .pre) (c .before .before .before .before .enum-told8 .given .1)
 
 returns : tie.Need-returns
-returns c = plays-at _ kind.Start _ _ _ _ _ _ _ (c .before .before .before .before .before .before .before .before .before .before .before .before .before .enum-told .given .1) refl (c .before .before .before .before .before .before .before .before .play-start .ensures _)
+unfolding callBy modelBy
+returns c = makes-call _ kind.Start _ _ _ _ _ (c .before .before .before .before .before .before .before .before .before .before .before .before .before .enum-told .given .1) _ _ _ _ refl (λ _. refl) (c .before .before .before .before .before .before .before .before .play-start .ensures)
 
 returns-2 : tie.Need-returns-2
-returns-2 c = plays-at _ kind.Round _ _ _ _ _ _ _ (c .before .before .before .before .before .enum-told2 .given .1) refl (c .play-round .ensures _)
+unfolding callBy modelBy
+returns-2 c = makes-call _ kind.Round _ _ _ _ _ (c .before .before .before .before .before .enum-told2 .given .1) _ _ _ _ refl (λ _. refl) (c .play-round .ensures)
 
 returns-3 : tie.Need-returns-3
-returns-3 c = plays-at _ kind.Name _ _ _ _ _ _ _ (c .before .before .before .before .before .before .before .before .before .before .before .enum-told3 .given .1) refl (c .before .before .before .before .before .before .play-name .ensures _)
+unfolding callBy modelBy
+returns-3 c = makes-call _ kind.Name _ _ _ _ _ (c .before .before .before .before .before .before .before .before .before .before .before .enum-told3 .given .1) _ _ _ _ refl (λ _. refl) (c .before .before .before .before .before .before .play-name .ensures)
 
 returns-4 : tie.Need-returns-4
-returns-4 c = plays-at _ kind.Resolve _ _ _ _ _ _ _ (c .before .before .before .before .before .before .before .before .before .before .before .enum-told4 .given .1) refl (c .before .before .before .before .before .before .play-resolve .ensures _)
+unfolding callBy modelBy
+returns-4 c = makes-call _ kind.Resolve _ _ _ _ _ (c .before .before .before .before .before .before .before .before .before .before .before .enum-told4 .given .1) _ _ _ _ refl (λ _. refl) (c .before .before .before .before .before .before .play-resolve .ensures)
 
 returns-5 : tie.Need-returns-5
-returns-5 c = plays-at _ kind.Certify _ _ _ _ _ _ _ (c .before .before .before .before .before .before .before .enum-told5 .given .1) refl (c .before .before .play-certify .ensures _)
+unfolding callBy modelBy
+returns-5 c = makes-call _ kind.Certify _ _ _ _ _ (c .before .before .before .before .before .before .before .enum-told5 .given .1) _ _ _ _ refl (λ _. refl) (c .before .before .play-certify .ensures)
 
 returns-6 : tie.Need-returns-6
-returns-6 c = plays-at _ kind.Commit _ _ _ _ _ _ _ (c .before .before .before .before .before .before .before .before .before .before .enum-told6 .given .1) refl (c .before .before .before .before .play-commit .ensures)
+unfolding callBy modelBy
+returns-6 c = makes-call _ kind.Commit _ _ _ _ _ (c .before .before .before .before .before .before .before .before .before .before .enum-told6 .given .1) _ _ _ _ refl (λ h. absurd (true≢false h)) (c .before .before .before .before .play-commit .ensures)
 
 returns-7 : tie.Need-returns-7
-returns-7 c = plays-unmade _ kind.Remove _ _ _ (c .unmade .result) (c .before .enum-told7 .given .1) refl (c .unmade .ensures)
+returns-7 c = makes-none _ kind.Remove _ _ _ (c .unmade .result) (c .before .enum-told7 .given .1) refl (c .unmade .ensures)
 
 returns-8 : tie.Need-returns-8
-returns-8 c = plays-at _ kind.Drop _ _ _ _ _ _ _ (c .before .before .before .before .before .before .before .before .before .before .before .before .before .enum-told8 .given .1) refl (c .before .before .before .before .before .before .before .before .play-drop .ensures _)
+unfolding callBy modelBy
+returns-8 c = makes-call _ kind.Drop _ _ _ _ _ (c .before .before .before .before .before .before .before .before .before .before .before .before .before .enum-told8 .given .1) _ _ _ _ refl (λ _. refl) (c .before .before .before .before .before .before .before .before .play-drop .ensures)
 
 returns-9 : tie.Need-returns-9
-unfolding callBy
-returns-9 c = plays-at _ kind.Gap _ _ _ _ _ _ _ (c .before .before .before .before .before .enum-told9 .given .1) refl (c .play-gap .ensures _)
+unfolding callBy modelBy
+returns-9 c = makes-call _ kind.Gap _ _ _ _ _ (c .before .before .before .before .before .enum-told9 .given .1) _ _ _ _ refl (λ _. refl) (c .is-once-after-gap .ensures)
 
 returns-10 : tie.Need-returns-10
-unfolding callBy
-returns-10 c = plays-at _ kind.Reset _ _ _ _ _ _ _ (c .before .before .before .before .before .before .before .before .before .before .before .before .before .enum-told10 .given .1) refl (c .before .before .before .before .before .before .before .before .play-reset .ensures _)
+unfolding callBy modelBy
+returns-10 c = makes-call _ kind.Reset _ _ _ _ _ (c .before .before .before .before .before .before .before .before .before .before .before .before .before .enum-told10 .given .1) _ _ _ _ refl (λ _. refl) (c .before .before .before .before .before .before .before .before .reset .ensures)
 
 returns-11 : tie.Need-returns-11
-returns-11 c = plays-unmade _ kind.Outlook _ _ _ (c .unmade2 .result) (c .before .enum-told11 .given .1) refl (c .unmade2 .ensures)
+returns-11 c = makes-none _ kind.Outlook _ _ _ (c .unmade2 .result) (c .before .enum-told11 .given .1) refl (c .unmade2 .ensures)
 
 returns-12 : tie.Need-returns-12
-returns-12 c = plays-unmade _ kind.Broken _ _ _ (c .unmade3 .result) (c .before .enum-told12 .given .1) refl (c .unmade3 .ensures)
+returns-12 c = makes-none _ kind.Broken _ _ _ (c .unmade3 .result) (c .before .enum-told12 .given .1) refl (c .unmade3 .ensures)
 
 pub play-fields-spec : {M : Type 1} → statement M
 play-fields-spec =

@@ -1,0 +1,97 @@
+// Origin: none.
+// A point named, resolved, certified or committed from, by the fields of its record.
+ghost use Prim.Native.Nat.{_+_, _*_, _≤_};
+ghost use mathlib.Core.List.{[]};
+ghost use lib.ListN.{length};
+ghost use Rattle.commit_answer.specs.Answer.{tables, left, Did};
+ghost use Rattle.trace.specs.Head.{linksIn};
+ghost use Rattle.trace.specs.Fields.{callBy};
+ghost use Rattle.trace.specs.declared.head.Kind.the-variants as kinds;
+ghost use Rattle.play_calls.specs.Calls.{modelBy};
+use commit_answer::answer::Outcome;
+use commit_call::commit;
+use commit_points::certify::certify;
+use commit_points::name::add_dependency;
+use commit_points::resolve::resolve;
+use commit_state::state::State;
+use trace::bytes::id_of;
+use trace::fields::info_of;
+use trace::fields::refs_of;
+
+// Names the point that the fields say.
+pub fn play_name(
+    s: State,
+    keys: &mut [u64],
+    links: &[u64],
+    certs: &mut [u64],
+    order: &mut [u64],
+    f: &[u8],
+) -> Outcome
+    requires { ⌜ 37 ≤ length (now f) ⌝ }
+    ensures { λ r. ⌜ Did (callBy kinds.Name (now (f .entry)) []) (modelBy kinds.Name (now (f .entry)) [])
+        (tables s (now (keys .entry)) (now (links .entry)) (now (certs .entry)) (now (order .entry)))
+        (left r (now (keys .exit)) (now (links .entry)) (now (certs .exit)) (now (order .exit)) []) ⌝ }
+{
+    let id = id_of(f, 0);
+    add_dependency(s, keys, links, certs, order, id)
+}
+
+// Resolves the point that the fields say. Its links, at most 121, are five words each.
+pub fn play_resolve(
+    s: State,
+    keys: &mut [u64],
+    links: &mut [u64],
+    certs: &mut [u64],
+    order: &[u64],
+    f: &[u8],
+) -> Outcome
+    requires { ⌜ 82 + 33 * linksIn (now f) ≤ length (now f) ⌝ }
+    requires { ⌜ linksIn (now f) ≤ 121 ⌝ }
+    ensures { λ r. ⌜ Did (callBy kinds.Resolve (now (f .entry)) []) (modelBy kinds.Resolve (now (f .entry)) [])
+        (tables s (now (keys .entry)) (now (links .entry)) (now (certs .entry)) (now (order .entry)))
+        (left r (now (keys .exit)) (now (links .exit)) (now (certs .exit)) (now (order .entry)) []) ⌝ }
+{
+    let id = id_of(f, 0);
+    let info = info_of(f);
+    let n = info.includes + info.witness;
+    let mut refs = [0u64; 605];
+    refs_of(f, &mut refs);
+    resolve(s, keys, links, certs, order, id, info, &refs[..n * 5])
+}
+
+// Certifies the point that the fields say.
+pub fn play_certify(
+    s: State,
+    keys: &[u64],
+    links: &[u64],
+    certs: &mut [u64],
+    order: &[u64],
+    f: &[u8],
+) -> Outcome
+    requires { ⌜ 37 ≤ length (now f) ⌝ }
+    ensures { λ r. ⌜ Did (callBy kinds.Certify (now (f .entry)) []) (modelBy kinds.Certify (now (f .entry)) [])
+        (tables s (now (keys .entry)) (now (links .entry)) (now (certs .entry)) (now (order .entry)))
+        (left r (now (keys .entry)) (now (links .entry)) (now (certs .exit)) (now (order .entry)) []) ⌝ }
+{
+    let id = id_of(f, 0);
+    certify(s, keys, links, certs, order, id)
+}
+
+// Commits the anchors that the point of the fields triggers; b: the buffer for their records.
+pub fn play_commit(
+    s: State,
+    keys: &[u64],
+    links: &[u64],
+    certs: &mut [u64],
+    order: &[u64],
+    b: &mut [u8],
+    f: &[u8],
+) -> Outcome
+    requires { ⌜ 37 ≤ length (now f) ⌝ }
+    ensures { λ r. ⌜ Did (callBy kinds.Commit (now (f .entry)) (now (b .entry))) (modelBy kinds.Commit (now (f .entry)) (now (b .entry)))
+        (tables s (now (keys .entry)) (now (links .entry)) (now (certs .entry)) (now (order .entry)))
+        (left r (now (keys .entry)) (now (links .entry)) (now (certs .exit)) (now (order .entry)) (now (b .exit))) ⌝ }
+{
+    let id = id_of(f, 0);
+    commit(s, keys, links, certs, order, id, b)
+}

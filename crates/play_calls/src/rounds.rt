@@ -1,0 +1,74 @@
+// Origin: none.
+// A start, a round and a drop, from the fields of their records.
+ghost use Prim.Native.Nat.{_≤_};
+ghost use mathlib.Core.List.{[]};
+ghost use lib.ListN.{length};
+ghost use Rattle.commit_answer.specs.Answer.{tables, left, Did};
+ghost use Rattle.trace.specs.Fields.{callBy};
+ghost use Rattle.trace.specs.declared.head.Kind.the-variants as kinds;
+ghost use Rattle.play_calls.specs.Calls.{modelBy};
+use commit_answer::answer::Outcome;
+use commit_rounds::drop_upto;
+use commit_rounds::extend_from_ahead;
+use commit_start::init;
+use commit_state::state::State;
+use models::parts::Round;
+use trace::bytes::number_of;
+use trace::fields::round_of;
+use trace::fields::start_of;
+
+// Starts as the fields say.
+pub fn play_start(
+    s: State,
+    keys: &mut [u64],
+    links: &mut [u64],
+    certs: &mut [u64],
+    order: &mut [u64],
+    f: &[u8],
+) -> Outcome
+    requires { ⌜ 22 ≤ length (now f) ⌝ }
+    ensures { λ r. ⌜ Did (callBy kinds.Start (now (f .entry)) []) (modelBy kinds.Start (now (f .entry)) [])
+        (tables s (now (keys .entry)) (now (links .entry)) (now (certs .entry)) (now (order .entry)))
+        (left r (now (keys .exit)) (now (links .exit)) (now (certs .exit)) (now (order .exit)) []) ⌝ }
+{
+    let with = start_of(f);
+    init(s, keys, links, certs, order, with)
+}
+
+// Adds the round that the fields say.
+pub fn play_round(
+    s: State,
+    keys: &[u64],
+    links: &[u64],
+    certs: &[u64],
+    order: &[u64],
+    f: &[u8],
+) -> Outcome
+    requires { ⌜ 8 ≤ length (now f) ⌝ }
+    ensures { λ r. ⌜ Did (callBy kinds.Round (now (f .entry)) []) (modelBy kinds.Round (now (f .entry)) [])
+        (tables s (now (keys .entry)) (now (links .entry)) (now (certs .entry)) (now (order .entry)))
+        (left r (now (keys .entry)) (now (links .entry)) (now (certs .entry)) (now (order .entry)) []) ⌝ }
+{
+    let fields = round_of(f);
+    let round = fields.round;
+    let peers = fields.peers;
+    extend_from_ahead(s, keys, links, certs, order, round, peers)
+}
+
+// Drops the rounds below the one that the fields say.
+pub fn play_drop(
+    s: State,
+    keys: &mut [u64],
+    links: &mut [u64],
+    certs: &mut [u64],
+    order: &mut [u64],
+    f: &[u8],
+) -> Outcome
+    requires { ⌜ 4 ≤ length (now f) ⌝ }
+    ensures { λ r. ⌜ Did (callBy kinds.Drop (now (f .entry)) []) (modelBy kinds.Drop (now (f .entry)) [])
+        (tables s (now (keys .entry)) (now (links .entry)) (now (certs .entry)) (now (order .entry)))
+        (left r (now (keys .exit)) (now (links .exit)) (now (certs .exit)) (now (order .exit)) []) ⌝ }
+{
+    let round = number_of(f, 0);
+    drop_upto(s, keys, links, certs, order, Round(round))
+}
