@@ -12,6 +12,7 @@ use Rattle.spec.specs.Calls.{flag, newBottom, doDrop}
 use Rattle.models.specs.Digest.{Fit}
 use Rattle.dag_round_keys.specs.Zero.{emptied}
 use Rattle.dag_round_order.specs.Shift.{drained}
+use Rattle.commit_state.specs.Memory.{memoryHolds}
 use Rattle.commit_state.specs.View.{gapOf, confOf, progressOf}
 use Rattle.commit_state.specs.Back.{droppedState}
 use Rattle.commit_state.specs.Reads.{dropped-rounds}
@@ -38,12 +39,12 @@ module _ (s : State) (ks ls cs os : List ℕ) (r : ℕ) where
       let k : ℕ = below ks os (s .count) b in
       let low : s .bottom .0 ≤ b = omega arith in
       let t : State = droppedState s (min r (s .top .0)) b (s .count - k) in
-      let small : s .memory .count ≤ 128 = counted s ks ls cs os fk fl h .memory-ok in
+      let holds : memoryHolds (s .memory) ≡ true = counted s ks ls cs os fk fl h .memory-ok in
       λ i. record {
-        phase = drained-phase s ks ls cs os fk fl h b low t refl refl small refl i;
-        places = drained-places s ks ls cs os fk fl h b low t refl refl small i;
-        pt = drained-pt s ks ls cs os fk fl h b low t refl refl small i;
-        heights = drained-heights s ks ls cs os fk fl h b low t refl refl small i;
+        phase = drained-phase s ks ls cs os fk fl h b low t refl refl holds refl i;
+        places = drained-places s ks ls cs os fk fl h b low t refl refl holds i;
+        pt = drained-pt s ks ls cs os fk fl h b low t refl refl holds i;
+        heights = drained-heights s ks ls cs os fk fl h b low t refl refl holds i;
         bottom = b;
         top = s .top .0;
         rounds = fun-ext (λ x. dropped-rounds s (min r (s .top .0)) b (s .count - k) x low) i;

@@ -21,6 +21,7 @@ use Rattle.dag_round_keys.specs.Sorted.{Sorted}
 use Rattle.dag_round_order.specs.Shift.{drained, drained-sorted, drained-inside}
 use Rattle.tables_heights.specs.View.{Live}
 use Rattle.tables_links.specs.Named.{Links}
+use Rattle.commit_state.specs.Memory.{memoryHolds}
 use Rattle.commit_state.specs.View.{pointAt}
 use Rattle.commit_state.specs.declared.state.State.{State}
 use Rattle.tables_test.specs.Model.{shape, shape-says, places-says}
@@ -125,13 +126,13 @@ module _ (s : State) (ks ls cs os : List ℕ) (fk : Fit ks) (fl : Fit ls) (h : c
   fit2 q u = same-fit ks ls cs ks2 ls2 cs2 q (kept ks 8 q u) (kept ls 328 q u) (kept cs 1 q u) ∙ had .fits q (stayed q u .0)
 
   -- a state with the places that stay and the new bottom
-  module _ (t : State) (ec : t .count ≡ n - k) (eb : t .bottom .0 ≡ b) (small : t .memory .count ≤ 128) where
+  module _ (t : State) (ec : t .count ≡ n - k) (eb : t .bottom .0 ≡ b) (holds : memoryHolds (t .memory) ≡ true) where
     -- the tables can still be read as a store
     pub drained-regular : regular t ks2 ls2 cs2 os2 ≡ true
     drained-regular =
         regular-intro t ks2 ls2 cs2 os2 (omega (arith, size, places-says _ (had .places-ok))) (record {
           room = omega (arith, had .count-ok, size, ec);
-          memory = small;
+          memory = holds;
           inside = subst (λ m. Inside os2 m (length os2)) (sym ec) inside2;
           sorted = subst (Sorted ks2 os2) (sym ec) sorted2;
           right = subst (λ m. Links (t .bottom .0) ks2 ls2 os2 m) (sym ec) (subst (λ c. Links c ks2 ls2 os2 (n - k)) (sym eb) links2);

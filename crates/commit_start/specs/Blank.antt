@@ -1,5 +1,5 @@
 -- Tables that are zeroed, with no place in use.
-use Prim.Native.Nat.{ℕ, _≤_}
+use Prim.Native.Nat.{ℕ}
 use mathlib.Core.Path.{_≡_, refl}
 use mathlib.Core.List.{List}
 use mathlib.Core.Bool.{true}
@@ -15,6 +15,7 @@ use Rattle.dag_round_keys.specs.Sorted.{isInside, isSorted}
 use Rattle.tables_links.specs.Links.{linksHold}
 use Rattle.commit_state.specs.declared.state.State.{State}
 use Rattle.commit_state.specs.View.{phaseOf}
+use Rattle.commit_state.specs.Memory.{memoryHolds}
 use Rattle.tables_test.specs.Model.{shape}
 use Rattle.tables_test.specs.View.{view, regular, seenAt}
 
@@ -27,16 +28,16 @@ unfolding blank
 blank-length t = filled-length _ t 0 (length t)
 
 -- where no place is in use, nothing but the memory is to be regular
-pub regular-none : (t : State) (ks ls cs os : List ℕ) → t .count ≡ 0 → t .memory .count ≤ 128 → regular t ks ls cs os ≡ true
+pub regular-none : (t : State) (ks ls cs os : List ℕ) → t .count ≡ 0 → memoryHolds (t .memory) ≡ true → regular t ks ls cs os ≡ true
 unfolding regular isInside isSorted linksHold every
-regular-none t ks ls cs os z m = rw z (both (le-leb 0 (length os) (omega arith)) (both (le-leb (t .memory .count) 128 m) refl))
+regular-none t ks ls cs os z m = rw z (both (le-leb 0 (length os) (omega arith)) (both m refl))
 
 module _ (ks ls cs os : List ℕ) (sh : shape ks ls cs os ≡ true) where
   blank-shape : shape (blank ks) (blank ls) (blank cs) (blank os) ≡ true
   unfolding shape
   blank-shape = rw (blank-length ks, blank-length ls, blank-length cs, blank-length os) sh
 
-  module _ (t : State) (z : t .count ≡ 0) (m : t .memory .count ≤ 128) where
+  module _ (t : State) (z : t .count ≡ 0) (m : memoryHolds (t .memory) ≡ true) where
     abbrev v : Store
     v = view t (blank ks) (blank ls) (blank cs) (blank os)
 

@@ -24,6 +24,7 @@ use Rattle.commit_state.specs.State.{noMemory}
 use Rattle.commit_state.specs.View.{phaseOf, optionOf, gapOf, pointAt, confOf, progressOf, memoryOf}
 use Rattle.commit_state.specs.Back.{usedOf, Starts, begunState, clearedState}
 use Rattle.commit_state.specs.Numbers.{confHolds}
+use Rattle.commit_state.specs.Memory.{memoryHolds, none-hold}
 use Rattle.commit_state.specs.Reads.{startArgsOf, begun-rounds, begun-progress, cleared-rounds}
 use Rattle.tables_test.specs.Model.{shape, chain-no, chain-yes, test-yes}
 use Rattle.tables_test.specs.View.{view, regular, seenAt}
@@ -40,7 +41,7 @@ startCheck v b = cond (startOk (v .places) (startArgsOf b)) (cond (countsAsStart
 
 -- a state that a reset left
 unfoldable pub resetHolds : State → Bool
-resetHolds s = eqb (s .phase) 2 && (eqb (s .count) 0 && leb (s .memory .count) 128)
+resetHolds s = eqb (s .phase) 2 && (eqb (s .count) 0 && memoryHolds (s .memory))
 
 -- the inspector's memory that a start keeps
 unfoldable pub keptMemory : State → Memory
@@ -117,23 +118,23 @@ module _ (s : State) (m : Memory) (e : m ≡ noMemory) where
 
   pub kept-used : s .phase ≡ 2 → (s .count ≡ 0 → ⊥) → m ≡ keptMemory s
   unfolding keptMemory resetHolds
-  kept-used p d = rw (and-yes (eq-eqb (s .phase) 2 p) (and-no (leb (s .memory .count) 128) (ne-eqb (s .count) 0 d))) e
+  kept-used p d = rw (and-yes (eq-eqb (s .phase) 2 p) (and-no (memoryHolds (s .memory)) (ne-eqb (s .count) 0 d))) e
 
-  pub kept-long : s .phase ≡ 2 → s .count ≡ 0 → 128 < s .memory .count → m ≡ keptMemory s
+  pub kept-broken : s .phase ≡ 2 → s .count ≡ 0 → (r : Bool) → r ≡ memoryHolds (s .memory) → not r ≡ true → m ≡ keptMemory s
   unfolding keptMemory resetHolds
-  kept-long p z l = rw (and-yes (eq-eqb (s .phase) 2 p) (and-yes (eq-eqb (s .count) 0 z) (lt-leb (s .memory .count) 128 l))) e
+  kept-broken p z r d h = rw (and-yes (eq-eqb (s .phase) 2 p) (and-yes (eq-eqb (s .count) 0 z) (sym d ∙ not-true r h))) e
 
-pub kept-all : (s : State) → s .phase ≡ 2 → s .count ≡ 0 → s .memory .count ≤ 128 → s .memory ≡ keptMemory s
+pub kept-all : (s : State) → s .phase ≡ 2 → s .count ≡ 0 → (r : Bool) → r ≡ memoryHolds (s .memory) → not r ≡ false → s .memory ≡ keptMemory s
 unfolding keptMemory resetHolds
-kept-all s p z l = rw (both (eq-eqb (s .phase) 2 p) (both (eq-eqb (s .count) 0 z) (le-leb (s .memory .count) 128 l))) refl
+kept-all s p z r d h = rw (both (eq-eqb (s .phase) 2 p) (both (eq-eqb (s .count) 0 z) (sym d ∙ not-false r h))) refl
 
--- it fits
-pub kept-fits : (s : State) → keptMemory s .count ≤ 128
+-- it holds
+pub kept-holds : (s : State) → memoryHolds (keptMemory s) ≡ true
 unfolding keptMemory resetHolds
-kept-fits s =
-    byTest (eqb (s .phase) 2 && (eqb (s .count) 0 && leb (s .memory .count) 128))
-    (λ t. rw t (leb-true _ _ (and-r (eqb (s .count) 0) _ (and-r (eqb (s .phase) 2) _ t))))
-    (λ f. rw f (omega arith))
+kept-holds s =
+    byTest (eqb (s .phase) 2 && (eqb (s .count) 0 && memoryHolds (s .memory)))
+    (λ t. rw t (and-r (eqb (s .count) 0) _ (and-r (eqb (s .phase) 2) _ t)))
+    (λ f. rw f none-hold)
 
 -- ---- the memory that a start keeps
 
@@ -167,8 +168,8 @@ module _ (s : State) (ks ls cs os : List ℕ) (sh : shape ks ls cs os ≡ true) 
   reset-holds h =
       let (rg, p) = reset-elim (and-l (isReset (v .phase)) _ h) in
       let a = and-r (leb (s .count) (length os)) _ rg in
-      let inside = inside-is os (s .count) (length os) .0 (and-l (isInside os (s .count) (length os)) _ (and-r (leb (s .memory .count) 128) _ a)) in
-      both (eq-eqb _ _ p) (both (eq-eqb _ _ (none-used inside (and-r (isReset (v .phase)) _ h))) (and-l (leb (s .memory .count) 128) _ a))
+      let inside = inside-is os (s .count) (length os) .0 (and-l (isInside os (s .count) (length os)) _ (and-r (memoryHolds (s .memory)) _ a)) in
+      both (eq-eqb _ _ p) (both (eq-eqb _ _ (none-used inside (and-r (isReset (v .phase)) _ h))) (and-l (memoryHolds (s .memory)) _ a))
 
   holds-reset : resetHolds s ≡ true → wasReset v ≡ true
   unfolding wasReset resetHolds view seenAt isUsed any phaseOf isReset
@@ -176,7 +177,7 @@ module _ (s : State) (ks ls cs os : List ℕ) (sh : shape ks ls cs os ≡ true) 
       let p = and-l (eqb (s .phase) 2) _ h in
       let a = and-r (eqb (s .phase) 2) _ h in
       let z : s .count ≡ 0 = eqb-true _ _ (and-l (eqb (s .count) 0) _ a) in
-      let rg = regular-none s ks ls cs os z (leb-true _ _ (and-r (eqb (s .count) 0) _ a)) in
+      let rg = regular-none s ks ls cs os z (and-r (eqb (s .count) 0) _ a) in
       let ph : isReset (v .phase) ≡ true = rw (both sh rg, eqb-true (s .phase) 2 p) refl in
       both ph (every-intro (v .places) _ (λ q l. rw z refl))
 
@@ -229,7 +230,7 @@ module _ (s : State) (ks ls cs os : List ℕ) (b : StartArgs) where
   makes e =
       let sh = fits e in
       let t : State = begunState (keptMemory s) b in
-      let m : t .memory .count ≤ 128 = kept-fits s in
+      let m : memoryHolds (t .memory) ≡ true = kept-holds s in
       λ i. record {
         phase = blank-phase ks ls cs os sh t refl m i;
         places = (blank-places ks ls cs os sh t refl m ∙ places-some (shape ks ls cs os) (length os) true (sym sh) refl) i;

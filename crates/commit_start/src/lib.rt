@@ -24,6 +24,7 @@ use commit_state::state::Memory;
 use commit_state::state::State;
 use commit_state::state::conf_holds;
 use commit_state::state::empty_memory;
+use commit_state::state::memory_holds;
 use dag_round_keys::zero_words;
 use models::refusal::BAD_START;
 use models::refusal::Check;
@@ -89,7 +90,7 @@ fn check_start(
     Check::Passed
 }
 
-// The inspector's memory that a start keeps: a reset's.
+// The inspector's memory that a start keeps: a reset's, if it holds.
 fn kept_memory(s: State) -> Memory
     ensures { λ r. ⌜ r ≡ keptMemory s ⌝ }
 {
@@ -100,7 +101,7 @@ fn kept_memory(s: State) -> Memory
         return empty_memory();
     }
     let memory = s.memory;
-    if 128 < memory.count {
+    if !memory_holds(memory) {
         return empty_memory();
     }
     memory

@@ -3,3 +3,4 @@ pub mod View
 pub mod Back
 pub mod Reads
 pub mod Numbers
+pub mod Memory

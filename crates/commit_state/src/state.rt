@@ -4,6 +4,7 @@ ghost use mathlib.Core.Path.{_≡_};
 ghost use Prim.Native.Nat.{_+_, _<_, _≤_};
 ghost use Rattle.commit_state.specs.State.{noMemory};
 ghost use Rattle.commit_state.specs.Numbers.{confHolds, rangeHolds, usedHold};
+ghost use Rattle.commit_state.specs.Memory.{isLower, memoryHolds};
 use models::parts::Digest;
 use models::parts::Height;
 use models::parts::OptionRound;
@@ -128,6 +129,44 @@ pub fn used_hold(s: State, n: u32) -> bool
             return false;
         }
         k += 1;
+    }
+    true
+}
+
+// Whether the digest of an entry is below that of another one. The words are put into arrays of their own, which can be lent.
+fn is_lower(a: Entry, b: Entry) -> bool
+    ensures { λ r. ⌜ r ≡ isLower a b ⌝ }
+{
+    let x = a.digest;
+    let y = b.digest;
+    let d = x.0;
+    let e = y.0;
+    let p = [d[0], d[1], d[2], d[3]];
+    let q = [e[0], e[1], e[2], e[3]];
+    dag_round_keys::digest_less(&p, 0, &q, 0)
+}
+
+// Whether the inspector's memory is one that an inspection leaves: at most 128 entries, their authors peers, their digests rising.
+pub fn memory_holds(m: Memory) -> bool
+    ensures { λ r. ⌜ r ≡ memoryHolds m ⌝ }
+{
+    let n = m.count;
+    if 128 < n {
+        return false;
+    }
+    let mut i: usize = 0;
+    while i < n {
+        let x = m.entries[i];
+        if 31 < x.author {
+            return false;
+        }
+        if i + 1 < n {
+            let y = m.entries[i + 1];
+            if !is_lower(x, y) {
+                return false;
+            }
+        }
+        i += 1;
     }
     true
 }

@@ -9,7 +9,7 @@ use lib.Dec.{eqb, ltb}
 use borrow.Author.Tests.{eq-eqb, ne-eqb, eqb-true, lt-ltb, le-ltb}
 use Rattle.laws.specs.Test.{sameOr, leOr, same-test}
 use Rattle.laws.specs.Bytes.{Below, number, number-lt}
-use Rattle.dag_round_keys.specs.Key.{key, before, same, before-next, before-here, same-refl, same-eq, words-same, words-each}
+use Rattle.dag_round_keys.specs.Key.{key, before, same, before-next, before-here, same-refl, same-eq, words-same, words-each, words-before}
 use Rattle.models.specs.Tables.{roundAt, digestOf}
 use Rattle.models.specs.Digest.{digest-words, words, digestAt, Fit, words-length, words-below}
 
@@ -60,6 +60,15 @@ pub digest-before : (t u : List ℕ) (p q : ℕ) → Fit t → Fit u → before 
 unfolding digestAt
 digest-before t u p q f g =
     number-before (2 ^ 64) 0 (words t p 4) (words u q 4) (words-length t p 4 ∙ sym (words-length u q 4)) (words-below t p 4 f) (words-below u q 4 g)
+
+module _ (t u : List ℕ) (p q : ℕ) where
+  -- four equal words: not lower
+  pub digest-level : ((k : ℕ) → k < 4 → getD t (p + k) 0 ≡ getD u (q + k) 0) → ltb (digestAt t p) (digestAt u q) ≡ false
+  digest-level h = let e = digest-alike t u p q h in le-ltb (digestAt t p) (digestAt u q) (omega arith)
+
+  -- the first words that differ decide
+  pub digest-first : Fit t → Fit u → (k : ℕ) → k < 4 → ((j : ℕ) → j < k → getD t (p + j) 0 ≡ getD u (q + j) 0) → (getD t (p + k) 0 ≡ getD u (q + k) 0 → ⊥) → ltb (digestAt t p) (digestAt u q) ≡ ltb (getD t (p + k) 0) (getD u (q + k) 0)
+  digest-first f g k l h n = sym (digest-before t u p q f g) ∙ words-before t u p q 4 k l h n
 
 -- a key comes before: a lower round, or the same and a lower digest
 pub before-is : (t u : List ℕ) (i j : ℕ) → Fit t → Fit u → before (key t i) (key u j) ≡ (ltb (roundAt t i) (roundAt u j) || (eqb (roundAt t i) (roundAt u j) && ltb (digestOf t i) (digestOf u j)))

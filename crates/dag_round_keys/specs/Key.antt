@@ -1,5 +1,5 @@
 -- The key of a place, and the order of keys.
-use Prim.Native.Nat.{ℕ, zero, suc, _+_, _*_, _-_, _<_, _≤_}
+use Prim.Native.Nat.{ℕ, zero, suc, _+_, _*_, _<_, _≤_}
 use mathlib.Core.Path.{_≡_, refl, sym, _∙_, ap}
 use mathlib.Core.List.{List, [], _∷_}
 use mathlib.Core.Bool.{Bool, true, false, _&&_, _||_, false≢true, or-false}
@@ -100,37 +100,6 @@ same-eq [] (y ∷ ys) h = absurd (false≢true h)
 same-eq (x ∷ xs) [] h = absurd (false≢true h)
 same-eq (x ∷ xs) (y ∷ ys) h = rw (eqb-true x y (and-l _ _ h), same-eq xs ys (and-r (eqb x y) _ h)) refl
 
--- what is left of a key from word k, in the loop of `less`
-abbrev pub rest : List ℕ → ℕ → ℕ → List ℕ
-rest t p k = words t (p + k) (6 - k)
-
--- word k, then the rest
-rest-cons : (t : List ℕ) (p k : ℕ) → k < 6 → rest t p k ≡ getD t (p + k) 0 ∷ rest t p (k + 1)
-unfolding words
-rest-cons t p k l = rw (left k l, over p k) refl
-  where
-    left : (k : ℕ) → k < 6 → 6 - k ≡ suc (6 - (k + 1))
-    left k l = omega arith
-
-    over : (p k : ℕ) → p + (k + 1) ≡ p + k + 1
-    over p k = omega arith
-
--- equal words at k: go on
-pub rest-next : (a b : List ℕ) (p q k : ℕ) → k < 6 → getD a (p + k) 0 ≡ getD b (q + k) 0 → before (rest a p k) (rest b q k) ≡ before (rest a p (k + 1)) (rest b q (k + 1))
-rest-next a b p q k l e = rw (rest-cons a p k l, rest-cons b q k l) (before-next _ _ _ _ e)
-
--- other words at k: they decide
-pub rest-here : (a b : List ℕ) (p q k : ℕ) → k < 6 → (getD a (p + k) 0 ≡ getD b (q + k) 0 → ⊥) → before (rest a p k) (rest b q k) ≡ ltb (getD a (p + k) 0) (getD b (q + k) 0)
-rest-here a b p q k l n = rw (rest-cons a p k l, rest-cons b q k l) (before-here _ _ _ _ n)
-
--- no word is left
-pub rest-end : (a b : List ℕ) (p q k : ℕ) → 6 ≤ k → before (rest a p k) (rest b q k) ≡ false
-unfolding words before
-rest-end a b p q k l = rw (none k l) refl
-  where
-    none : (k : ℕ) → 6 ≤ k → 6 - k ≡ 0
-    none k l = omega arith
-
 -- rounds rise along the order
 pub before-round : (t : List ℕ) (i j : ℕ) → before (key t i) (key t j) ≡ true → roundAt t i ≤ roundAt t j
 unfolding key
@@ -176,6 +145,18 @@ unfolding words
 words-each t u p q zero e k l = absurd (omega arith)
 words-each t u p q (suc m) e zero l = rw (add-zero p, add-zero q) (ap (λ (w : List ℕ). getD w 0 0) e)
 words-each t u p q (suc m) e (suc k) l = rw (over p k, over q k) at (words-each t u (p + 1) (q + 1) m (ap (drop 1) e) k (omega arith))
+  where
+    over : (p k : ℕ) → p + 1 + k ≡ p + suc k
+    over p k = omega arith
+
+-- words compare as the first of them that differ
+pub words-before : (t u : List ℕ) (p q m k : ℕ) → k < m → ((j : ℕ) → j < k → getD t (p + j) 0 ≡ getD u (q + j) 0) → (getD t (p + k) 0 ≡ getD u (q + k) 0 → ⊥) → before (words t p m) (words u q m) ≡ ltb (getD t (p + k) 0) (getD u (q + k) 0)
+unfolding words
+words-before t u p q zero k l h n = absurd (omega arith)
+words-before t u p q (suc m) zero l h n = rw (add-zero p, add-zero q) (before-here (getD t p 0) (getD u q 0) (words t (p + 1) m) (words u (q + 1) m) (rw (add-zero p, add-zero q) at n))
+words-before t u p q (suc m) (suc k) l h n =
+    before-next (getD t p 0) (getD u q 0) (words t (p + 1) m) (words u (q + 1) m) (rw (add-zero p, add-zero q) at (h 0 (omega arith)))
+    ∙ rw (over p k, over q k) at (words-before t u (p + 1) (q + 1) m k (omega arith) (λ j i. rw (over p j, over q j) (h (suc j) (omega arith))) (rw (over p k, over q k) n))
   where
     over : (p k : ℕ) → p + 1 + k ≡ p + suc k
     over p k = omega arith

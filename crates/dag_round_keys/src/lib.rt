@@ -7,7 +7,7 @@ ghost use lib.ListN.{length, getD};
 ghost use Rattle.models.specs.Tables.{placeAt, Inside, roundAt, authorAt, statusAt, marksAt};
 ghost use Rattle.dag_round_keys.specs.Fill.{copied, zeroed};
 ghost use Rattle.dag_round_keys.specs.Zero.{emptied};
-ghost use lib.Dec.{eqb};
+ghost use lib.Dec.{eqb, ltb};
 ghost use Rattle.dag_round_keys.specs.Key.{key, before};
 ghost use Rattle.dag_round_keys.specs.Sorted.{isInside, Sorted, isSorted, placeOf, standing, pointAt};
 ghost use Rattle.dag_round_keys.specs.Id.{idFrom};
@@ -134,6 +134,23 @@ pub fn id_at(t: &[u64], at: usize, round: u64, author: u64) -> [u64; 8]
     [round, author, x, y, z, w, 0, 0]
 }
 
+// Whether the digest in the four words of a from i on is lower than the one in those of b from j on.
+pub fn digest_less(a: &[u64], i: usize, b: &[u64], j: usize) -> bool
+    requires { ⌜ (i + 4 ≤ length (now a)) × (j + 4 ≤ length (now b)) ⌝ }
+    ensures { λ r. ⌜ r ≡ ltb (digestAt (now (a .entry)) i) (digestAt (now (b .entry)) j) ⌝ }
+{
+    let mut k: usize = 0;
+    while k < 4 {
+        let x = a[i + k];
+        let y = b[j + k];
+        if x != y {
+            return x < y;
+        }
+        k += 1;
+    }
+    false
+}
+
 // Whether place i of table a comes before place j of table b.
 pub fn less(a: &[u64], i: usize, b: &[u64], j: usize) -> bool
     requires { ⌜ (i * 8 + 8 ≤ length (now a)) × (j * 8 + 8 ≤ length (now b)) ⌝ }
@@ -146,16 +163,7 @@ pub fn less(a: &[u64], i: usize, b: &[u64], j: usize) -> bool
     if u != v {
         return u < v;
     }
-    let mut k = 2;
-    while k < 6 {
-        let u = a[x + k];
-        let v = b[y + k];
-        if u != v {
-            return u < v;
-        }
-        k += 1;
-    }
-    false
+    digest_less(a, x + 2, b, y + 2)
 }
 
 // Whether the first n cells hold places below `places`.

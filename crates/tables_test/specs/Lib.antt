@@ -10,3 +10,4 @@ pub mod Formed
 pub mod Four
 pub mod Whole
 pub mod Refines
+pub mod Inspection

@@ -15,6 +15,7 @@ use Rattle.laws.specs.Scan.{every}
 use Rattle.models.specs.Tables.{roundAt, authorAt, placeAt, Inside}
 use Rattle.commit_state.specs.declared.state.State.{State}
 use Rattle.commit_state.specs.Numbers.{confHolds, rangeHolds, usedHold, roundsHold}
+use Rattle.commit_state.specs.Memory.{memoryHolds}
 use Rattle.dag_round_keys.specs.Sorted.{isInside, inside-is, isSorted}
 use Rattle.commit_state.specs.View.{recordOf}
 use Rattle.tables_ids.specs.Ids.{idHolds}
@@ -29,9 +30,9 @@ use Rattle.tables_heights.specs.Model.{heightsHold}
 unfoldable pub shape : List ℕ → List ℕ → List ℕ → List ℕ → Bool
 shape ks ls cs os = eqb (length ks) (length os * 8) && (eqb (length ls) (length os * 328) && eqb (length cs) (length os))
 
--- the numbers of the state, with n places
+-- the numbers of the state, with n places, and the inspector's memory
 unfoldable pub stateHolds : State → ℕ → Bool
-stateHolds s n = eqb (s .phase) 1 && (placesOk n && (confHolds (s .«commit_history_rounds») (s .«deduplicate_rounds») && (roundsHold s && (leb (s .count) n && leb (s .memory .count) 128))))
+stateHolds s n = eqb (s .phase) 1 && (placesOk n && (confHolds (s .«commit_history_rounds») (s .«deduplicate_rounds») && (roundsHold s && (leb (s .count) n && memoryHolds (s .memory)))))
 
 -- the used places and their order
 unfoldable pub orderHolds : State → List ℕ → List ℕ → Bool

@@ -25,6 +25,7 @@ use Rattle.tables_links.specs.Ruled.{Bare, Words, every-used, bare-exact, words
 use Rattle.tables_ids.specs.Ids.{idHolds, idAtHolds}
 use Rattle.commit_state.specs.View.{phaseOf, confOf, roundsOf}
 use Rattle.commit_state.specs.Numbers.{confHolds, roundsHold, conf-is, rounds-is}
+use Rattle.commit_state.specs.Memory.{memoryHolds}
 use Rattle.commit_state.specs.declared.state.State.{State}
 use Rattle.tables_test.specs.Model.{shape, stateHolds, orderHolds, placeOk, okAt, eachOk, usedOk, pointsHold, tested, range-says, places-says}
 use Rattle.tables_test.specs.View.{view, regular, wordsFit}
@@ -40,7 +41,7 @@ pub record Started (s : State) (ks ls cs os : List ℕ) : Type 0 where
   pub conf-ok : confHolds (s .«commit_history_rounds») (s .«deduplicate_rounds») ≡ true
   pub rounds-ok : roundsHold s ≡ true
   pub count-ok : s .count ≤ length os
-  pub memory-ok : s .memory .count ≤ 128
+  pub memory-ok : memoryHolds (s .memory) ≡ true
   pub fits : (q : ℕ) → Used os (s .count) q → wordsFit ks ls cs q ≡ true
   pub facts : Facts s ks ls cs os
 
@@ -155,8 +156,8 @@ module _ (s : State) (ks ls cs os : List ℕ) where
       (λ p. absurd (byTest (eqb (s .phase) 2) (λ q. clash h (rw (t, p, q) refl)) (λ q. clash h (rw (t, p, q) refl)))))
       (λ f. absurd (clash h (rw f refl)))
 
-  -- the tables have one number of places, and the inspector's memory is within its own
-  pub shape-of : countsAsStarted (view s ks ls cs os) ≡ true → (shape ks ls cs os ≡ true) × (s .memory .count ≤ 128)
+  -- the tables have one number of places, and the inspector's memory holds
+  pub shape-of : countsAsStarted (view s ks ls cs os) ≡ true → (shape ks ls cs os ≡ true) × (memoryHolds (s .memory) ≡ true)
   unfolding countsAsStarted
   shape-of h = let (sh, rg, ph) = begun-elim (and-l (isStarted (view s ks ls cs os .phase)) _ h) in (sh, regular-elim s ks ls cs os rg .memory)
 
@@ -178,7 +179,7 @@ module _ (s : State) (ks ls cs os : List ℕ) where
         let f = tests-facts po ro (and-l (orderHolds s ks os) _ h3) pts in
         let rg = regular-intro s ks ls cs os (places-says _ po) (record {
           room = leb-true _ _ (and-l (leb (s .count) (length os)) _ s5);
-          memory = leb-true _ _ (and-r (leb (s .count) (length os)) _ s5);
+          memory = and-r (leb (s .count) (length os)) _ s5;
           inside = f .inside;
           sorted = f .sorted;
           right = f .right;
@@ -209,7 +210,7 @@ module _ (s : State) (ks ls cs os : List ℕ) where
     unfolding tested stateHolds
     counted-passes h =
         let t = counted h in
-        both (t .shaped) (both (both (t .begun) (both (t .places-ok) (both (t .conf-ok) (both (t .rounds-ok) (both (le-leb _ _ (t .count-ok)) (le-leb _ _ (t .memory-ok)))))))
+        both (t .shaped) (both (both (t .begun) (both (t .places-ok) (both (t .conf-ok) (both (t .rounds-ok) (both (le-leb _ _ (t .count-ok)) (t .memory-ok))))))
         (both (facts-order (t .rounds-ok) (t .facts)) (facts-points (t .places-ok) (t .facts))))
 
     -- the tables pass the test exactly if they count as started

@@ -12,13 +12,14 @@ use Rattle.models.specs.Tables.{placeAt, Inside, Used}
 use Rattle.dag_round_keys.specs.Sorted.{Sorted, isInside, isSorted, inside-is, sorted-is}
 use Rattle.tables_links.specs.Links.{linksHold}
 use Rattle.tables_links.specs.Named.{Links, links-sound, links-complete}
+use Rattle.commit_state.specs.Memory.{memoryHolds}
 use Rattle.commit_state.specs.declared.state.State.{State}
 use Rattle.tables_test.specs.Model.{shape}
 use Rattle.tables_test.specs.View.{view, regular, wordsFit}
 
 pub record Regular (s : State) (ks ls cs os : List ℕ) : Type 0 where
   pub room : s .count ≤ length os
-  pub memory : s .memory .count ≤ 128
+  pub memory : memoryHolds (s .memory) ≡ true
   pub inside : Inside os (s .count) (length os)
   pub sorted : Sorted ks os (s .count)
   pub right : Links (s .bottom .0) ks ls os (s .count)
@@ -30,12 +31,12 @@ module _ (s : State) (ks ls cs os : List ℕ) where
   unfolding regular
   regular-elim h =
       let a = and-r (leb (s .count) (length os)) _ h in
-      let b = and-r (leb (s .memory .count) 128) _ a in
+      let b = and-r (memoryHolds (s .memory)) _ a in
       let c = and-r (isInside os (s .count) (length os)) _ b in
       let d = and-r (isSorted ks os (s .count)) _ c in
       record {
         room = leb-true _ _ (and-l (leb (s .count) (length os)) _ h);
-        memory = leb-true _ _ (and-l (leb (s .memory .count) 128) _ a);
+        memory = and-l (memoryHolds (s .memory)) _ a;
         inside = inside-is os (s .count) (length os) .0 (and-l (isInside os (s .count) (length os)) _ b);
         sorted = sorted-is ks os (s .count) .0 (and-l (isSorted ks os (s .count)) _ c);
         right = links-sound (s .bottom .0) ks ls os (s .count) (and-l (linksHold (s .bottom .0) ks ls os (s .count)) _ d);
@@ -46,7 +47,7 @@ module _ (s : State) (ks ls cs os : List ℕ) where
   pub regular-intro : length os ≤ 4096 → Regular s ks ls cs os → regular s ks ls cs os ≡ true
   unfolding regular
   regular-intro small r =
-      both (le-leb _ _ (r .room)) (both (le-leb _ _ (r .memory)) (both (inside-is os (s .count) (length os) .1 (r .inside)) (both (sorted-is ks os (s .count) .1 (r .sorted))
+      both (le-leb _ _ (r .room)) (both (r .memory) (both (inside-is os (s .count) (length os) .1 (r .inside)) (both (sorted-is ks os (s .count) .1 (r .sorted))
       (both (links-complete (s .bottom .0) ks ls os (s .count) (r .inside) small (r .right)) (every-intro (s .count) _ (λ i l. r .fits (placeAt os i) (i, l, refl)))))))
 
 -- tables before and after a change that leaves both regular

@@ -15,6 +15,7 @@ use Rattle.dag_round_keys.specs.Sorted.{isInside, isSorted}
 use Rattle.tables_links.specs.Links.{linksHold}
 use Rattle.tables_links.specs.Words.{proofRoundAt}
 use Rattle.commit_state.specs.View.{pointAt, roundsOf, confOf, progressOf, memoryOf, phaseOf}
+use Rattle.commit_state.specs.Memory.{memoryHolds}
 use Rattle.commit_state.specs.declared.state.State.{State}
 use Rattle.tables_test.specs.Model.{shape}
 
@@ -23,11 +24,11 @@ unfoldable pub wordsFit : List ℕ → List ℕ → List ℕ → ℕ → Bool
 wordsFit ks ls cs q =
     ltb (marksAt ks q) 8 && (leb (getD cs q 0) 65_535 && (eqb (statusAt ks q) 0 || (ltb (evidenceAt ls q) 4_294_967_296 && ltb (proofRoundAt ls q) 4_294_967_296)))
 
--- what the tables must be to be read as 01's store: places of the order in range and sorted, targets the places that their links name,
--- words that are values
+-- what the tables must be to be read as 01's store: the inspector's memory rises, places of the order are in range and sorted, targets
+-- the places that their links name, words values
 unfoldable pub regular : State → List ℕ → List ℕ → List ℕ → List ℕ → Bool
 regular s ks ls cs os =
-    leb (s .count) (length os) && (leb (s .memory .count) 128 && (isInside os (s .count) (length os) && (isSorted ks os (s .count)
+    leb (s .count) (length os) && (memoryHolds (s .memory) && (isInside os (s .count) (length os) && (isSorted ks os (s .count)
     && (linksHold (s .bottom .0) ks ls os (s .count) && every (s .count) (λ i. wordsFit ks ls cs (placeAt os i))))))
 
 -- the point at the place q, of n used ones

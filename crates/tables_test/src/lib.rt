@@ -64,7 +64,7 @@ fn rounds_hold(s: State) -> bool
     commit_state::state::used_hold(s, t - b + 1)
 }
 
-// Whether the state is started and its numbers lie in their ranges.
+// Whether the state is started, its numbers lie in their ranges and the inspector's memory holds.
 fn state_holds(s: State, places: usize) -> bool
     ensures { λ r. ⌜ r ≡ stateHolds s places ⌝ }
 {
@@ -84,7 +84,7 @@ fn state_holds(s: State, places: usize) -> bool
         return false;
     }
     let memory = s.memory;
-    memory.count <= 128
+    commit_state::state::memory_holds(memory)
 }
 
 // Whether the order holds places, sorted by their keys, at most four to an author and a round. That it holds places is tested first: the

@@ -1,5 +1,5 @@
 -- `tables_test::state_holds` meets its contract.
-use mathlib.Core.Path.{refl, sym}
+use mathlib.Core.Path.{sym}
 use borrow.Author.Tests.{eq-eqb, ne-eqb, le-leb, lt-leb}
 use Rattle.laws.specs.Test.{and-no, and-yes}
 use Rattle.tables_test.specs.Model.{stateHolds, chain-no, chain-yes, test-yes}
@@ -29,7 +29,7 @@ returns-5 c = test-yes _ _ _ (eq-eqb _ _ (c .before .before .before .before .bef
 
 returns-6 : tie.Need-returns-6
 unfolding stateHolds
-returns-6 c = test-yes _ _ _ (eq-eqb _ _ (c .before .before .before .before .before .before .before .before .before .before .if1 .left)) (chain-yes _ _ _ _ (c .before .before .before .before .before .before .before .before .before .places-hold .ensures) (c .before .before .before .before .before .before .before .before .if2 .left) (chain-yes _ _ _ _ (c .before .before .before .before .before .before .before .conf-holds .ensures) (c .before .before .before .before .before .before .if3 .left) (chain-yes _ _ _ _ (c .before .before .before .before .before .rounds-hold .ensures) (c .before .before .before .before .if4 .left) (sym (and-yes (le-leb _ _ (c .before .before .if5 .left)) refl)))))
+returns-6 c = test-yes _ _ _ (eq-eqb _ _ (c .before .before .before .before .before .before .before .before .before .before .if1 .left)) (chain-yes _ _ _ _ (c .before .before .before .before .before .before .before .before .before .places-hold .ensures) (c .before .before .before .before .before .before .before .before .if2 .left) (chain-yes _ _ _ _ (c .before .before .before .before .before .before .before .conf-holds .ensures) (c .before .before .before .before .before .before .if3 .left) (chain-yes _ _ _ _ (c .before .before .before .before .before .rounds-hold .ensures) (c .before .before .before .before .if4 .left) (sym (and-yes (le-leb _ _ (c .before .before .if5 .left)) (sym (c .memory-holds .ensures)))))))
 
 pub state-holds-spec : {M : Type 1} → statement M
 state-holds-spec =
@@ -43,4 +43,5 @@ state-holds-spec =
     (λ c κs. search needs)
     returns-4
     returns-5
+    (λ c κs. search needs)
     returns-6)
