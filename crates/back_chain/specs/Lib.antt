@@ -2,3 +2,4 @@ pub mod Chain
 pub mod RefinesWalk
 pub mod Model
 pub mod Refines
+pub mod Walked

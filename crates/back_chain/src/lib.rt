@@ -103,7 +103,7 @@ fn anchor_chain(
                 };
             }
             Step::Anchor(e) => {
-                let q = e.anchor;
+                let q = e.anchor as usize;
                 list[count] = e;
                 count += 1;
                 sought = top_proof(links, q);

@@ -132,6 +132,10 @@ module _ (s : State) (ks cs os : List ℕ) (i : PointId) (w : List ℕ) (words :
   unfolding needed
   needed-by l q e c d f g = rw (← words, ← at, lt-ltb x (s .count) l, ← e, sym f ∙ g) refl
 
+-- a used place fits in 16 bits
+pub place-fits : (s : State) (ks cs os : List ℕ) (q : ℕ) → Walkable s ks cs os → Used os (s .count) q → q < 65536
+place-fits s ks cs os q w (i, l, e) = omega (arith, w .0 .1, w .0 .3 i l, e)
+
 -- ---- what is needed and isn't refused
 
 -- it stands in the order and is valid

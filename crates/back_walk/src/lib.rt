@@ -20,10 +20,11 @@ use models::refusal::POINT_MISSING;
 use models::refusal::Refusal;
 use models::refusal::not_valid;
 
-// An anchor of the chain: its place, its proof's, and the round of the anchor's top proof (`EnqueuedAnchor`).
+// An anchor of the chain: its place, its proof's, and the round of the anchor's top proof (`EnqueuedAnchor`). A place is below 4,096, and
+// the chain is an array by value: so 16 bits.
 pub struct EnqueuedAnchor {
-    pub anchor: usize,
-    pub proof: usize,
+    pub anchor: u16,
+    pub proof: u16,
     pub prev_proof_round: Round,
 }
 
@@ -170,8 +171,8 @@ fn anchor_at(
             let top = top_proof(links, q);
             let prev_proof_round = top.round;
             Step::Anchor(EnqueuedAnchor {
-                anchor: q,
-                proof: p,
+                anchor: q as u16,
+                proof: p as u16,
                 prev_proof_round,
             })
         }

@@ -2,46 +2,31 @@
 use Prim.Native.Nat.{ℕ}
 use mathlib.Core.Path.{_≡_, refl, sym, ap, subst, _∙_}
 use mathlib.Core.List.{List}
-use mathlib.Core.Bool.{Bool, true, false, not, cond}
-use native.Mathlib.Omega.{arith}
-use borrow.Author.Tests.{eqb-true, not-true, not-false}
+use mathlib.Core.Bool.{true}
+use borrow.Author.Tests.{eqb-true}
 use Rattle.laws.specs.Test.{byTest}
 use Rattle.spec.specs.Ids.{Id}
 use Rattle.spec.specs.Store.{Store}
 use Rattle.spec.specs.Rules.{countsAsStarted}
-use Rattle.spec.specs.Chain as chain
-use Rattle.spec.specs.Chain.{number, conflict, Out, bad, good, EnqueuedAnchor, lowestWalked, anchorsOf}
+use Rattle.spec.specs.Chain.{Out, bad, good, EnqueuedAnchor, anchorsOf}
 use Rattle.spec.specs.History.{Finished, commitAll}
-use Rattle.spec.specs.Walk.{Rising, rising-less}
-use Rattle.spec.specs.WellFormed.{Wf, countsAsStarted-elim}
-use Rattle.spec.specs.Preservation.{anchors-rising}
 use Rattle.spec.specs.Calls as calls
 use Rattle.spec.specs.Calls.{call, perform, isStart, bufferOf, doCommit, commitEnd}
-use Rattle.models.specs.Digest.{Fit}
 use Rattle.commit_state.specs.declared.state.State.{State}
 use Rattle.tables_test.specs.View.{view}
-use Rattle.tables_test.specs.Whole.{sized}
-use Rattle.tables_test.specs.Refines.{Started, counted}
-use Rattle.back_chain.specs.declared.Chain.{Chain}
-use Rattle.back_chain.specs.Chain.{chainOf, chainOut, out-good, out-bad}
+use Rattle.back_chain.specs.Walked.{walked}
 use Rattle.commit_dequeue.specs.All.{Left, stopOf, leftOf, finishedOf, allOf, all-kept}
 use Rattle.models.specs.declared.refusal.Refusal.{Refusal}
-use Rattle.models.specs.declared.refusal.Refusal.the-variants.{Number, Conflict}
 use Rattle.models.specs.declared.refusal.Check.{Check}
 use Rattle.models.specs.declared.refusal.Check.the-variants.{Passed, Failed}
 use Rattle.commit_answer.specs.declared.answer.Answer.{Answer}
 use Rattle.commit_answer.specs.declared.answer.Answer.the-variants.{Anchors, Refused}
 use Rattle.commit_answer.specs.declared.answer.Outcome.{Outcome}
-use Rattle.models.specs.Refusal.{refusalOf}
+use Rattle.models.specs.Refusal.{refusalOf, refusalFrom, refusal-from-of}
 use Rattle.commit_answer.specs.Answer as answers
-use Rattle.commit_answer.specs.Answer.{answerOf, Tables, tables, left, nothingDone, Did, byTables, call-by}
+use Rattle.commit_answer.specs.Answer.{answerOf, Tables, tables, left, nothingDone, Did, refusal, byTables, call-by}
 
 -- ---- mirrors
-
--- 01's refusal as the code's
-unfoldable pub whyFrom : chain.Refusal → Refusal
-whyFrom (number n) = Number n
-whyFrom (conflict r) = Conflict (record { 0 = r })
 
 -- the answer after n finished anchors
 unfoldable pub answerFrom : Check → ℕ → Answer
@@ -54,13 +39,9 @@ endedOf c s n = record { answer = answerFrom c n; state = s }
 unfoldable pub outcomeOf : Left → Outcome
 outcomeOf l = record { answer = answerFrom (l .stopped) (l .finished); state = l .state }
 
--- the anchors that the trigger yields; 2 for tables that don't count as started
-unfoldable pub walked : Store → Id → Out (List EnqueuedAnchor)
-walked v i = cond (countsAsStarted v) (anchorsOf v i) (bad (number 2))
-
 -- what is left after the walk
 unfoldable pub afterWalk : List ℕ → List ℕ → List ℕ → State → List ℕ → List ℕ → Out (List EnqueuedAnchor) → Left
-afterWalk ks ls os s cs b (bad r) = record { state = s; certs = cs; buffer = b; finished = 0; stopped = Failed (whyFrom r) }
+afterWalk ks ls os s cs b (bad r) = record { state = s; certs = cs; buffer = b; finished = 0; stopped = Failed (refusalFrom r) }
 afterWalk ks ls os s cs b (good es) = allOf ks ls os s cs b 0 0 es
 
 -- what the call leaves
@@ -72,18 +53,6 @@ abbrev pub commitLeft : Id → List ℕ → Tables → answers.Left
 commitLeft i b d = let x = committed (d .state) (d .keys) (d .links) (d .certs) (d .order) i b in left (outcomeOf x) (d .keys) (d .links) (x .certs) (d .order) (x .buffer)
 
 -- ---- answers
-
--- the code's refusal is 01's again
-why-is : (r : chain.Refusal) → refusalOf (whyFrom r) ≡ r
-unfolding refusalOf whyFrom
-why-is (number n) = refl
-why-is (conflict r) = refl
-
--- and 01's the code's
-why-of : (r : Refusal) → whyFrom (refusalOf r) ≡ r
-unfolding refusalOf whyFrom
-why-of (Number n) = refl
-why-of (Conflict r) = refl
 
 -- nothing was done: no anchor is finished, whatever stopped them
 idle-none : (c : Check) (n : ℕ) → nothingDone (answerFrom c n) ≡ true → n ≡ 0
@@ -103,11 +72,6 @@ pub ended-by-check : (c d : Check) (s : State) (n : ℕ) → c ≡ d → record 
 unfolding endedOf
 ended-by-check c d s n e = rw e refl
 
--- refused by the walk
-pub ended-why : (r : Refusal) (s : State) (n : ℕ) → endedOf (Failed r) s n ≡ record { answer = Refused (whyFrom (refusalOf r)) n; state = s }
-unfolding endedOf answerFrom
-ended-why r s n = rw (why-of r) refl
-
 -- ---- the anchors
 
 -- what the anchors of a chain leave, with the outcome o
@@ -121,37 +85,6 @@ pub ended-by : (ks ls os : List ℕ) (s : State) (cs b : List ℕ) (es : List En
 unfolding outcomeOf endedOf
 ended-by ks ls os s cs b es c s′ cs′ b′ n w f o g =
     (g ∙ ap outcomeOf w, ap (λ (y : Left). y .certs) w, ap (λ (y : Left). y .buffer) w, subst (λ (y : Left). finishedOf ks ls os y ≡ commitAll (view s ks ls cs os) b 0 0 es) w f)
-
--- ---- the walk
-
-module _ (v : Store) (i : Id) (r : Bool) (e : r ≡ countsAsStarted v) where
-  pub walked-no : not r ≡ true → walked v i ≡ bad (number 2)
-  unfolding walked
-  walked-no h = rw (sym e ∙ not-true r h) refl
-
-  module _ (h : not r ≡ false) where
-    pub walked-counts : countsAsStarted v ≡ true
-    walked-counts = sym e ∙ not-false r h
-
-    module _ (c : Chain) (d : chainOut c ≡ anchorsOf v i) where
-      pub walked-bad : (w : Refusal) → c .check ≡ Failed w → walked v i ≡ bad (refusalOf w)
-      unfolding walked
-      walked-bad w z = rw walked-counts (sym d ∙ out-bad c w z)
-
-      pub walked-good : c .check ≡ Passed → walked v i ≡ good (chainOf (c .list) (c .count))
-      unfolding walked
-      walked-good z = rw walked-counts (sym d ∙ out-good c z)
-
--- what it is given
-module _ (s : State) (ks ls cs os : List ℕ) (fk : Fit ks) (fl : Fit ls) (h : countsAsStarted (view s ks ls cs os) ≡ true) where
-  -- the anchors rise
-  pub chain-rises : (i : Id) (es : List EnqueuedAnchor) → walked (view s ks ls cs os) i ≡ good es → Rising (view s ks ls cs os) 0 es
-  unfolding walked
-  chain-rises i es e =
-      let v = view s ks ls cs os in
-      let t : Started s ks ls cs os = counted s ks ls cs os fk fl h in
-      let w : Wf v = countsAsStarted-elim v (sized s ks ls cs os fk fl (t .shaped) (t .facts .inside)) h in
-      rising-less v 0 (lowestWalked v) es (omega arith) (anchors-rising v w i es (rw h at e))
 
 -- ---- the call
 
@@ -189,12 +122,12 @@ module _ (s : State) (ks ls cs os : List ℕ) (i : Id) (b : List ℕ) where
   }
 
   -- refused before the first anchor
-  pub says-refused : (r : chain.Refusal) → walked v i ≡ bad r → (o : Outcome) → o ≡ record { answer = Refused (whyFrom r) 0; state = s } → Says o cs b
-  unfolding committed afterWalk answers.outcomeOf answerOf answerFrom outcomeOf
+  pub says-refused : (r : Refusal) → walked v i ≡ bad (refusalOf r) → (o : Outcome) → o ≡ refusal s r → Says o cs b
+  unfolding committed afterWalk answers.outcomeOf answerOf answerFrom outcomeOf refusal
   says-refused r e o f =
-      says (record { state = s; certs = cs; buffer = b; finished = 0; stopped = Failed (whyFrom r) }) (sym (ap (afterWalk ks ls os s cs b) e))
-      (ap (λ (y : chain.Refusal). record { answer = calls.refused y 0; store = v; buffer = b }) (why-is r) ∙ sym (call-is ∙ ap leaveBy e))
-      (λ z. (refl, refl, refl)) o f
+      says (record { state = s; certs = cs; buffer = b; finished = 0; stopped = Failed r })
+      (sym (ap (afterWalk ks ls os s cs b) e ∙ ap (λ (y : Refusal). record { state = s; certs = cs; buffer = b; finished = 0; stopped = Failed y }) (refusal-from-of r)))
+      (sym (call-is ∙ ap leaveBy e)) (λ z. (refl, refl, refl)) o f
 
   -- the anchors of the chain were gone through
   pub says-ended : (es : List EnqueuedAnchor) → walked v i ≡ good es → (o : Outcome) (cs′ b′ : List ℕ) → Ended ks ls os s cs b es o cs′ b′ → Says o cs′ b′

@@ -83,7 +83,7 @@ pub fn commit(
     let c = chain_of(s, keys, links, certs, order, id);
     let check = c.check;
     if let Check::Failed(r) = check {
-        return ended(Check::Failed(r), s, 0);
+        return refused(s, r);
     }
     commit_chain(s, keys, links, certs, order, b, c)
 }

@@ -72,8 +72,8 @@ fn put_anchor(
     ensures { λ r. ⌜ (r ≡ at + 83 + count * 37) × (now (b .exit) ≡ written (now (b .entry)) at
         (recordFor s (now (keys .entry)) (now (certs .entry)) (now (order .entry)) (now (marks .entry)) low high (enqueuedOf e))) ⌝ }
 {
-    let anchor = e.anchor;
-    let proof = e.proof;
+    let anchor = e.anchor as usize;
+    let proof = e.proof as usize;
     let round = round_at(keys, anchor);
     let x = executable(s, round);
     let prev_proof_round = e.prev_proof_round;
@@ -101,8 +101,8 @@ fn next_state(s: State, keys: &[u64], certs: &[u64], e: EnqueuedAnchor) -> State
     requires { ⌜ Placed (now keys) (now certs) (enqueuedOf e) ⌝ }
     ensures { λ r. ⌜ r ≡ afterState s (roundAt (now (keys .entry)) (e .anchor)) (roundAt (now (keys .entry)) (e .proof)) (authorAt (now (keys .entry)) (e .anchor)) ⌝ }
 {
-    let anchor = e.anchor;
-    let proof = e.proof;
+    let anchor = e.anchor as usize;
+    let proof = e.proof as usize;
     let ar = round_at(keys, anchor);
     let pr = round_at(keys, proof);
     let author = dag_round_keys::author(keys, anchor) as u32;
@@ -128,7 +128,7 @@ pub fn dequeue_anchor(
     ensures says { λ r. ⌜ Says (view s (now (keys .entry)) (now (links .entry)) (now (certs .entry)) (now (order .entry))) (now (b .entry)) at (enqueuedOf e) (r .check)
         (view (r .state) (now (keys .entry)) (now (links .entry)) (now (certs .exit)) (now (order .entry))) (now (b .exit)) (r .end) ⌝ }
 {
-    let t = test_anchor(s, keys, links, certs, order, e.anchor);
+    let t = test_anchor(s, keys, links, certs, order, e.anchor as usize);
     let count = t.count;
     let tested = t.check;
     let check = number_for(tested, s.emit_first_after_gap, count, b.len() - at);

@@ -11,15 +11,14 @@ use lib.Seq.{getD-set-same, getD-set-other}
 use Rattle.laws.specs.Test.{byTest, sameOr}
 use Rattle.laws.specs.Lists.{joined}
 use Rattle.laws.specs.Bytes.{be, be-length, written, written-length, written-append, andThen}
-use Rattle.spec.specs.Ids.{Id, idBytes}
+use Rattle.spec.specs.Ids.{idBytes}
 use Rattle.spec.specs.Store.{Store, idAt}
 use Rattle.spec.specs.Rules.{countsAsStarted}
 use Rattle.spec.specs.Records.{id-length}
 use Rattle.spec.specs.Chain as chain
-use Rattle.spec.specs.Chain.{Out, bad, good, then, refuse, anchorsOf}
+use Rattle.spec.specs.Chain.{Out, bad, good, then, refuse}
 use Rattle.spec.specs.Outlook.{outlook-length}
 use Rattle.spec.specs.History.{history, tested, outlookBytes, outlookAll}
-use Rattle.spec.specs.Calls.{anchors, refused, doOutlook}
 use Rattle.spec.specs.Walk.{Anchored, Rising}
 use Rattle.models.specs.Digest.{Fit}
 use Rattle.models.specs.Refusal.{refusalOf, unlessFailed, not-failed}
@@ -69,7 +68,7 @@ pub record Looked (v : Store) (ks : List ℕ) (room : ℕ) (l : List EnqueuedAnc
   pub stopped : (r : Refusal) → c ≡ Failed r → outlookAll v room (chainOf l count) ≡ bad (refusalOf r)
 
 -- what the outlook of the chain es leaves of the buffer b: "with nothing written" if it is refused
-pub record Resolution (v : Store) (b : List ℕ) (es : List chain.EnqueuedAnchor) (c : Check) (b′ : List ℕ) : Type 0 where
+pub record ChainLooked (v : Store) (b : List ℕ) (es : List chain.EnqueuedAnchor) (c : Check) (b′ : List ℕ) : Type 0 where
   pub anchors : c ≡ Passed → (outlookAll v (length b) es ≡ good (chainBytes v es)) × (b′ ≡ written b 0 (chainBytes v es))
   pub refused : (r : Refusal) → c ≡ Failed r → (outlookAll v (length b) es ≡ bad (refusalOf r)) × (b′ ≡ b)
 
@@ -263,24 +262,14 @@ module _ (ks : List ℕ) (l : List EnqueuedAnchor) (ns : List ℕ) (count : ℕ)
 -- ---- the whole
 
 module _ (v : Store) (ks b : List ℕ) (l : List EnqueuedAnchor) (count : ℕ) (c : Check) (ns : List ℕ) (h : Looked v ks (length b) l count c ns) where
-  pub resolution-refused : (r : Refusal) → c ≡ Failed r → Resolution v b (chainOf l count) (Failed r) b
-  resolution-refused r d = record { anchors = λ z. absurd (not-failed r z); refused = λ w y. (h .stopped w (d ∙ y), refl) }
+  pub chain-refused : (r : Refusal) → c ≡ Failed r → ChainLooked v b (chainOf l count) (Failed r) b
+  chain-refused r d = record { anchors = λ z. absurd (not-failed r z); refused = λ w y. (h .stopped w (d ∙ y), refl) }
 
-  pub resolution-all : c ≡ Passed → (b′ : List ℕ) → b′ ≡ written b 0 (looksIn ks l ns count) → Resolution v b (chainOf l count) Passed b′
-  resolution-all z b′ e = record { anchors = λ y. (h .pass z, e ∙ ap (written b 0) (h .bytes z)); refused = λ r y. absurd (not-failed r (sym y)) }
+  pub chain-all : c ≡ Passed → (b′ : List ℕ) → b′ ≡ written b 0 (looksIn ks l ns count) → ChainLooked v b (chainOf l count) Passed b′
+  chain-all z b′ e = record { anchors = λ y. (h .pass z, e ∙ ap (written b 0) (h .bytes z)); refused = λ r y. absurd (not-failed r (sym y)) }
 
 -- as many anchors as entries
 pub chain-length : (l : List EnqueuedAnchor) (n : ℕ) → length (chainOf l n) ≡ n
 unfolding chainOf
 chain-length l zero = refl
 chain-length l (suc n) = ap suc (chain-length l n)
-
--- what 01's outlook leaves of a store from which the walk took these anchors
-module _ (v : Store) (i : Id) (b : List ℕ) (es : List chain.EnqueuedAnchor) (w : anchorsOf v i ≡ good es) (c : Check) (b′ : List ℕ) (h : Resolution v b es c b′) where
-  pub resolution-handed : c ≡ Passed → doOutlook v i b ≡ record { answer = anchors (length es); store = v; buffer = b′ }
-  unfolding doOutlook
-  resolution-handed z = let (p, q) = h .anchors z in rw (w, doOutlook, p, q) refl
-
-  pub resolution-stopped : (r : Refusal) → c ≡ Failed r → doOutlook v i b ≡ record { answer = refused (refusalOf r) 0; store = v; buffer = b′ }
-  unfolding doOutlook
-  resolution-stopped r d = let (p, q) = h .refused r d in rw (w, doOutlook, p, q) refl

@@ -1,2 +1,3 @@
 pub mod Look
 pub mod Chain
+pub mod Outlook

@@ -9,7 +9,7 @@ ghost use Rattle.spec.specs.Rules.{countsAsStarted};
 ghost use Rattle.spec.specs.Walk.{Rising};
 ghost use Rattle.tables_test.specs.View.{view};
 ghost use Rattle.back_chain.specs.Chain.{chainOf};
-ghost use Rattle.commit_outlook.specs.Chain.{looksIn, Placed, Looked, Resolution};
+ghost use Rattle.commit_outlook.specs.Chain.{looksIn, Placed, Looked, ChainLooked};
 use crate::look::look_one;
 use answer_bytes::put_id;
 use answer_bytes::put_number;
@@ -81,7 +81,7 @@ pub fn put_looks(
         k -= 1;
         let e = list[k];
         let n = numbers[k];
-        let m = put_id(b, at, keys, e.anchor);
+        let m = put_id(b, at, keys, e.anchor as usize);
         at = put_number(b, m, 4, n as u64);
     }
 }
@@ -100,7 +100,7 @@ pub fn look_chain(
     requires { ⌜ countsAsStarted (view s (now keys) (now links) (now certs) (now order)) ≡ true ⌝ }
     requires { ⌜ Rising (view s (now keys) (now links) (now certs) (now order)) 0 (chainOf list count) ⌝ }
     requires { ⌜ count ≤ 512 ⌝ }
-    ensures { λ r. ⌜ Resolution (view s (now (keys .entry)) (now (links .entry)) (now (certs .entry)) (now (order .entry))) (now (b .entry)) (chainOf list count) r (now (b .exit)) ⌝ }
+    ensures { λ r. ⌜ ChainLooked (view s (now (keys .entry)) (now (links .entry)) (now (certs .entry)) (now (order .entry))) (now (b .entry)) (chainOf list count) r (now (b .exit)) ⌝ }
 {
     let looks = look_all(s, keys, links, certs, order, list, count, b.len());
     let check = looks.check;

@@ -2,3 +2,4 @@
 // Added by document 01, 'Outlook': what a trigger's anchors would yield, without a change.
 pub mod chain;
 pub mod look;
+pub mod outlook;

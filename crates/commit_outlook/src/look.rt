@@ -39,7 +39,7 @@ pub fn look_one(
     ensures outcome { λ r. ⌜ unlessFailed (r .check) (good (e .anchor)) ≡ lookAt (view s (now (keys .entry)) (now (links .entry)) (now (certs .entry)) (now (order .entry))) left (e .anchor) ⌝ }
     ensures points { λ r. ⌜ r .count ≡ length (history (view s (now (keys .entry)) (now (links .entry)) (now (certs .entry)) (now (order .entry))) (e .anchor)) ⌝ }
 {
-    let t = test_anchor(s, keys, links, certs, order, e.anchor);
+    let t = test_anchor(s, keys, links, certs, order, e.anchor as usize);
     let count = t.count as u32;
     let check = t.check;
     if let Check::Failed(r) = check {

@@ -1,11 +1,13 @@
 // Origin: none.
-// Commit for C.
+// Commit and outlook for C.
 ghost use Rattle.spec.specs.Calls as calls;
 ghost use Rattle.models.specs.Parts.{idOf};
 ghost use Rattle.commit_answer.specs.Answer.{tables};
 ghost use Rattle.commit_call.specs.Commit.{commitLeft};
+ghost use Rattle.commit_outlook.specs.Outlook.{outlookLeft};
 ghost use Rattle.committer.specs.Replies.{Replies};
 use commit_call::commit;
+use commit_outlook::outlook::outlook;
 use commit_state::state::State;
 use committer_reply::reply::Reply;
 use committer_reply::reply::reply_of;
@@ -27,5 +29,24 @@ pub extern "C" fn committer_commit(
         (tables (r .state) (now (keys .entry)) (now (links .entry)) (now (certs .exit)) (now (order .entry))) (now (b .exit)) ⌝ }
 {
     let o = commit(s, keys, links, certs, order, id, b);
+    reply_of(o)
+}
+
+// b: the buffer for the anchors' ids and numbers of points.
+#[no_mangle]
+pub extern "C" fn committer_outlook(
+    s: State,
+    keys: &[u64],
+    links: &[u64],
+    certs: &[u64],
+    order: &[u64],
+    id: PointId,
+    b: &mut [u8],
+) -> Reply
+    ensures { λ r. ⌜ Replies (calls.outlook (idOf id) (now (b .entry))) (outlookLeft (idOf id) (now (b .entry)))
+        (tables s (now (keys .entry)) (now (links .entry)) (now (certs .entry)) (now (order .entry))) r
+        (tables (r .state) (now (keys .entry)) (now (links .entry)) (now (certs .entry)) (now (order .entry))) (now (b .exit)) ⌝ }
+{
+    let o = outlook(s, keys, links, certs, order, id, b);
     reply_of(o)
 }

@@ -10,7 +10,6 @@ use Rattle.spec.specs.Ids.{Id}
 use Rattle.spec.specs.Store.{Store, retained}
 use Rattle.spec.specs.Rules.{countsAsStarted}
 use Rattle.spec.specs.Calls as calls
-use Rattle.spec.specs.Chain.{number, conflict}
 use Rattle.spec.specs.Calls.{Call, StartArgs, start, commit, call, done, flag, anchors, refused}
 use Rattle.spec.specs.Demand.{AllInList, after, History, wrote, histories, Given, gave, resolutions, AllExact, AsSaid, AllAsSaid, AllArrive}
 use Rattle.spec.specs.HeightEquations.{Sized}
@@ -18,10 +17,10 @@ use Rattle.spec.specs.Demand3.{demand-3}
 use Rattle.models.specs.Digest.{Fit}
 use Rattle.tables_test.specs.Whole.{sized}
 use Rattle.tables_test.specs.Refines.{counted}
-use Rattle.models.specs.declared.refusal.Refusal.the-variants.{Number, Conflict}
+use Rattle.models.specs.declared.refusal.Refusal.{Refusal}
 use Rattle.commit_answer.specs.declared.answer.Answer.{Answer}
 use Rattle.commit_answer.specs.declared.answer.Answer.the-variants.{Done, Flag, Anchors, Refused}
-use Rattle.models.specs.Refusal.{refusalOf}
+use Rattle.models.specs.Refusal.{refusalFrom, refusal-from-of}
 use Rattle.commit_answer.specs.Answer.{Tables, viewOf, Left, outcomeOf, answerOf, Did}
 
 -- one call that was made: 01's call that it is, the tables before it, what it left, and that it has done what its contract says
@@ -127,16 +126,14 @@ fromAnswer : calls.Answer → Answer
 fromAnswer done = Done
 fromAnswer (flag b) = Flag b
 fromAnswer (anchors n) = Anchors n
-fromAnswer (refused (number k) n) = Refused (Number k) n
-fromAnswer (refused (conflict r) n) = Refused (Conflict (record { 0 = r })) n
+fromAnswer (refused r n) = Refused (refusalFrom r) n
 
 from-answer : (a : Answer) → fromAnswer (answerOf a) ≡ a
-unfolding fromAnswer answerOf refusalOf
+unfolding fromAnswer answerOf
 from-answer Done = refl
 from-answer (Flag b) = refl
 from-answer (Anchors n) = refl
-from-answer (Refused (Number k) n) = refl
-from-answer (Refused (Conflict r) n) = refl
+from-answer (Refused r n) = ap (λ (x : Refusal). Refused x n) (refusal-from-of r)
 
 answer-same : (x y : Answer) → answerOf x ≡ answerOf y → x ≡ y
 answer-same x y e = sym (from-answer x) ∙ (ap fromAnswer e ∙ from-answer y)

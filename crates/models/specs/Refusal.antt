@@ -17,6 +17,21 @@ unfoldable pub refusalOf : Refusal → chain.Refusal
 refusalOf (Number n) = number n
 refusalOf (Conflict r) = conflict (r .0)
 
+-- and the refusal that 01's is
+unfoldable pub refusalFrom : chain.Refusal → Refusal
+refusalFrom (number n) = Number n
+refusalFrom (conflict r) = Conflict (record { 0 = r })
+
+pub refusal-of-from : (r : chain.Refusal) → refusalOf (refusalFrom r) ≡ r
+unfolding refusalOf refusalFrom
+refusal-of-from (number n) = refl
+refusal-of-from (conflict r) = refl
+
+pub refusal-from-of : (r : Refusal) → refusalFrom (refusalOf r) ≡ r
+unfolding refusalOf refusalFrom
+refusal-from-of (Number n) = refl
+refusal-from-of (Conflict r) = refl
+
 -- what follows a test
 unfoldable pub unlessFailed : {A : Type 0} → Check → Out A → Out A
 unlessFailed Passed o = o

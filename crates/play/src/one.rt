@@ -17,6 +17,7 @@ use commit_state::state::State;
 use play_calls::points::play_certify;
 use play_calls::points::play_commit;
 use play_calls::points::play_name;
+use play_calls::points::play_outlook;
 use play_calls::points::play_resolve;
 use play_calls::rounds::play_drop;
 use play_calls::rounds::play_round;
@@ -42,7 +43,7 @@ fn unmade(s: State) -> Outcome
     }
 }
 
-// Makes the call of a kind and its fields; b: the buffer that is lent to a call that takes one. A remove and an outlook are not made.
+// Makes the call of a kind and its fields; b: the buffer that is lent to a call that takes one. A remove is not made.
 fn play_fields(
     kind: Kind,
     s: State,
@@ -68,7 +69,7 @@ fn play_fields(
         Kind::Drop => play_drop(s, keys, links, certs, order, f),
         Kind::Gap => is_once_after_gap(s, keys, links, certs, order),
         Kind::Reset => reset(s, keys, links, certs, order),
-        Kind::Outlook => unmade(s),
+        Kind::Outlook => play_outlook(s, keys, links, certs, order, b, f),
         Kind::Broken => unmade(s),
     }
 }

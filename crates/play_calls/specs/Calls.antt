@@ -24,6 +24,7 @@ use Rattle.commit_points.specs.Name.{nameLeft}
 use Rattle.commit_points.specs.Resolve.{resolveLeft}
 use Rattle.commit_points.specs.Certify.{certifyLeft}
 use Rattle.commit_call.specs.Commit.{commitLeft}
+use Rattle.commit_outlook.specs.Outlook.{outlookLeft}
 use Rattle.trace.specs.Numbers.{numberAt, idAt, pointIdAt, id-read}
 use Rattle.trace.specs.Head.{linksIn}
 use Rattle.trace.specs.Fields.{callBy, startArgsIn, infoIn, start-read}
@@ -33,11 +34,11 @@ use Rattle.trace.specs.declared.head.Kind.the-variants as kind
 
 -- the kinds whose calls are made
 abbrev pub isCall : Kind → Bool
-isCall k = elim k [ kind.Start ↦ true | kind.Round ↦ true | kind.Name ↦ true | kind.Resolve ↦ true | kind.Certify ↦ true | kind.Commit ↦ true | kind.Remove ↦ false | kind.Drop ↦ true | kind.Gap ↦ true | kind.Reset ↦ true | kind.Outlook ↦ false | kind.Broken ↦ false ]
+isCall k = elim k [ kind.Start ↦ true | kind.Round ↦ true | kind.Name ↦ true | kind.Resolve ↦ true | kind.Certify ↦ true | kind.Commit ↦ true | kind.Remove ↦ false | kind.Drop ↦ true | kind.Gap ↦ true | kind.Reset ↦ true | kind.Outlook ↦ true | kind.Broken ↦ false ]
 
 -- those of them that take a buffer
 abbrev pub takesBuffer : Kind → Bool
-takesBuffer k = elim k [ kind.Start ↦ false | kind.Round ↦ false | kind.Name ↦ false | kind.Resolve ↦ false | kind.Certify ↦ false | kind.Commit ↦ true | kind.Remove ↦ false | kind.Drop ↦ false | kind.Gap ↦ false | kind.Reset ↦ false | kind.Outlook ↦ false | kind.Broken ↦ false ]
+takesBuffer k = elim k [ kind.Start ↦ false | kind.Round ↦ false | kind.Name ↦ false | kind.Resolve ↦ false | kind.Certify ↦ false | kind.Commit ↦ true | kind.Remove ↦ false | kind.Drop ↦ false | kind.Gap ↦ false | kind.Reset ↦ false | kind.Outlook ↦ true | kind.Broken ↦ false ]
 
 -- what the call of a kind, its fields and the buffer that it is lent leaves of the tables, to the word and the byte; nothing is done for a
 -- kind that isn't a call
@@ -52,7 +53,7 @@ modelBy kind.Remove f b = doneWith
 modelBy kind.Drop f b = dropLeft (numberAt f 0 4)
 modelBy kind.Gap f b = gapLeft
 modelBy kind.Reset f b = resetLeft
-modelBy kind.Outlook f b = doneWith
+modelBy kind.Outlook f b = outlookLeft (idAt f 0) b
 modelBy kind.Broken f b = doneWith
 
 -- ---- laws
@@ -91,6 +92,10 @@ module _ (d : Tables) (o : Left) where
       pub commit-made : Did (calls.commit (idOf i) w) (commitLeft (idOf i) w) d o → Did (callBy kind.Commit f w) (modelBy kind.Commit f w) d o
       unfolding callBy modelBy
       commit-made h = made (λ (z : Id). calls.commit z w) (λ (z : Id). commitLeft z w) (idOf i) (idAt f 0) _ (id-read f 0 i e) refl h
+
+      pub outlook-made : Did (calls.outlook (idOf i) w) (outlookLeft (idOf i) w) d o → Did (callBy kind.Outlook f w) (modelBy kind.Outlook f w) d o
+      unfolding callBy modelBy
+      outlook-made h = made (λ (z : Id). calls.outlook z w) (λ (z : Id). outlookLeft z w) (idOf i) (idAt f 0) _ (id-read f 0 i e) refl h
 
       pub resolve-made : (n : PointInfo) (r : List ℕ) → n ≡ infoIn f → r ≡ linksWords f (linksIn f) → Did (calls.resolve (idOf i) (infoOf n r)) (resolveLeft i n r) d o
           → Did (callBy kind.Resolve f w) (modelBy kind.Resolve f w) d o

@@ -1,5 +1,5 @@
 // Origin: none.
-// A point named, resolved, certified or committed from, by the fields of its record.
+// A point named, resolved, certified, committed from or looked at, by the fields of its record.
 ghost use Prim.Native.Nat.{_+_, _*_, _≤_};
 ghost use mathlib.Core.List.{[]};
 ghost use lib.ListN.{length};
@@ -10,6 +10,7 @@ ghost use Rattle.trace.specs.declared.head.Kind.the-variants as kinds;
 ghost use Rattle.play_calls.specs.Calls.{modelBy};
 use commit_answer::answer::Outcome;
 use commit_call::commit;
+use commit_outlook::outlook::outlook;
 use commit_points::certify::certify;
 use commit_points::name::add_dependency;
 use commit_points::resolve::resolve;
@@ -94,4 +95,23 @@ pub fn play_commit(
 {
     let id = id_of(f, 0);
     commit(s, keys, links, certs, order, id, b)
+}
+
+// Tells the anchors that a commit of the point of the fields would yield; b: the buffer for them.
+pub fn play_outlook(
+    s: State,
+    keys: &[u64],
+    links: &[u64],
+    certs: &[u64],
+    order: &[u64],
+    b: &mut [u8],
+    f: &[u8],
+) -> Outcome
+    requires { ⌜ 37 ≤ length (now f) ⌝ }
+    ensures { λ r. ⌜ Did (callBy kinds.Outlook (now (f .entry)) (now (b .entry))) (modelBy kinds.Outlook (now (f .entry)) (now (b .entry)))
+        (tables s (now (keys .entry)) (now (links .entry)) (now (certs .entry)) (now (order .entry)))
+        (left r (now (keys .entry)) (now (links .entry)) (now (certs .entry)) (now (order .entry)) (now (b .exit))) ⌝ }
+{
+    let id = id_of(f, 0);
+    outlook(s, keys, links, certs, order, id, b)
 }

@@ -27,7 +27,7 @@ pub fn anchors_of(answer: Answer) -> u32
 }
 
 // An id after its name, with a mark between its parts.
-fn write_id(name: &[u8], id: PointId, mark: &[u8]) {
+pub fn write_id(name: &[u8], id: PointId, mark: &[u8]) {
     let round = id.round;
     let digest = id.digest;
     let words = digest.0;

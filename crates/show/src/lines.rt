@@ -73,9 +73,6 @@ pub fn write_line(kind: Kind, answer: Answer, at: u64) {
         Kind::Remove => {
             write(b"unsupported\n");
         }
-        Kind::Outlook => {
-            write(b"unsupported\n");
-        }
         Kind::Drop => {
             write_answer(b"drop", answer);
         }

@@ -7,8 +7,10 @@ ghost use Rattle.play.specs.Runs.{Runs, Ends};
 use crate::anchors::anchors_of;
 use crate::anchors::write_anchors;
 use crate::lines::write_line;
+use crate::looks::write_looks;
 use commit_state::state::State;
 use play::one::play_one;
+use trace::head::Kind;
 use trace::head::least_left;
 
 // The state after the records that were played, the offset of the first that was not, and whether that one is broken.
@@ -16,6 +18,18 @@ pub struct Part {
     pub state: State,
     pub at: usize,
     pub broken: bool,
+}
+
+// The lines of the n anchors that stand in the buffer: an outlook's, or the records of a commit.
+fn write_answered(kind: Kind, b: &[u8], n: u32) {
+    match kind {
+        Kind::Outlook => {
+            write_looks(b, n);
+        }
+        _ => {
+            write_anchors(b, n);
+        }
+    }
 }
 
 // Plays the records of the bytes and writes their lines, until one is broken or too few bytes are left. b: the buffer that is lent to
@@ -48,7 +62,7 @@ pub fn play_part(
         let next = outcome.state;
         let end = played.end;
         now = next;
-        write_anchors(b, anchors_of(answer));
+        write_answered(kind, b, anchors_of(answer));
         write_line(kind, answer, std::num::wrapping_add_u64(base, at as u64));
         if end <= at {
             broken = true;

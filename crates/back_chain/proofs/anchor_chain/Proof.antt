@@ -36,17 +36,17 @@ returns-2 : tie.Need-returns-2 Inv-loop μ-loop
 returns-2 c = (walked-bad _ _ _ _ _ _ _ _ _ _ (omega arith) _ (c .before .before .before .before .plus .ensures) _ (c .before .before .before .visit .ensures) _ (c .before .step .given .1) _ refl ∙ c .before .before .before .before .before .before .loop .inv .3, omega arith)
 
 array-set-from-list : tie.Need-array-set-from-list Inv-loop μ-loop
-array-set-from-list c = let i = c .before .before .before .before .before .before .loop .inv .1 in let t = c .before .before .before .before .before .loop-test .taken in let p = c .before .before .before .before .before .before .before .before .before .before .before .before .before .pre .1 .1 .0 in search needs
+array-set-from-list c = let i = c .before .before .before .before .before .before .before .loop .inv .1 in let t = c .before .before .before .before .before .before .loop-test .taken in let p = c .before .before .before .before .before .before .before .before .before .before .before .before .before .before .pre .1 .1 .0 in search needs
 
 top-proof-requires : tie.Need-top-proof-requires Inv-loop μ-loop
 top-proof-requires c κs =
-    let a = c .before .before .before .before .before .before .before .before .before .before .before .before .before .args in
-    topped (a .s) (a .keys .now) (a .links .now) (a .certs .now) (a .order .now) _ (c .before .before .before .before .before .before .before .before .before .before .before .before .before .pre .0) (c .before .before .before .before .before .before .before .before .before .before .before .before .before .pre .1 .0) (found-used _ _ _ _ _ _ _ _ _ _ (c .before .before .before .visit .ensures) (c .before .step2 .given .1))
+    let a = c .before .before .before .before .before .before .before .before .before .before .before .before .before .before .args in
+    topped (a .s) (a .keys .now) (a .links .now) (a .certs .now) (a .order .now) _ (c .before .before .before .before .before .before .before .before .before .before .before .before .before .before .pre .0) (c .before .before .before .before .before .before .before .before .before .before .before .before .before .before .pre .1 .0) (found-used _ _ _ _ _ _ _ _ _ _ (c .before .before .before .before .visit .ensures) (c .before .before .step2 .given .1))
 
 loop-again-2 : tie.Need-loop-again-2 Inv-loop μ-loop
 loop-again-2 c =
-    let l = c .before .before .before .before .before .before .before .loop in
-    (search needs, search needs, simp length-set (l .inv .2), walked-found _ _ _ _ _ _ _ _ _ _ (omega arith) _ (c .before .before .before .before .before .plus .ensures) _ (c .before .before .before .before .visit .ensures) _ (c .before .before .step2 .given .1) _ _ (c .top-proof .ensures) (chain-more _ _ _ (omega (arith, c .before .before .before .before .before .before .before .loop .inv .1, c .before .before .before .before .before .before .before .loop .inv .2, c .before .before .before .before .before .before .loop-test .taken, c .before .before .before .before .before .before .before .before .before .before .before .before .before .before .pre .1 .1 .0))) ∙ l .inv .3)
+    let l = c .before .before .before .before .before .before .before .before .loop in
+    (search needs, search needs, simp length-set (l .inv .2), walked-found _ _ _ _ _ _ _ _ _ _ (omega arith) _ (c .before .before .before .before .before .before .plus .ensures) _ (c .before .before .before .before .before .visit .ensures) _ (c .before .before .before .step2 .given .1) _ _ (c .top-proof .ensures) (chain-more _ _ _ (omega (arith, c .before .before .before .before .before .before .before .before .loop .inv .1, c .before .before .before .before .before .before .before .before .loop .inv .2, c .before .before .before .before .before .before .before .loop-test .taken, c .before .before .before .before .before .before .before .before .before .before .before .before .before .before .before .pre .1 .1 .0))) ∙ l .inv .3)
 
 returns-3 : tie.Need-returns-3 Inv-loop μ-loop
 returns-3 c = (walked-none _ _ _ _ _ _ _ _ _ (omega arith) _ refl refl ∙ c .before .loop .inv .3, omega arith)
@@ -69,6 +69,7 @@ anchor-chain-spec =
     returns
     (λ c. search needs)
     returns-2
+    (λ c. search needs)
     (λ c. search needs)
     (λ c. search needs)
     array-set-from-list

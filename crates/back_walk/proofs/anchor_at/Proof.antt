@@ -1,5 +1,6 @@
+use native.Mathlib.Omega.{arith}
 use borrow.Author.Needs.{needs}
-use Rattle.back_walk.specs.Model.{placed, topped, needed-at, anchor-no, anchor-is}
+use Rattle.back_walk.specs.Model.{placed, topped, place-fits, needed-at, anchor-no, anchor-is}
 use Rattle.back_walk.proofs.anchor_at.Statement.{statement}
 use Rattle.back_walk.proofs.anchor_at.Tie as tie
 
@@ -8,6 +9,14 @@ previous-requires c κs = let a = c .before .before .before .before .args in pla
 
 top-proof-requires : tie.Need-top-proof-requires
 top-proof-requires c κs = let a = c .before .before .before .before .before .before .before .before .before .args in topped (a .s) (a .keys .now) (a .links .now) (a .certs .now) (a .order .now) _ (c .before .before .before .before .before .before .before .before .before .pre .0) (c .before .before .before .before .before .before .before .before .before .pre .1 .0) (needed-at (a .s) (a .keys .now) (a .certs .now) (a .order .now) _ _ (c .before .before .before .ready-valid-point .ensures) _ (c .before .found2 .given .1))
+
+cast-t15 : tie.Need-cast-t15
+cast-t15 c =
+    let a = c .before .before .before .before .before .before .before .before .before .before .before .args in
+    omega (arith, place-fits (a .s) (a .keys .now) (a .certs .now) (a .order .now) _ (c .before .before .before .before .before .before .before .before .before .before .before .pre .0) (needed-at (a .s) (a .keys .now) (a .certs .now) (a .order .now) _ _ (c .before .before .before .before .before .ready-valid-point .ensures) _ (c .before .before .before .found2 .given .1) .0))
+
+cast-t16 : tie.Need-cast-t16
+cast-t16 c = let a = c .before .before .before .before .before .before .before .before .before .before .before .args in omega (arith, place-fits (a .s) (a .keys .now) (a .certs .now) (a .order .now) (a .p) (c .before .before .before .before .before .before .before .before .before .before .before .pre .0) (c .before .before .before .before .before .before .before .before .before .before .before .pre .1 .1))
 
 returns : tie.Need-returns
 returns c = let a = c .before .before .before .before .before .before .before .before .before .args in anchor-no (a .s) (a .keys .now) (a .links .now) (a .certs .now) (a .order .now) (a .p) (a .round .0) _ (c .before .before .before .before .previous .ensures) _ (c .before .before .before .ready-valid-point .ensures) _ (c .before .found .given .1)
@@ -24,5 +33,7 @@ anchor-at-spec =
     (λ c. search needs)
     (λ c. search needs)
     top-proof-requires
+    cast-t15
+    cast-t16
     returns
     returns-2)

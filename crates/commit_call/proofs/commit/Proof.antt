@@ -1,19 +1,16 @@
-use mathlib.Core.Path.{_∙_}
-use Rattle.spec.specs.Chain.{number}
 use Rattle.models.specs.Digest.{Fit}
 use Rattle.models.specs.Parts.{idOf}
 use Rattle.tables_test.specs.View.{view}
-use Rattle.commit_answer.specs.Answer.{refusal}
-use Rattle.commit_call.specs.Commit.{whyFrom, ended-why, walked-no, walked-counts, walked-bad, walked-good, chain-rises, says-refused, says-ended}
+use Rattle.back_chain.specs.Walked.{walked-no, walked-counts, walked-bad, walked-good, chain-rises}
+use Rattle.commit_call.specs.Commit.{says-refused, says-ended}
 use borrow.Author.Needs.{needs}
 use Rattle.commit_call.proofs.commit.Statement.{statement}
 use Rattle.commit_call.proofs.commit.Tie as tie
 
 returns : tie.Need-returns
-unfolding whyFrom refusal
 returns c =
     let a = c .before .before .before .before .before .before .before .before .before .args in
-    says-refused (a .s) (a .keys .now) (a .links .now) (a .certs .now) (a .order .now) (idOf (a .id)) (a .b .now) (number 2) (walked-no (view (a .s) (a .keys .now) (a .links .now) (a .certs .now) (a .order .now)) (idOf (a .id)) _ (c .before .before .counts-as-started .ensures) (c .before .if1 .taken)) _ (c .refused .ensures)
+    says-refused (a .s) (a .keys .now) (a .links .now) (a .certs .now) (a .order .now) (idOf (a .id)) (a .b .now) _ (walked-no (view (a .s) (a .keys .now) (a .links .now) (a .certs .now) (a .order .now)) (idOf (a .id)) _ (c .before .before .counts-as-started .ensures) (c .before .if1 .taken)) _ (c .refused .ensures)
 
 chain-of-requires : tie.Need-chain-of-requires
 chain-of-requires c κs =
@@ -24,7 +21,7 @@ returns-2 : tie.Need-returns-2
 returns-2 c =
     let a = c .before .before .before .before .before .before .before .before .before .before .before .before .before .before .args in
     let h = c .before .before .before .before .chain-of in
-    says-refused (a .s) (a .keys .now) (a .links .now) (a .certs .now) (a .order .now) (idOf (a .id)) (a .b .now) _ (walked-bad (view (a .s) (a .keys .now) (a .links .now) (a .certs .now) (a .order .now)) (idOf (a .id)) _ (c .before .before .before .before .before .before .before .counts-as-started .ensures) (c .before .before .before .before .before .before .if1 .left) (h .result) (h .ensures .0) _ (c .before .before .check .given .1)) _ (c .ended .ensures ∙ ended-why _ _ _)
+    says-refused (a .s) (a .keys .now) (a .links .now) (a .certs .now) (a .order .now) (idOf (a .id)) (a .b .now) _ (walked-bad (view (a .s) (a .keys .now) (a .links .now) (a .certs .now) (a .order .now)) (idOf (a .id)) _ (c .before .before .before .before .before .before .before .counts-as-started .ensures) (c .before .before .before .before .before .before .if1 .left) (h .result) (h .ensures .0) _ (c .before .before .check .given .1)) _ (c .refused2 .ensures)
 
 commit-chain-requires : tie.Need-commit-chain-requires
 commit-chain-requires c κs =

@@ -16,64 +16,65 @@ long b = sym (length-map (b .args .s .rounds) _) ∙ b .good .0 .1 .1 .1 .1 .1 .
 
 test-anchor-requires : tie.Need-test-anchor-requires
 test-anchor-requires c κs =
-    let a = c .before .before .before .before .before .before .args in
-    let fk : Fit (a .keys .now) = λ p. c .before .before .before .before .before .shared-slice-known .given p .fits in
-    let fl : Fit (a .links .now) = λ p. c .before .before .before .before .shared-slice-known2 .given p .fits in
-    (held (a .s) (a .keys .now) (a .links .now) (a .certs .now) (a .order .now) fk fl (c .before .before .before .before .before .before .pre .0) (enqueuedOf (a .e)) (c .before .before .before .before .before .before .pre .1 .0), anchor-used (a .s) (a .keys .now) (a .links .now) (a .certs .now) (a .order .now) fk fl (c .before .before .before .before .before .before .pre .0) (enqueuedOf (a .e)) (c .before .before .before .before .before .before .pre .1 .0))
-
-number-for-requires : tie.Need-number-for-requires
-number-for-requires c κs =
     let a = c .before .before .before .before .before .before .before .args in
     let fk : Fit (a .keys .now) = λ p. c .before .before .before .before .before .before .shared-slice-known .given p .fits in
     let fl : Fit (a .links .now) = λ p. c .before .before .before .before .before .shared-slice-known2 .given p .fits in
-    let (n, p, q) = picked-ready (a .s) (a .keys .now) (a .links .now) (a .certs .now) (a .order .now) fk fl (c .before .before .before .before .before .before .before .pre .0) (enqueuedOf (a .e)) (c .before .before .before .before .before .before .before .pre .1 .0) (c .test-anchor .result) (c .test-anchor .ensures .0) in
+    (held (a .s) (a .keys .now) (a .links .now) (a .certs .now) (a .order .now) fk fl (c .before .before .before .before .before .before .before .pre .0) (enqueuedOf (a .e)) (c .before .before .before .before .before .before .before .pre .1 .0), anchor-used (a .s) (a .keys .now) (a .links .now) (a .certs .now) (a .order .now) fk fl (c .before .before .before .before .before .before .before .pre .0) (enqueuedOf (a .e)) (c .before .before .before .before .before .before .before .pre .1 .0))
+
+number-for-requires : tie.Need-number-for-requires
+number-for-requires c κs =
+    let a = c .before .before .before .before .before .before .before .before .args in
+    let fk : Fit (a .keys .now) = λ p. c .before .before .before .before .before .before .before .shared-slice-known .given p .fits in
+    let fl : Fit (a .links .now) = λ p. c .before .before .before .before .before .before .shared-slice-known2 .given p .fits in
+    let (n, p, q) = picked-ready (a .s) (a .keys .now) (a .links .now) (a .certs .now) (a .order .now) fk fl (c .before .before .before .before .before .before .before .before .pre .0) (enqueuedOf (a .e)) (c .before .before .before .before .before .before .before .before .pre .1 .0) (c .test-anchor .result) (c .test-anchor .ensures .0) in
     n
 
 returns : tie.Need-returns
 returns c =
-    let a = c .before .before .before .before .before .before .before .before .before .before .before .args in
-    let fk : Fit (a .keys .now) = λ p. c .before .before .before .before .before .before .before .before .before .before .shared-slice-known .given p .fits in
-    let fl : Fit (a .links .now) = λ p. c .before .before .before .before .before .before .before .before .before .shared-slice-known2 .given p .fits in
+    let a = c .before .before .before .before .before .before .before .before .before .before .before .before .args in
+    let fk : Fit (a .keys .now) = λ p. c .before .before .before .before .before .before .before .before .before .before .before .shared-slice-known .given p .fits in
+    let fl : Fit (a .links .now) = λ p. c .before .before .before .before .before .before .before .before .before .before .shared-slice-known2 .given p .fits in
     let w = one-refused (a .s) (a .keys .now) (a .links .now) (a .certs .now) (a .order .now) (a .b .now) (a .at) (enqueuedOf (a .e)) (c .before .before .before .before .test-anchor .result) (c .before .before .before .before .test-anchor .ensures .0) _ (c .before .before .before .number-for .ensures) _ (c .before .check .given .1) in
-    (w, one-says (a .s) (a .keys .now) (a .links .now) (a .certs .now) (a .order .now) fk fl (c .before .before .before .before .before .before .before .before .before .before .before .pre .0) (enqueuedOf (a .e)) (c .before .before .before .before .before .before .before .before .before .before .before .pre .1 .0) (long (c .before .before .before .before .before .before .before .before .before .before .before)) (a .b .now) (a .at) (c .before .before .before .before .before .before .before .before .before .before .before .pre .1 .1) _ w)
+    (w, one-says (a .s) (a .keys .now) (a .links .now) (a .certs .now) (a .order .now) fk fl (c .before .before .before .before .before .before .before .before .before .before .before .before .pre .0) (enqueuedOf (a .e)) (c .before .before .before .before .before .before .before .before .before .before .before .before .pre .1 .0) (long (c .before .before .before .before .before .before .before .before .before .before .before .before)) (a .b .now) (a .at) (c .before .before .before .before .before .before .before .before .before .before .before .before .pre .1 .1) _ w)
 
 put-anchor-requires : tie.Need-put-anchor-requires
 put-anchor-requires c κs =
-    let a = c .before .before .before .before .before .before .before .before .before .before .before .before .before .before .args in
-    let fk : Fit (a .keys .now) = λ p. c .before .before .before .before .before .before .before .before .before .before .before .before .before .shared-slice-known .given p .fits in
-    let fl : Fit (a .links .now) = λ p. c .before .before .before .before .before .before .before .before .before .before .before .before .shared-slice-known2 .given p .fits in
-    let (n, p, q) = picked-ready (a .s) (a .keys .now) (a .links .now) (a .certs .now) (a .order .now) fk fl (c .before .before .before .before .before .before .before .before .before .before .before .before .before .before .pre .0) (enqueuedOf (a .e)) (c .before .before .before .before .before .before .before .before .before .before .before .before .before .before .pre .1 .0) (c .before .before .before .before .before .before .before .test-anchor .result) (c .before .before .before .before .before .before .before .test-anchor .ensures .0) in
+    let a = c .before .before .before .before .before .before .before .before .before .before .before .before .before .before .before .args in
+    let fk : Fit (a .keys .now) = λ p. c .before .before .before .before .before .before .before .before .before .before .before .before .before .before .shared-slice-known .given p .fits in
+    let fl : Fit (a .links .now) = λ p. c .before .before .before .before .before .before .before .before .before .before .before .before .before .shared-slice-known2 .given p .fits in
+    let (n, p, q) = picked-ready (a .s) (a .keys .now) (a .links .now) (a .certs .now) (a .order .now) fk fl (c .before .before .before .before .before .before .before .before .before .before .before .before .before .before .before .pre .0) (enqueuedOf (a .e)) (c .before .before .before .before .before .before .before .before .before .before .before .before .before .before .before .pre .1 .0) (c .before .before .before .before .before .before .before .test-anchor .result) (c .before .before .before .before .before .before .before .test-anchor .ensures .0) in
     let r = number-fits (c .before .before .before .before .before .before .before .test-anchor .result .check) (a .s .«emit_first_after_gap») (c .before .before .before .before .before .before .before .test-anchor .result .count) (length (a .b .now) - a .at) (sym (c .before .before .before .before .before .before .number-for .ensures) ∙ c .before .before .before .before .enum-told .given .1) in
-    (p, (placed (a .s) (a .keys .now) (a .links .now) (a .certs .now) (a .order .now) fk fl (c .before .before .before .before .before .before .before .before .before .before .before .before .before .before .pre .0) (enqueuedOf (a .e)) (c .before .before .before .before .before .before .before .before .before .before .before .before .before .before .pre .1 .0), omega (arith, r, c .before .before .before .before .before .before .before .before .before .before .before .before .before .before .pre .1 .1)))
+    (p, (placed (a .s) (a .keys .now) (a .links .now) (a .certs .now) (a .order .now) fk fl (c .before .before .before .before .before .before .before .before .before .before .before .before .before .before .before .pre .0) (enqueuedOf (a .e)) (c .before .before .before .before .before .before .before .before .before .before .before .before .before .before .before .pre .1 .0), omega (arith, r, c .before .before .before .before .before .before .before .before .before .before .before .before .before .before .before .pre .1 .1)))
 
 next-state-requires : tie.Need-next-state-requires
 next-state-requires c κs =
-    let a = c .before .before .before .before .before .before .before .before .before .before .before .before .before .before .before .before .before .before .args in
-    let fk : Fit (a .keys .now) = λ p. c .before .before .before .before .before .before .before .before .before .before .before .before .before .before .before .before .before .shared-slice-known .given p .fits in
-    let fl : Fit (a .links .now) = λ p. c .before .before .before .before .before .before .before .before .before .before .before .before .before .before .before .before .shared-slice-known2 .given p .fits in
-    let (n, p, q) = picked-ready (a .s) (a .keys .now) (a .links .now) (a .certs .now) (a .order .now) fk fl (c .before .before .before .before .before .before .before .before .before .before .before .before .before .before .before .before .before .before .pre .0) (enqueuedOf (a .e)) (c .before .before .before .before .before .before .before .before .before .before .before .before .before .before .before .before .before .before .pre .1 .0) (c .before .before .before .before .before .before .before .before .before .before .before .test-anchor .result) (c .before .before .before .before .before .before .before .before .before .before .before .test-anchor .ensures .0) in
-    (p .3, placed (a .s) (a .keys .now) (a .links .now) (a .certs .now) (a .order .now) fk fl (c .before .before .before .before .before .before .before .before .before .before .before .before .before .before .before .before .before .before .pre .0) (enqueuedOf (a .e)) (c .before .before .before .before .before .before .before .before .before .before .before .before .before .before .before .before .before .before .pre .1 .0))
+    let a = c .before .before .before .before .before .before .before .before .before .before .before .before .before .before .before .before .before .before .before .args in
+    let fk : Fit (a .keys .now) = λ p. c .before .before .before .before .before .before .before .before .before .before .before .before .before .before .before .before .before .before .shared-slice-known .given p .fits in
+    let fl : Fit (a .links .now) = λ p. c .before .before .before .before .before .before .before .before .before .before .before .before .before .before .before .before .before .shared-slice-known2 .given p .fits in
+    let (n, p, q) = picked-ready (a .s) (a .keys .now) (a .links .now) (a .certs .now) (a .order .now) fk fl (c .before .before .before .before .before .before .before .before .before .before .before .before .before .before .before .before .before .before .before .pre .0) (enqueuedOf (a .e)) (c .before .before .before .before .before .before .before .before .before .before .before .before .before .before .before .before .before .before .before .pre .1 .0) (c .before .before .before .before .before .before .before .before .before .before .before .test-anchor .result) (c .before .before .before .before .before .before .before .before .before .before .before .test-anchor .ensures .0) in
+    (p .3, placed (a .s) (a .keys .now) (a .links .now) (a .certs .now) (a .order .now) fk fl (c .before .before .before .before .before .before .before .before .before .before .before .before .before .before .before .before .before .before .before .pre .0) (enqueuedOf (a .e)) (c .before .before .before .before .before .before .before .before .before .before .before .before .before .before .before .before .before .before .before .pre .1 .0))
 
 mark-all-requires : tie.Need-mark-all-requires
 mark-all-requires c κs =
-    let a = c .before .before .before .before .before .before .before .before .before .before .before .before .before .before .before .before .before .before .before .before .before .args in
-    let fk : Fit (a .keys .now) = λ p. c .before .before .before .before .before .before .before .before .before .before .before .before .before .before .before .before .before .before .before .before .shared-slice-known .given p .fits in
-    let fl : Fit (a .links .now) = λ p. c .before .before .before .before .before .before .before .before .before .before .before .before .before .before .before .before .before .before .before .shared-slice-known2 .given p .fits in
-    let (n, p, q) = picked-ready (a .s) (a .keys .now) (a .links .now) (a .certs .now) (a .order .now) fk fl (c .before .before .before .before .before .before .before .before .before .before .before .before .before .before .before .before .before .before .before .before .before .pre .0) (enqueuedOf (a .e)) (c .before .before .before .before .before .before .before .before .before .before .before .before .before .before .before .before .before .before .before .before .before .pre .1 .0) (c .before .before .before .before .before .before .before .before .before .before .before .before .before .before .test-anchor .result) (c .before .before .before .before .before .before .before .before .before .before .before .before .before .before .test-anchor .ensures .0) in
+    let a = c .before .before .before .before .before .before .before .before .before .before .before .before .before .before .before .before .before .before .before .before .before .before .args in
+    let fk : Fit (a .keys .now) = λ p. c .before .before .before .before .before .before .before .before .before .before .before .before .before .before .before .before .before .before .before .before .before .shared-slice-known .given p .fits in
+    let fl : Fit (a .links .now) = λ p. c .before .before .before .before .before .before .before .before .before .before .before .before .before .before .before .before .before .before .before .before .shared-slice-known2 .given p .fits in
+    let (n, p, q) = picked-ready (a .s) (a .keys .now) (a .links .now) (a .certs .now) (a .order .now) fk fl (c .before .before .before .before .before .before .before .before .before .before .before .before .before .before .before .before .before .before .before .before .before .before .pre .0) (enqueuedOf (a .e)) (c .before .before .before .before .before .before .before .before .before .before .before .before .before .before .before .before .before .before .before .before .before .before .pre .1 .0) (c .before .before .before .before .before .before .before .before .before .before .before .before .before .before .test-anchor .result) (c .before .before .before .before .before .before .before .before .before .before .before .before .before .before .test-anchor .ensures .0) in
     (p .0, p .1, p .2, p .4, q)
 
 returns-2 : tie.Need-returns-2
 returns-2 c =
-    let a = c .before .before .before .before .before .before .before .before .before .before .before .before .before .before .before .before .before .before .before .before .before .before .before .before .args in
-    let fk : Fit (a .keys .now) = λ p. c .before .before .before .before .before .before .before .before .before .before .before .before .before .before .before .before .before .before .before .before .before .before .before .shared-slice-known .given p .fits in
-    let fl : Fit (a .links .now) = λ p. c .before .before .before .before .before .before .before .before .before .before .before .before .before .before .before .before .before .before .before .before .before .before .shared-slice-known2 .given p .fits in
+    let a = c .before .before .before .before .before .before .before .before .before .before .before .before .before .before .before .before .before .before .before .before .before .before .before .before .before .args in
+    let fk : Fit (a .keys .now) = λ p. c .before .before .before .before .before .before .before .before .before .before .before .before .before .before .before .before .before .before .before .before .before .before .before .before .shared-slice-known .given p .fits in
+    let fl : Fit (a .links .now) = λ p. c .before .before .before .before .before .before .before .before .before .before .before .before .before .before .before .before .before .before .before .before .before .before .before .shared-slice-known2 .given p .fits in
     let w = one-taken (a .s) (a .keys .now) (a .links .now) (a .certs .now) (a .order .now) (a .b .now) (a .at) (enqueuedOf (a .e)) (c .before .before .before .before .before .before .before .before .before .before .before .before .before .before .before .before .before .test-anchor .result) (c .before .before .before .before .before .before .before .before .before .before .before .before .before .before .before .before .before .test-anchor .ensures .0) _ (c .before .before .before .before .before .before .before .before .before .before .before .before .before .before .before .before .number-for .ensures) (c .before .before .before .before .before .before .before .before .before .before .before .before .before .before .enum-told .given .1) _ _ _ _ (c .before .before .before .before .before .next-state .ensures) (c .before .before .mark-all .ensures) (c .before .before .before .before .before .before .before .before .before .put-anchor .ensures .1) (c .before .before .before .before .before .before .before .before .before .put-anchor .ensures .0) in
-    (w, one-says (a .s) (a .keys .now) (a .links .now) (a .certs .now) (a .order .now) fk fl (c .before .before .before .before .before .before .before .before .before .before .before .before .before .before .before .before .before .before .before .before .before .before .before .before .pre .0) (enqueuedOf (a .e)) (c .before .before .before .before .before .before .before .before .before .before .before .before .before .before .before .before .before .before .before .before .before .before .before .before .pre .1 .0) (long (c .before .before .before .before .before .before .before .before .before .before .before .before .before .before .before .before .before .before .before .before .before .before .before .before)) (a .b .now) (a .at) (c .before .before .before .before .before .before .before .before .before .before .before .before .before .before .before .before .before .before .before .before .before .before .before .before .pre .1 .1) _ w)
+    (w, one-says (a .s) (a .keys .now) (a .links .now) (a .certs .now) (a .order .now) fk fl (c .before .before .before .before .before .before .before .before .before .before .before .before .before .before .before .before .before .before .before .before .before .before .before .before .before .pre .0) (enqueuedOf (a .e)) (c .before .before .before .before .before .before .before .before .before .before .before .before .before .before .before .before .before .before .before .before .before .before .before .before .before .pre .1 .0) (long (c .before .before .before .before .before .before .before .before .before .before .before .before .before .before .before .before .before .before .before .before .before .before .before .before .before)) (a .b .now) (a .at) (c .before .before .before .before .before .before .before .before .before .before .before .before .before .before .before .before .before .before .before .before .before .before .before .before .before .pre .1 .1) _ w)
 
 pub dequeue-anchor-spec : {M : Type 1} → statement M
 dequeue-anchor-spec =
     tie.close
     (tie.spec
+    (λ c. search needs)
     test-anchor-requires
     (λ c. search needs)
     number-for-requires

@@ -1,6 +1,6 @@
 use Rattle.models.specs.Digest.{Fit}
 use Rattle.tables_test.specs.View.{view}
-use Rattle.commit_outlook.specs.Chain.{looks-placed, resolution-refused, resolution-all}
+use Rattle.commit_outlook.specs.Chain.{looks-placed, chain-refused, chain-all}
 use borrow.Author.Needs.{needs}
 use Rattle.commit_outlook.proofs.chain.look_chain.Statement.{statement}
 use Rattle.commit_outlook.proofs.chain.look_chain.Tie as tie
@@ -8,7 +8,7 @@ use Rattle.commit_outlook.proofs.chain.look_chain.Tie as tie
 returns : tie.Need-returns
 returns c =
     let a = c .before .before .before .before .before .before .before .before .before .args in
-    resolution-refused (view (a .s) (a .keys .now) (a .links .now) (a .certs .now) (a .order .now)) (a .keys .now) (a .b .now) _ (a .count) _ _ (c .before .before .before .look-all .ensures) _ (c .before .check .given .1)
+    chain-refused (view (a .s) (a .keys .now) (a .links .now) (a .certs .now) (a .order .now)) (a .keys .now) (a .b .now) _ (a .count) _ _ (c .before .before .before .look-all .ensures) _ (c .before .check .given .1)
 
 put-looks-requires : tie.Need-put-looks-requires
 put-looks-requires c κs =
@@ -21,7 +21,7 @@ put-looks-requires c κs =
 returns-2 : tie.Need-returns-2
 returns-2 c =
     let a = c .before .before .before .before .before .before .before .before .before .before .before .before .before .args in
-    resolution-all (view (a .s) (a .keys .now) (a .links .now) (a .certs .now) (a .order .now)) (a .keys .now) (a .b .now) _ (a .count) _ _ (c .before .before .before .before .before .before .before .look-all .ensures) (c .before .before .before .before .before .enum-told .given .1) _ (c .before .before .put-looks .ensures)
+    chain-all (view (a .s) (a .keys .now) (a .links .now) (a .certs .now) (a .order .now)) (a .keys .now) (a .b .now) _ (a .count) _ _ (c .before .before .before .before .before .before .before .look-all .ensures) (c .before .before .before .before .before .enum-told .given .1) _ (c .before .before .put-looks .ensures)
 
 pub look-chain-spec : {M : Type 1} → statement M
 look-chain-spec =

@@ -23,23 +23,23 @@ array-read-n c = let h = c .before .before .loop .inv .most in let m = c .before
 
 put-id-requires : tie.Need-put-id-requires Inv-loop μ-loop
 put-id-requires c κs =
-    let p = c .before .before .before .before .before .before .pre in
-    let l = c .before .before .before .loop in
-    let t = c .before .before .loop-test .taken in
+    let p = c .before .before .before .before .before .before .before .pre in
+    let l = c .before .before .before .before .loop in
+    let t = c .before .before .before .loop-test .taken in
     (omega (arith, l .inv .place, l .inv .long, l .inv .most, p .1 .0, t), p .1 .1 (l .k - 1) (omega (arith, l .inv .most, t)))
 
 put-number-requires : tie.Need-put-number-requires Inv-loop μ-loop
 put-number-requires c κs =
-    let p = c .before .before .before .before .before .before .before .before .before .before .pre in
-    let l = c .before .before .before .before .before .before .before .loop in
-    let t = c .before .before .before .before .before .before .loop-test .taken in
+    let p = c .before .before .before .before .before .before .before .before .before .before .before .pre in
+    let l = c .before .before .before .before .before .before .before .before .loop in
+    let t = c .before .before .before .before .before .before .before .loop-test .taken in
     omega (arith, l .inv .place, l .inv .long, l .inv .most, p .1 .0, t, c .before .before .before .put-id .ensures .0)
 
 loop-again : tie.Need-loop-again Inv-loop μ-loop
 loop-again c =
-    let a = c .before .before .before .before .before .before .before .before .before .before .before .before .before .args in
-    let l = c .before .before .before .before .before .before .before .before .before .before .loop in
-    putting-more (a .keys .now) _ _ (a .count) (a .b .now) (l .b) (l .at) (l .k) (l .inv) (c .before .before .before .before .before .before .before .before .before .loop-test .taken) _ _ _ _ _ refl (c .before .before .before .before .before .before .put-id .ensures .0) (c .before .before .before .before .before .before .put-id .ensures .1) (c .before .before .put-number .ensures .0) (c .before .before .put-number .ensures .1)
+    let a = c .before .before .before .before .before .before .before .before .before .before .before .before .before .before .args in
+    let l = c .before .before .before .before .before .before .before .before .before .before .before .loop in
+    putting-more (a .keys .now) _ _ (a .count) (a .b .now) (l .b) (l .at) (l .k) (l .inv) (c .before .before .before .before .before .before .before .before .before .before .loop-test .taken) _ _ _ _ _ refl (c .before .before .before .before .before .before .put-id .ensures .0) (c .before .before .before .before .before .before .put-id .ensures .1) (c .before .before .put-number .ensures .0) (c .before .before .put-number .ensures .1)
 
 same-length : tie.Need-same-length Inv-loop μ-loop
 same-length c = let h = c .before .loop .inv .long in search needs
@@ -62,6 +62,7 @@ put-looks-spec =
     array-copy-out-e
     (λ c. search needs)
     array-read-n
+    (λ c. search needs)
     put-id-requires
     (λ c. search needs)
     put-number-requires

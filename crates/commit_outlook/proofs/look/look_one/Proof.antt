@@ -10,44 +10,53 @@ use Rattle.commit_outlook.proofs.look.look_one.Tie as tie
 
 test-anchor-requires : tie.Need-test-anchor-requires
 test-anchor-requires c κs =
-    let a = c .before .before .before .before .args in
-    let p = c .before .before .before .before .pre in
-    let fk : Fit (a .keys .now) = λ q. c .before .before .before .shared-slice-known .given q .fits in
-    let fl : Fit (a .links .now) = λ q. c .before .before .shared-slice-known2 .given q .fits in
+    let a = c .before .before .before .before .before .args in
+    let p = c .before .before .before .before .before .pre in
+    let fk : Fit (a .keys .now) = λ q. c .before .before .before .before .shared-slice-known .given q .fits in
+    let fl : Fit (a .links .now) = λ q. c .before .before .before .shared-slice-known2 .given q .fits in
     (held (a .s) (a .keys .now) (a .links .now) (a .certs .now) (a .order .now) fk fl (p .0) (enqueuedOf (a .e)) (p .1), anchor-used (a .s) (a .keys .now) (a .links .now) (a .certs .now) (a .order .now) fk fl (p .0) (enqueuedOf (a .e)) (p .1))
 
 cast-count : tie.Need-cast-count
 cast-count c =
-    let a = c .before .before .before .before .before .before .args in
-    let p = c .before .before .before .before .before .before .pre in
-    let fk : Fit (a .keys .now) = λ q. c .before .before .before .before .before .shared-slice-known .given q .fits in
-    let fl : Fit (a .links .now) = λ q. c .before .before .before .before .shared-slice-known2 .given q .fits in
+    let a = c .before .before .before .before .before .before .before .args in
+    let p = c .before .before .before .before .before .before .before .pre in
+    let fk : Fit (a .keys .now) = λ q. c .before .before .before .before .before .before .shared-slice-known .given q .fits in
+    let fl : Fit (a .links .now) = λ q. c .before .before .before .before .before .shared-slice-known2 .given q .fits in
     let m : c .before .test-anchor .result .count ≤ 4096 = look-points (a .s) (a .keys .now) (a .links .now) (a .certs .now) (a .order .now) fk fl (p .0) (enqueuedOf (a .e)) (p .1) (c .before .test-anchor .result) (c .before .test-anchor .ensures .0) .1 in
     search needs
 
 returns : tie.Need-returns
 returns c =
-    let a = c .before .before .before .before .before .before .before .before .before .args in
-    let p = c .before .before .before .before .before .before .before .before .before .pre in
-    let fk : Fit (a .keys .now) = λ q. c .before .before .before .before .before .before .before .before .shared-slice-known .given q .fits in
-    let fl : Fit (a .links .now) = λ q. c .before .before .before .before .before .before .before .shared-slice-known2 .given q .fits in
+    let a = c .before .before .before .before .before .before .before .before .before .before .args in
+    let p = c .before .before .before .before .before .before .before .before .before .before .pre in
+    let fk : Fit (a .keys .now) = λ q. c .before .before .before .before .before .before .before .before .before .shared-slice-known .given q .fits in
+    let fl : Fit (a .links .now) = λ q. c .before .before .before .before .before .before .before .before .shared-slice-known2 .given q .fits in
     (look-tested (view (a .s) (a .keys .now) (a .links .now) (a .certs .now) (a .order .now)) (a .left) (a .e .anchor) _ (c .before .before .before .before .test-anchor .ensures .1) _ (c .before .check .given .1), look-points (a .s) (a .keys .now) (a .links .now) (a .certs .now) (a .order .now) fk fl (p .0) (enqueuedOf (a .e)) (p .1) (c .before .before .before .before .test-anchor .result) (c .before .before .before .before .test-anchor .ensures .0) .0)
 
 returns-2 : tie.Need-returns-2
 returns-2 c =
-    let a = c .before .before .before .before .before .before .before .before .before .args in
-    let p = c .before .before .before .before .before .before .before .before .before .pre in
-    let fk : Fit (a .keys .now) = λ q. c .before .before .before .before .before .before .before .before .shared-slice-known .given q .fits in
-    let fl : Fit (a .links .now) = λ q. c .before .before .before .before .before .before .before .shared-slice-known2 .given q .fits in
+    let a = c .before .before .before .before .before .before .before .before .before .before .args in
+    let p = c .before .before .before .before .before .before .before .before .before .before .pre in
+    let fk : Fit (a .keys .now) = λ q. c .before .before .before .before .before .before .before .before .before .shared-slice-known .given q .fits in
+    let fl : Fit (a .links .now) = λ q. c .before .before .before .before .before .before .before .before .shared-slice-known2 .given q .fits in
     (look-full (view (a .s) (a .keys .now) (a .links .now) (a .certs .now) (a .order .now)) (a .left) (a .e .anchor) _ (c .before .before .before .before .test-anchor .ensures .1) (c .before .enum-told .given .1) (c .if1 .taken), look-points (a .s) (a .keys .now) (a .links .now) (a .certs .now) (a .order .now) fk fl (p .0) (enqueuedOf (a .e)) (p .1) (c .before .before .before .before .test-anchor .result) (c .before .before .before .before .test-anchor .ensures .0) .0)
 
 returns-3 : tie.Need-returns-3
 returns-3 c =
-    let a = c .before .before .before .before .before .before .before .before .before .args in
-    let p = c .before .before .before .before .before .before .before .before .before .pre in
-    let fk : Fit (a .keys .now) = λ q. c .before .before .before .before .before .before .before .before .shared-slice-known .given q .fits in
-    let fl : Fit (a .links .now) = λ q. c .before .before .before .before .before .before .before .shared-slice-known2 .given q .fits in
+    let a = c .before .before .before .before .before .before .before .before .before .before .args in
+    let p = c .before .before .before .before .before .before .before .before .before .before .pre in
+    let fk : Fit (a .keys .now) = λ q. c .before .before .before .before .before .before .before .before .before .shared-slice-known .given q .fits in
+    let fl : Fit (a .links .now) = λ q. c .before .before .before .before .before .before .before .before .shared-slice-known2 .given q .fits in
     (look-pass (view (a .s) (a .keys .now) (a .links .now) (a .certs .now) (a .order .now)) (a .left) (a .e .anchor) _ (c .before .before .before .before .test-anchor .ensures .1) (c .before .enum-told .given .1) (c .if1 .left), look-points (a .s) (a .keys .now) (a .links .now) (a .certs .now) (a .order .now) fk fl (p .0) (enqueuedOf (a .e)) (p .1) (c .before .before .before .before .test-anchor .result) (c .before .before .before .before .test-anchor .ensures .0) .0)
 
 pub look-one-spec : {M : Type 1} → statement M
-look-one-spec = tie.close (tie.spec test-anchor-requires cast-count (λ c. search needs) returns (λ c. search needs) returns-2 returns-3)
+look-one-spec = tie.close
+    (tie.spec
+    (λ c. search needs)
+    test-anchor-requires
+    cast-count
+    (λ c. search needs)
+    returns
+    (λ c. search needs)
+    returns-2
+    returns-3)

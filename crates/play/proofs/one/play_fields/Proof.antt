@@ -4,7 +4,7 @@ use Rattle.trace.specs.Fields.{callBy}
 use Rattle.trace.specs.declared.head.Kind.the-variants as kind
 use Rattle.play_calls.specs.Calls.{modelBy}
 use Rattle.play.specs.Plays.{makes-call, makes-none}
-use Rattle.play.specs.Sized.{start-long, round-long, name-long, resolve-long, resolve-few, certify-long, commit-long, drop-long}
+use Rattle.play.specs.Sized.{start-long, round-long, name-long, resolve-long, resolve-few, certify-long, commit-long, drop-long, outlook-long}
 use borrow.Author.Needs.{needs}
 use Rattle.play.proofs.one.play_fields.Statement.{statement}
 use Rattle.play.proofs.one.play_fields.Tie as tie
@@ -29,6 +29,9 @@ play-commit-requires c κs = commit-long _ _ (c .before .before .before .before 
 
 play-drop-requires : tie.Need-play-drop-requires
 play-drop-requires c κs = drop-long _ _ (c .before .before .before .before .before .before .before .before .before .before .before .before .pre) (c .before .before .before .before .enum-told8 .given .1)
+
+play-outlook-requires : tie.Need-play-outlook-requires
+play-outlook-requires c κs = outlook-long _ _ (c .before .before .before .before .before .before .before .before .before .before .before .before .before .pre) (c .before .before .before .before .before .enum-told11 .given .1)
 
 returns : tie.Need-returns
 unfolding callBy modelBy
@@ -70,10 +73,11 @@ unfolding callBy modelBy
 returns-10 c = makes-call _ kind.Reset _ _ _ _ _ (c .before .before .before .before .before .before .before .before .before .before .before .before .before .enum-told10 .given .1) _ _ _ _ refl (λ _. refl) (c .before .before .before .before .before .before .before .before .reset .ensures)
 
 returns-11 : tie.Need-returns-11
-returns-11 c = makes-none _ kind.Outlook _ _ _ (c .unmade2 .result) (c .before .enum-told11 .given .1) refl (c .unmade2 .ensures)
+unfolding callBy modelBy
+returns-11 c = makes-call _ kind.Outlook _ _ _ _ _ (c .before .before .before .before .before .before .before .before .enum-told11 .given .1) _ _ _ _ refl (λ h. absurd (true≢false h)) (c .before .before .play-outlook .ensures)
 
 returns-12 : tie.Need-returns-12
-returns-12 c = makes-none _ kind.Broken _ _ _ (c .unmade3 .result) (c .before .enum-told12 .given .1) refl (c .unmade3 .ensures)
+returns-12 c = makes-none _ kind.Broken _ _ _ (c .unmade2 .result) (c .before .enum-told12 .given .1) refl (c .unmade2 .ensures)
 
 pub play-fields-spec : {M : Type 1} → statement M
 play-fields-spec =
@@ -100,7 +104,7 @@ play-fields-spec =
     (λ c. search needs)
     (λ c κs. search needs)
     (λ c. search needs)
-    (λ c κs. search needs)
+    play-outlook-requires
     (λ c. search needs)
     (λ c κs. search needs)
     (λ c. search needs)
@@ -150,5 +154,10 @@ play-fields-spec =
     (λ c. search needs)
     (λ c. search needs)
     returns-10
+    (λ c. search needs)
+    (λ c. search needs)
+    (λ c. search needs)
+    (λ c. search needs)
+    (λ c. search needs)
     returns-11
     returns-12)
