@@ -1,5 +1,5 @@
 #!/usr/bin/env bash
-# The tests of the hosts: the stack that the library takes, the C program over include/committer.h, then the Rust crate. All take the static library that
+# The tests of the hosts: the stack that the library takes, the C programs over include/committer.h, then the Rust crate. All take the static library that
 # `rt staticlib committer` writes, or the one that COMMITTER_LIB names. What is built goes into target/host, or CARGO_TARGET_DIR.
 set -euo pipefail
 here="$(cd "$(dirname "${BASH_SOURCE[0]}")" && pwd)"
@@ -42,6 +42,10 @@ done < "$CARGO_TARGET_DIR/stack.txt"
 
 "${CC:-cc}" -std=c11 -O2 -Wall -Wextra -I "$repository/include" "$here/ctest/main.c" "$COMMITTER_LIB" -o "$CARGO_TARGET_DIR/ctest"
 "$CARGO_TARGET_DIR/ctest"
+# the example writes the lines beside it
+"${CC:-cc}" -std=c11 -O2 -Wall -Wextra -I "$repository/include" "$here/examples/board.c" "$COMMITTER_LIB" -o "$CARGO_TARGET_DIR/board"
+"$CARGO_TARGET_DIR/board" | diff "$here/examples/board.txt" -
+echo "ok examples/board.c"
 
 cd "$here"
 cargo test --release --offline

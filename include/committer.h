@@ -13,7 +13,7 @@
  *
  * A call answers with a number in `refused`, 0 if it isn't refused. A refused call changes nothing: the tables stay as they are, and the
  * state returned is the one given. Only a commit may have finished anchors before it is refused, as many as `anchors` says; what these
- * changed stays.
+ * changed stays. An outlook changes nothing at all but its buffer, and that only if it isn't refused.
  *
  * The host's fault, with undefined behaviour as in all C, is only what a callee can't see:
  *   - a null pointer with a length above 0, or a pointer that isn't aligned for uint64_t;
@@ -94,6 +94,16 @@ extern "C" {
 /* A buffer of so many bytes has room for the records of any commit: at most 511 anchors, and each point in one history at most. */
 #define COMMITTER_COMMIT_MAX (511u * COMMITTER_RECORD_BYTES(0) + (size_t)COMMITTER_PLACES_MAX * COMMITTER_ID_BYTES)
 
+/*
+ * What an outlook writes for each anchor.
+ *   0    id of the anchor
+ *   37   number of points in its history (4)
+ */
+#define COMMITTER_OUTLOOK_BYTES 41u
+
+/* A buffer of so many bytes has room for any outlook. */
+#define COMMITTER_OUTLOOK_MAX (511u * COMMITTER_OUTLOOK_BYTES)
+
 /* ---- numbers */
 
 /* Statuses of a resolved point. 4 and 5 come without links and evidence. */
@@ -170,7 +180,7 @@ typedef struct committer_entry {
     uint32_t unreferenced_by;
 } committer_entry;
 
-/* The inspector's memory of its last round. */
+/* The inspector's memory of its last round: entries rise strictly by digest, and authors are below 32. Other memory counts as not started. */
 typedef struct committer_memory {
     uint32_t last;
     size_t count;
@@ -202,7 +212,7 @@ typedef struct committer_state {
 typedef struct committer_reply {
     uint32_t refused; /* enum committer_refusal, 0 for none */
     uint32_t said; /* 1 for yes, of the gap question and of a drop; else 0 */
-    uint32_t anchors; /* anchors handed out, or finished before a refusal, by a commit; else 0 */
+    uint32_t anchors; /* anchors handed out, or finished before a refusal, by a commit; anchors that an outlook tells; else 0 */
     uint32_t conflict; /* the round of a history conflict (13), else 0 */
     committer_state state; /* the state after the call */
 } committer_reply;
@@ -296,17 +306,18 @@ static inline void committer_digest_bytes(committer_digest digest, unsigned char
 #define COMMITTER_STACK_RESET 37000u
 #define COMMITTER_STACK_ROUND 52000u
 #define COMMITTER_STACK_GAP 52000u
-#define COMMITTER_STACK_NAME 68000u
-#define COMMITTER_STACK_RESOLVE 83000u
-#define COMMITTER_STACK_CERTIFY 52000u
+#define COMMITTER_STACK_NAME 52000u
+#define COMMITTER_STACK_RESOLVE 68000u
+#define COMMITTER_STACK_CERTIFY 37000u
 #define COMMITTER_STACK_DROP 37000u
-#define COMMITTER_STACK_COMMIT 158000u
+#define COMMITTER_STACK_COMMIT 184000u
+#define COMMITTER_STACK_OUTLOOK 92000u
 
 /* ---- calls. The numbers named are those that the call is refused with, in the order of the tests. */
 
 /*
  * Starts on state and tables that don't count as started: the tables are zeroed, one round is retained, the bottom. The inspector's memory
- * stays if the state is what a reset returned, else it is emptied.
+ * stays if the state is what a reset returned and it rises by digest, else it is emptied.
  * Refused: 1 H of 0 or above 255, deduplicate rounds above 65,535, genesis or bottom above 4,000,000,000, bottom below genesis, used
  * author above 31, tables of no places, of more than 4,096, or of different numbers of places; 2 started already.
  */
@@ -399,6 +410,20 @@ committer_reply committer_drop(committer_state state,
 committer_reply committer_commit(committer_state state,
     const uint64_t *keys, size_t keys_len, const uint64_t *links, size_t links_len,
     uint64_t *certs, size_t certs_len, const uint64_t *order, size_t order_len,
+    committer_point_id id, uint8_t *buffer, size_t buffer_len);
+
+/*
+ * Tells which anchors a commit of this trigger would hand out, oldest first, without making it. Their number is in `anchors`, and
+ * COMMITTER_OUTLOOK_BYTES bytes for each stand in the buffer one after the other; the bytes beyond them stay as they are. All numbers of
+ * points are counted from the committed marks now: a point that the histories of two anchors reach is counted for both, and handed out
+ * with the first. Tables and state stay as they are, and the gap question needn't be put. The buffer may have any length, and may be null
+ * with the length 0.
+ * Refused as the commit would be, in the same order of tests, but never with 20: 2; 5, 6, 5, 9; 13 to 16; 19; then for each anchor 22; 13 to
+ * 15; 17; 18; 21 no COMMITTER_OUTLOOK_BYTES bytes left for it. A refused outlook writes no byte, and `anchors` is 0.
+ */
+committer_reply committer_outlook(committer_state state,
+    const uint64_t *keys, size_t keys_len, const uint64_t *links, size_t links_len,
+    const uint64_t *certs, size_t certs_len, const uint64_t *order, size_t order_len,
     committer_point_id id, uint8_t *buffer, size_t buffer_len);
 
 #ifdef __cplusplus

@@ -181,19 +181,40 @@ static answer drop(board *b, uint32_t round)
     return keep(b, &reply);
 }
 
-/* What a commit answers besides. */
+/* What a commit or an outlook answers besides. */
 typedef struct {
     uint32_t anchors, conflict;
 } handed;
 
-static handed last_commit;
+static handed last_commit, last_outlook;
 
+static answer outlook(board *b, committer_point_id id, uint8_t *buffer, size_t length)
+{
+    committer_reply reply = committer_outlook(b->state, TABLES(b), id, buffer, length);
+    answer a = {reply.refused, reply.said};
+    CHECK(reply.said == 0 && reply.refused < COMMITTER_REMOVE_AHEAD && reply.refused != COMMITTER_GAP_QUESTION);
+    CHECK(reply.refused == COMMITTER_CONFLICT || reply.conflict == 0);
+    CHECK(reply.refused == 0 || reply.anchors == 0);
+    CHECK(same_state(&reply.state, &b->state));
+    last_outlook.anchors = reply.anchors;
+    last_outlook.conflict = reply.conflict;
+    return a;
+}
+
+/* With an outlook before it, which says the same unless the commit says 20 or 21. */
 static answer commit(board *b, committer_point_id id, uint8_t *buffer, size_t length)
 {
+    static uint8_t large[COMMITTER_OUTLOOK_MAX];
+    uint32_t told = outlook(b, id, large, sizeof large).refused;
     committer_reply reply = committer_commit(b->state, TABLES(b), id, buffer, length);
     answer a = {reply.refused, reply.said};
     CHECK(reply.said == 0 && reply.refused < COMMITTER_REMOVE_AHEAD);
     CHECK(reply.refused == COMMITTER_CONFLICT || reply.conflict == 0);
+    CHECK(told != COMMITTER_NO_ROOM);
+    if (reply.refused != COMMITTER_GAP_QUESTION && reply.refused != COMMITTER_NO_ROOM) {
+        CHECK(told == reply.refused && last_outlook.conflict == reply.conflict);
+        CHECK(told != 0 || last_outlook.anchors == reply.anchors);
+    }
     last_commit.anchors = reply.anchors;
     last_commit.conflict = reply.conflict;
     b->state = reply.state;
@@ -363,6 +384,8 @@ static void check_not_started(board *b, board *spare)
     uint8_t bytes[4] = {1, 2, 3, 4};
     REFUSED(b, spare, COMMITTER_WRONG_PHASE, commit(b, point(11, 0), bytes, 4));
     REFUSED(b, spare, COMMITTER_WRONG_PHASE, commit(b, point(11, 0), NULL, 0));
+    REFUSED(b, spare, COMMITTER_WRONG_PHASE, outlook(b, point(11, 0), bytes, 4));
+    REFUSED(b, spare, COMMITTER_WRONG_PHASE, outlook(b, point(11, 0), NULL, 0));
     CHECK(bytes[0] == 1 && bytes[3] == 4 && last_commit.anchors == 0);
 }
 
@@ -605,17 +628,31 @@ static void check_full_size(void)
     free_board(&spare);
 }
 
+/* Entries that rise by digest; each word of the digests decides somewhere. */
+static void fill_memory(committer_memory *memory, size_t count)
+{
+    memory->last = 9;
+    memory->count = count;
+    for (size_t i = 0; i < COMMITTER_MEMORY_MAX; i++) {
+        committer_entry *entry = &memory->entries[i];
+        entry->author = (uint32_t)(i % 32);
+        entry->digest.words[0] = i / 64;
+        entry->digest.words[1] = i / 16 % 4;
+        entry->digest.words[2] = i / 4 % 4;
+        entry->digest.words[3] = i % 4;
+        entry->unreferenced_by = 77;
+    }
+}
+
 /* A start after a reset keeps the inspector's memory and clears the tables; any other start clears both. */
 static void check_memory(void)
 {
     board b = started(3, beginning(10), 11), fresh = started(3, beginning(10), 10);
     for (int kept = 1; kept >= 0; kept--) {
-        b.state.memory.last = 9;
-        b.state.memory.count = 2;
-        b.state.memory.entries[127].unreferenced_by = 77;
+        fill_memory(&b.state.memory, 128);
         DONE(reset(&b));
         committer_memory memory = b.state.memory;
-        CHECK(memory.count == 2 && memory.entries[127].unreferenced_by == 77);
+        CHECK(memory.count == 128 && memory.entries[127].unreferenced_by == 77);
         memset(b.keys, 0xa5, COMMITTER_KEYS_LEN(3) * sizeof(uint64_t));
         memset(b.links, 0xa5, COMMITTER_LINKS_LEN(3) * sizeof(uint64_t));
         memset(b.certs, 0xa5, COMMITTER_CERTS_LEN(3) * sizeof(uint64_t));
@@ -627,6 +664,40 @@ static void check_memory(void)
         CHECK(same_board(&b, &fresh));
     }
     free_board(&b);
+    free_board(&fresh);
+}
+
+/* With 129 entries, an author who is no peer, equal digests or falling ones the tables count as not started; a start, after a reset too,
+   empties the memory. */
+static void check_broken_memory(void)
+{
+    board b = started(3, beginning(10), 11), spare = new_board(3), fresh = started(3, beginning(10), 10);
+    for (int i = 0; i < 8; i++) {
+        committer_memory *memory = &b.state.memory;
+        committer_entry *entries = memory->entries;
+        fill_memory(memory, 128);
+        if (i % 2 == 1) {
+            DONE(reset(&b));
+        }
+        switch (i / 2) {
+        case 0:
+            memory->count = 129;
+            break;
+        case 1:
+            entries[127].author = 32;
+            break;
+        case 2:
+            entries[64].digest = entries[63].digest;
+            break;
+        default:
+            entries[1].digest = entries[3].digest;
+        }
+        check_not_started(&b, &spare);
+        DONE(start(&b, beginning(10)));
+        CHECK(same_board(&b, &fresh));
+    }
+    free_board(&b);
+    free_board(&spare);
     free_board(&fresh);
 }
 
@@ -823,6 +894,62 @@ static void check_commit_refusals(void)
     free_board(&b);
 }
 
+/* ---- outlooks */
+
+/* What an outlook writes for an anchor. */
+static size_t put_look(uint8_t *bytes, committer_point_id anchor, uint8_t points)
+{
+    const uint8_t number[4] = {0, 0, 0, points};
+    memcpy(bytes + put_id(bytes, anchor), number, sizeof number);
+    return COMMITTER_OUTLOOK_BYTES;
+}
+
+/* The outlook of 15.0 with every length up to one byte more than `length`, which is needed: 21 and no byte, or `expected` and none beyond. */
+static void check_lengths_of_outlook(board *b, const uint8_t *expected, size_t length, uint32_t anchors)
+{
+    board spare = new_board(8);
+    for (size_t room = 0; room <= length + 1; room++) {
+        uint8_t bytes[100];
+        memset(bytes, 0xa5, sizeof bytes);
+        if (room < length) {
+            REFUSED(b, &spare, COMMITTER_NO_ROOM, outlook(b, point(15, 0), bytes, room));
+        } else {
+            copy_board(&spare, b);
+            DONE(outlook(b, point(15, 0), bytes, room));
+            CHECK(last_outlook.anchors == anchors && same_board(b, &spare));
+            CHECK(memcmp(bytes, expected, length) == 0);
+        }
+        for (size_t i = room < length ? 0 : length; i < sizeof bytes; i++) {
+            CHECK(bytes[i] == 0xa5);
+        }
+    }
+    free_board(&spare);
+}
+
+/* The second anchor counts the first one's points too, until they are committed; a refusal by the second leaves the buffer alone. */
+static void check_outlooks(void)
+{
+    CHECK(COMMITTER_OUTLOOK_MAX == 511 * 41);
+    uint8_t expected[2 * COMMITTER_OUTLOOK_BYTES], record[120], bytes[100];
+    board b = two_anchors(COMMITTER_VALID), spare = new_board(8);
+    memset(bytes, 0xa5, sizeof bytes);
+    REFUSED(&b, &spare, COMMITTER_NOT_CERTIFIED, outlook(&b, point(15, 0), bytes, sizeof bytes));
+    CHECK(bytes[0] == 0xa5 && last_outlook.anchors == 0);
+    DONE(certify(&b, point(13, 0)));
+    put_look(expected, point(11, 0), 1);
+    put_look(expected + COMMITTER_OUTLOOK_BYTES, point(13, 0), 3);
+    check_lengths_of_outlook(&b, expected, sizeof expected, 2);
+    CHECK(commit(&b, point(15, 0), record, sizeof record).refused == COMMITTER_NO_ROOM && last_commit.anchors == 1);
+    check_lengths_of_outlook(&b, expected + COMMITTER_OUTLOOK_BYTES, COMMITTER_OUTLOOK_BYTES, 1);
+    free_board(&b);
+    b = two_anchors(COMMITTER_INVALID);
+    DONE(certify(&b, point(13, 0)));
+    REFUSED(&b, &spare, COMMITTER_CONFLICT, outlook(&b, point(15, 0), bytes, sizeof bytes));
+    CHECK(last_outlook.conflict == 12 && bytes[0] == 0xa5);
+    free_board(&b);
+    free_board(&spare);
+}
+
 /* Refusals of the walk and of the first anchor. */
 static void check_walk_refusals(void)
 {
@@ -857,6 +984,10 @@ static void check_walk_refusals(void)
     put_one(&b, point(13, 0), COMMITTER_TRIGGER, low, point(12, 0));
     DONE(certify(&b, point(11, 0)));
     REFUSED(&b, &spare, COMMITTER_GAP_QUESTION, commit(&b, point(13, 0), NULL, 0));
+    uint8_t told[COMMITTER_OUTLOOK_BYTES];
+    REFUSED(&b, &spare, COMMITTER_NO_ROOM, outlook(&b, point(13, 0), told, sizeof told - 1));
+    DONE(outlook(&b, point(13, 0), told, sizeof told));
+    CHECK(last_outlook.anchors == 1 && told[40] == 1);
     CHECK(ask(&b).said == 1);
     REFUSED(&b, &spare, COMMITTER_NO_ROOM, commit(&b, point(13, 0), NULL, 0));
     uint8_t bytes[120];
@@ -905,7 +1036,7 @@ static void make_plausible(committer_state *state, size_t places, uint64_t *seed
     for (size_t i = 0; i < 512; i++) {
         state->rounds[i].used_anchor_proof = (uint32_t)(next_word(seed) % 33);
     }
-    state->memory.count = next_word(seed) % 129;
+    fill_memory(&state->memory, next_word(seed) % 129);
 }
 
 static void check_noise(size_t places, int times)
@@ -952,8 +1083,10 @@ int main(void)
     check_links_below_zero();
     check_cases();
     check_memory();
+    check_broken_memory();
     check_k13();
     check_commit_refusals();
+    check_outlooks();
     check_walk_refusals();
     for (size_t places = 1; places <= 9; places++) {
         check_noise(places, 500);

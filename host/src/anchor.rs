@@ -1,4 +1,4 @@
-//! Anchor records, as a commit writes them.
+//! Anchor records, as a commit writes them, and what an outlook writes for each anchor.
 
 use std::fmt;
 
@@ -8,6 +8,8 @@ use crate::types::PointId;
 pub(crate) const ID_BYTES: usize = 37;
 /// Of a record's bytes before the ids of its points.
 pub const RECORD_BYTES: usize = 2 * ID_BYTES + 9;
+/// What an outlook writes for each anchor.
+pub const OUTLOOK_BYTES: usize = ID_BYTES + 4;
 
 /// What a commit hands out for an anchor.
 #[derive(Clone, Debug, PartialEq, Eq, Hash)]
@@ -51,6 +53,31 @@ fn anchor(rest: &mut &[u8]) -> Option<Anchor> {
     let count = u32::from_be_bytes(taken(rest)?);
     let points = (0..count).map(|_| id(rest)).collect::<Option<_>>()?;
     Some(Anchor { anchor, proof, executable: executable != 0, previous, points })
+}
+
+/// What an outlook tells of an anchor.
+#[derive(Clone, Copy, Debug, PartialEq, Eq, Hash)]
+pub struct Look {
+    pub anchor: PointId,
+    /// of its history, by the committed marks at the outlook
+    pub points: u32,
+}
+
+/// The line that `replay` writes for it (docs/FORMATS.md).
+impl fmt::Display for Look {
+    fn fmt(&self, f: &mut fmt::Formatter<'_>) -> fmt::Result {
+        write!(f, "outlook {} {}", self.anchor.text(" "), self.points)
+    }
+}
+
+/// What an outlook wrote for so many anchors, from the first byte on. Fewer if the bytes end before.
+pub fn looks(bytes: &[u8], count: u32) -> Vec<Look> {
+    let mut rest = bytes;
+    (0..count).map_while(|_| look(&mut rest)).collect()
+}
+
+fn look(rest: &mut &[u8]) -> Option<Look> {
+    Some(Look { anchor: id(rest)?, points: u32::from_be_bytes(taken(rest)?) })
 }
 
 fn id(rest: &mut &[u8]) -> Option<PointId> {

@@ -1,7 +1,8 @@
 //! The proved committer for hosts written in Rust, over the static library that `rt staticlib committer` writes.
 //!
 //! [`Committer`] owns the tables and the state. Every call on every input has an answer: a call that can't be done is
-//! refused with a number ([`Refusal`]) and changes nothing, but for the anchors that a commit finished before.
+//! refused with a number ([`Refusal`]) and changes nothing, but for the anchors that a commit finished before. What a
+//! commit would hand out, an outlook tells without a change.
 
 mod anchor;
 pub mod record;
@@ -10,7 +11,7 @@ mod state;
 pub mod sys;
 mod types;
 
-pub use anchor::{Anchor, RECORD_BYTES, anchors};
+pub use anchor::{Anchor, Look, OUTLOOK_BYTES, RECORD_BYTES, anchors, looks};
 pub use record::Call;
 pub use refusal::{Refusal, Refused};
 pub use state::STATE_BYTES;
@@ -29,6 +30,8 @@ pub const LINKS_MAX: usize = 32;
 pub const ROUND_MAX: u32 = 4_000_000_000;
 /// A buffer of so many bytes has room for the records of any commit.
 pub const COMMIT_BYTES_MAX: usize = (ROUNDS_MAX - 1) * RECORD_BYTES + PLACES_MAX * anchor::ID_BYTES;
+/// A buffer of so many bytes has room for any outlook.
+pub const OUTLOOK_BYTES_MAX: usize = (ROUNDS_MAX - 1) * OUTLOOK_BYTES;
 
 /// Words of a place in each table.
 pub const KEY_WORDS: usize = 8;
@@ -71,9 +74,11 @@ pub enum Answer {
     Said(bool),
     /// the anchors of a commit, oldest first
     Handed(Vec<Anchor>),
+    /// the anchors that an outlook tells, oldest first
+    Looked(Vec<Look>),
     /// with the anchors that were finished before; only a commit has any
     Refused(Refused, Vec<Anchor>),
-    /// the library doesn't have this call yet
+    /// the library doesn't have this call yet: remove
     Unsupported,
 }
 
@@ -84,6 +89,7 @@ impl fmt::Display for Answer {
             Answer::Said(true) => write!(f, "yes"),
             Answer::Said(false) => write!(f, "no"),
             Answer::Handed(anchors) => write!(f, "{} anchors", anchors.len()),
+            Answer::Looked(looks) => write!(f, "an outlook of {} anchors", looks.len()),
             Answer::Refused(why, _) => why.fmt(f),
             Answer::Unsupported => write!(f, "unsupported"),
         }
@@ -96,27 +102,44 @@ struct Kept {
     anchors: u32,
 }
 
-/// One C function called with the state, the tables and what else it takes; the state that it returns is kept.
-macro_rules! run {
-    ($committer:expr, $function:ident $(, $more:expr)*) => {{
-        let tables = &mut $committer.tables;
-        // Safety: pointers and lengths are those of vectors, which don't overlap.
-        let reply = unsafe {
+/// The reply of one C function called with the state, the tables and what else it takes. `$pointer` is the method that
+/// gives the tables' pointers.
+macro_rules! reply {
+    ($state:expr, $tables:expr, $pointer:ident, $function:ident $(, $more:expr)*) => {{
+        let tables = $tables;
+        // Safety: pointers and lengths are those of vectors, which don't overlap; where the pointers are const, the
+        // function only reads.
+        unsafe {
             sys::$function(
-                *$committer.state,
-                tables.keys.as_mut_ptr(),
+                $state,
+                tables.keys.$pointer(),
                 tables.keys.len(),
-                tables.links.as_mut_ptr(),
+                tables.links.$pointer(),
                 tables.links.len(),
-                tables.certs.as_mut_ptr(),
+                tables.certs.$pointer(),
                 tables.certs.len(),
-                tables.order.as_mut_ptr(),
+                tables.order.$pointer(),
                 tables.order.len(),
                 $($more),*
             )
-        };
-        $committer.keep(&reply)
+        }
     }};
+}
+
+/// A call that may change the tables; the state that it returns is kept.
+macro_rules! run {
+    ($committer:expr, $function:ident $(, $more:expr)*) => {{
+        let reply = reply!(*$committer.state, &mut $committer.tables, as_mut_ptr, $function $(, $more)*);
+        *$committer.state = reply.state;
+        kept(&reply)
+    }};
+}
+
+/// A function that only reads; the state that it returns is let go.
+macro_rules! ask {
+    ($committer:expr, $function:ident $(, $more:expr)*) => {
+        kept(&reply!(*$committer.state, &$committer.tables, as_ptr, $function $(, $more)*))
+    };
 }
 
 impl Committer {
@@ -185,14 +208,22 @@ impl Committer {
     }
 
     /// Commits what a trigger yields: the records of the anchors, oldest first, stand at the beginning of the buffer
-    /// ([`anchors`] reads them), and their number is resolution. Refused with 2, 5, 6, 5, 9, 13 to 16, 19, then for each
+    /// ([`anchors`] reads them), and their number is returned. Refused with 2, 5, 6, 5, 9, 13 to 16, 19, then for each
     /// anchor 22, 13 to 15, 17, 18, 20, 21. The records of the finished anchors ([`Refused::finished`]) then stand in
     /// the buffer, and what these anchors changed stays.
     pub fn commit(&mut self, trigger: &PointId, buffer: &mut [u8]) -> Result<u32, Refused> {
         run!(self, committer_commit, trigger.into(), buffer.as_mut_ptr(), buffer.len()).map(|kept| kept.anchors)
     }
 
-    /// Runs a recorded call. A commit gets a buffer that is large enough.
+    /// The anchors that a commit of this trigger would hand out now, oldest first, each with the number of points in
+    /// its history by the committed marks now: [`OUTLOOK_BYTES`] bytes for each at the beginning of the buffer
+    /// ([`looks`] reads them). Returned is their number. Refused as the commit would be, but never with 20, and with
+    /// 21 for its own buffer; then the buffer stays as it is.
+    pub fn outlook(&self, trigger: &PointId, buffer: &mut [u8]) -> Result<u32, Refused> {
+        ask!(self, committer_outlook, trigger.into(), buffer.as_mut_ptr(), buffer.len()).map(|kept| kept.anchors)
+    }
+
+    /// Runs a recorded call. A commit or an outlook gets a buffer that is large enough.
     pub fn call(&mut self, call: &Call) -> Answer {
         match call {
             Call::Start(with) => done(self.start(with)),
@@ -204,7 +235,8 @@ impl Committer {
             Call::Gap => said(self.gap_question()),
             Call::Reset => done(self.reset()),
             Call::Commit(trigger) => self.handed(trigger),
-            Call::Remove { .. } | Call::Outlook(_) => Answer::Unsupported,
+            Call::Outlook(trigger) => self.looked(trigger),
+            Call::Remove { .. } => Answer::Unsupported,
         }
     }
 
@@ -216,25 +248,15 @@ impl Committer {
         }
     }
 
+    fn looked(&self, trigger: &PointId) -> Answer {
+        let mut buffer = vec![0; OUTLOOK_BYTES_MAX];
+        self.outlook(trigger, &mut buffer).map_or_else(refused, |count| Answer::Looked(looks(&buffer, count)))
+    }
+
     /// Whether state and tables count as started.
     pub fn is_started(&self) -> bool {
-        let tables = &self.tables;
         // The gap question is refused exactly where nothing is started. What it answers is let go, so it isn't put.
-        // Safety: pointers and lengths are those of vectors, which don't overlap; the function only reads.
-        let reply = unsafe {
-            sys::committer_gap(
-                *self.state,
-                tables.keys.as_ptr(),
-                tables.keys.len(),
-                tables.links.as_ptr(),
-                tables.links.len(),
-                tables.certs.as_ptr(),
-                tables.certs.len(),
-                tables.order.as_ptr(),
-                tables.order.len(),
-            )
-        };
-        reply.refused == 0
+        ask!(self, committer_gap).is_ok()
     }
 
     /// The points by rising round, then by rising digest; none if not started.
@@ -284,16 +306,15 @@ impl Committer {
             cert: self.tables.certs[place] as u16,
         }
     }
+}
 
-    /// Keeps the state that a call returned; what it said, or why it was refused.
-    fn keep(&mut self, reply: &sys::Reply) -> Result<Kept, Refused> {
-        *self.state = reply.state;
-        if reply.refused == 0 {
-            return Ok(Kept { said: reply.said == 1, anchors: reply.anchors });
-        }
-        let refusal = Refusal::of(reply.refused, reply.conflict).expect("the library refuses with 1 to 23");
-        Err(Refused { refusal, finished: reply.anchors })
+/// What a call said, or why it was refused.
+fn kept(reply: &sys::Reply) -> Result<Kept, Refused> {
+    if reply.refused == 0 {
+        return Ok(Kept { said: reply.said == 1, anchors: reply.anchors });
     }
+    let refusal = Refusal::of(reply.refused, reply.conflict).expect("the library refuses with 1 to 23");
+    Err(Refused { refusal, finished: reply.anchors })
 }
 
 fn done(answer: Result<(), Refused>) -> Answer {

@@ -75,7 +75,7 @@ pub struct Reply {
     pub refused: u32,
     /// 1 for yes
     pub said: u32,
-    /// handed out, or finished before a refusal
+    /// handed out, or finished before a refusal, by a commit; told by an outlook
     pub anchors: u32,
     /// the round of a history conflict, else 0
     pub conflict: u32,
@@ -240,6 +240,21 @@ unsafe extern "C" {
         links: *const u64,
         links_len: usize,
         certs: *mut u64,
+        certs_len: usize,
+        order: *const u64,
+        order_len: usize,
+        id: PointId,
+        buffer: *mut u8,
+        buffer_len: usize,
+    ) -> Reply;
+
+    pub fn committer_outlook(
+        state: State,
+        keys: *const u64,
+        keys_len: usize,
+        links: *const u64,
+        links_len: usize,
+        certs: *const u64,
         certs_len: usize,
         order: *const u64,
         order_len: usize,

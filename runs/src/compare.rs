@@ -7,6 +7,7 @@ use committer::{Call, PointId};
 use crate::counts::Counts;
 use crate::known::{self, Known, Strict, Tried};
 use crate::library::Side;
+use crate::outlook;
 use crate::rules::{Due, due};
 use crate::rust::Rust;
 use crate::view::{Answer, Point, Refused, State, Told, View};
@@ -48,6 +49,8 @@ pub enum Kind {
     Records,
     /// a commit into a smaller buffer
     Buffer,
+    /// an outlook tells other anchors than the commit hands out, or isn't refused as it is
+    Outlook,
 }
 
 impl fmt::Display for Difference {
@@ -78,9 +81,6 @@ pub fn compare<S: Side>(list: &List, counts: &mut Counts) -> Result<(), Differen
 
 type Found = (Kind, String);
 
-/// The committed mark of a certificate word.
-const COMMITTED: u16 = 0x1000;
-
 struct Pair<'a, S> {
     places: usize,
     ours: S,
@@ -100,6 +100,9 @@ impl<'a, S: Side> Pair<'a, S> {
     }
 
     fn step(&mut self, call: &'a Call, counts: &mut Counts) -> Result<Next, Found> {
+        if let Call::Commit(trigger) | Call::Outlook(trigger) = call {
+            self.outlook(trigger, counts)?;
+        }
         let answer = self.ours.call(call);
         self.by_rule(call, &answer)?;
         let fingerprint = self.ours.fingerprint();
@@ -109,7 +112,10 @@ impl<'a, S: Side> Pair<'a, S> {
             counts.call(call, Some(why.number));
             if why.finished.is_empty() {
                 self.unchanged(call, why, fingerprint, &view)?;
-                self.tried(call, why, counts)?;
+                // the Rust has no outlook
+                if !matches!(call, Call::Outlook(_)) {
+                    self.tried(call, why, counts)?;
+                }
                 return Ok(Next::On);
             }
         } else {
@@ -119,6 +125,13 @@ impl<'a, S: Side> Pair<'a, S> {
         self.fingerprint = fingerprint;
         let before = std::mem::replace(&mut self.view, view);
         self.both(call, &answer, &before, counts)
+    }
+
+    /// The outlook of a trigger tells what its commit does, on a copy.
+    fn outlook(&self, trigger: &PointId, counts: &mut Counts) -> Result<(), Found> {
+        let compared = outlook::compared(&self.ours, trigger, &self.taken, &self.view);
+        counts.looked(&compared.map_err(|text| (Kind::Outlook, format!("outlook: {text}")))?);
+        Ok(())
     }
 
     /// 1 to 12 are given where document 01 asks for them and nowhere else.
@@ -144,7 +157,7 @@ impl<'a, S: Side> Pair<'a, S> {
         };
         let mut handed: Vec<PointId> = records.iter().flat_map(|record| &record.points).copied().collect();
         let mut marked: Vec<PointId> = (view.points.iter().zip(&self.view.points))
-            .filter(|(after, before)| (after.word ^ before.word) & COMMITTED != 0)
+            .filter(|(after, before)| after.is_committed() != before.is_committed())
             .map(|(after, _)| after.id)
             .collect();
         let order = |id: &PointId| (id.round, id.digest);
@@ -243,7 +256,7 @@ impl<'a, S: Side> Pair<'a, S> {
 
     /// A call that changed something, on the Rust, and what both then hold.
     fn both(&mut self, call: &'a Call, answer: &Answer, before: &View, counts: &mut Counts) -> Result<Next, Found> {
-        if *answer == Answer::Unsupported {
+        if matches!(answer, Answer::Unsupported | Answer::Looked(_)) {
             return Ok(Next::On);
         }
         let told = self.rust.call(call);
@@ -321,7 +334,8 @@ fn keeps_last_proof(ours: Option<&State>, rust: &mut View) -> bool {
     let (Some(ours), Some(rust)) = (ours, &mut rust.state) else {
         return false;
     };
-    let forgotten = rust.last_committed_proof.is_none() && ours.last_committed_proof.is_some_and(|proof| proof < rust.bottom);
+    let forgotten =
+        rust.last_committed_proof.is_none() && ours.last_committed_proof.is_some_and(|proof| proof < rust.bottom);
     if forgotten {
         rust.last_committed_proof = ours.last_committed_proof;
     }

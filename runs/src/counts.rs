@@ -6,6 +6,7 @@ use std::fmt;
 use committer::Call;
 
 use crate::known::{ENTRIES, Known, ROWS, row_is_entry};
+use crate::outlook::Compared;
 
 #[derive(Clone, Debug, Default)]
 pub struct Counts {
@@ -25,6 +26,12 @@ pub struct Counts {
     pub anchors: u64,
     /// commits that handed out so many anchors, and that were refused after so many
     pub commits: [BTreeMap<usize, u64>; 2],
+    /// outlooks compared with the commit on a copy, by anchors
+    pub outlooks: BTreeMap<usize, u64>,
+    /// outlooks refused as the commit is, by number
+    pub outlooks_refused: BTreeMap<u32, u64>,
+    /// outlooks into smaller buffers
+    pub outlook_buffers: u64,
 }
 
 impl Counts {
@@ -62,6 +69,21 @@ impl Counts {
         *self.commits[usize::from(refused)].entry(anchors).or_default() += 1;
     }
 
+    pub fn looked(&mut self, compared: &Compared) {
+        match compared {
+            Compared::Anchors { anchors, buffers } => {
+                *self.outlooks.entry(*anchors).or_default() += 1;
+                self.outlook_buffers += buffers;
+            }
+            Compared::Refused(number) => *self.outlooks_refused.entry(*number).or_default() += 1,
+        }
+    }
+
+    /// Outlooks that told anchors.
+    pub fn outlooks_with_anchors(&self) -> u64 {
+        self.outlooks.iter().filter(|(anchors, _)| **anchors > 0).map(|(_, times)| times).sum()
+    }
+
     pub fn add(&mut self, other: &Counts) {
         for (family, lists) in &other.lists {
             *self.lists.entry(family).or_default() += lists;
@@ -88,6 +110,13 @@ impl Counts {
                 *ours.entry(*anchors).or_default() += times;
             }
         }
+        for (anchors, times) in &other.outlooks {
+            *self.outlooks.entry(*anchors).or_default() += times;
+        }
+        for (number, times) in &other.outlooks_refused {
+            *self.outlooks_refused.entry(*number).or_default() += times;
+        }
+        self.outlook_buffers += other.outlook_buffers;
     }
 
     fn times(&self, known: Known) -> u64 {
@@ -123,9 +152,17 @@ impl fmt::Display for Counts {
         }
         writeln!(f, "compared: {} states, {} points, {} anchor records", self.states, self.points, self.anchors)?;
         for (commits, what) in self.commits.iter().zip(["handed out", "finished before a refusal"]) {
-            let times: Vec<_> = commits.iter().map(|(anchors, times)| format!("{anchors}: {times}")).collect();
-            writeln!(f, "commits by anchors {what}: {}", times.join(", "))?;
+            writeln!(f, "commits by anchors {what}: {}", listed(commits))?;
         }
+        let all: u64 = self.outlooks.values().chain(self.outlooks_refused.values()).sum();
+        writeln!(
+            f,
+            "outlooks compared with the commit on a copy: {all}, with anchors {}",
+            self.outlooks_with_anchors()
+        )?;
+        writeln!(f, "outlooks by anchors: {}", listed(&self.outlooks))?;
+        writeln!(f, "outlooks refused as the commit is, by number: {}", listed(&self.outlooks_refused))?;
+        writeln!(f, "outlooks into buffers that are too small: {}", self.outlook_buffers)?;
         writeln!(f, "refusals:")?;
         for (number, times) in &self.refusals {
             write!(f, "  {number}: {times}, given to the Rust {}", self.tried_of(*number))?;
@@ -146,6 +183,10 @@ impl fmt::Display for Counts {
         }
         Ok(())
     }
+}
+
+fn listed<K: fmt::Display>(counts: &BTreeMap<K, u64>) -> String {
+    counts.iter().map(|(of, times)| format!("{of}: {times}")).collect::<Vec<_>>().join(", ")
 }
 
 struct Met(u64);

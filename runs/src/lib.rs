@@ -6,6 +6,7 @@ pub mod known;
 pub mod library;
 pub mod lists;
 pub mod notation;
+pub mod outlook;
 pub mod random;
 pub mod rules;
 pub mod rust;

@@ -16,6 +16,12 @@ pub trait Side {
     /// A number that changes with any word of the tables and the state.
     fn fingerprint(&self) -> u64;
 
+    /// The outlook of a trigger, into this buffer.
+    fn outlook(&self, trigger: &PointId, buffer: &mut [u8]) -> Result<u32, committer::Refused>;
+
+    /// What a commit of the trigger hands out, or why it is refused, on a copy where the gap question is put.
+    fn would_commit(&self, trigger: &PointId) -> Result<Vec<Anchor>, committer::Refused>;
+
     /// The last call, if it was a commit that wrote records, once more with buffers that are too small: how many, or what is wrong.
     fn smaller_buffers(&self) -> Result<u64, String> {
         Ok(0)
@@ -73,6 +79,19 @@ impl Side for Library {
         sum.total()
     }
 
+    fn outlook(&self, trigger: &PointId, buffer: &mut [u8]) -> Result<u32, committer::Refused> {
+        self.committer.outlook(trigger, buffer)
+    }
+
+    fn would_commit(&self, trigger: &PointId) -> Result<Vec<Anchor>, committer::Refused> {
+        let mut copy = self.committer.clone();
+        // refused with 2 where nothing is started; so is the commit
+        let _ = copy.gap_question();
+        let mut buffer = vec![UNTOUCHED; LARGE];
+        let count = copy.commit(trigger, &mut buffer)?;
+        Ok(anchors(&buffer, count))
+    }
+
     fn smaller_buffers(&self) -> Result<u64, String> {
         match &self.commit {
             Some((trigger, before)) => smaller_buffers(trigger, before, &self.committer),
@@ -82,7 +101,8 @@ impl Side for Library {
 }
 
 const LARGE: usize = committer::COMMIT_BYTES_MAX;
-const UNTOUCHED: u8 = 0xa5;
+/// What is in a buffer before a call.
+pub const UNTOUCHED: u8 = 0xa5;
 
 /// A commit into buffers that end inside each record: 21 with the records before, then the same commit writes the others and leaves what it
 /// left at once. Before a refusal it ends likewise.
@@ -155,6 +175,7 @@ fn answer(answer: committer::Answer) -> Answer {
         committer::Answer::Done => Answer::Done,
         committer::Answer::Said(yes) => Answer::Said(yes),
         committer::Answer::Handed(anchors) => Answer::Anchors(anchors),
+        committer::Answer::Looked(looks) => Answer::Looked(looks),
         committer::Answer::Refused(why, finished) => Answer::Refused(refused(why, finished)),
         committer::Answer::Unsupported => Answer::Unsupported,
     }

@@ -223,7 +223,10 @@ fn simpler_starts(with: &Start) -> Vec<Start> {
         Start { genesis: with.bottom, ..*with },
     ];
     starts.extend(
-        [1, 2, 3].into_iter().filter(|h| *h < with.commit_history_rounds).map(|h| Start { commit_history_rounds: h, ..*with }),
+        [1, 2, 3]
+            .into_iter()
+            .filter(|h| *h < with.commit_history_rounds)
+            .map(|h| Start { commit_history_rounds: h, ..*with }),
     );
     starts.extend(fewer_peers(with.peers).into_iter().map(|peers| Start { peers, ..*with }));
     starts

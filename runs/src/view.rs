@@ -1,6 +1,6 @@
 //! What both sides are read as, and what they answer.
 
-use committer::{Anchor, PointId};
+use committer::{Anchor, Look, PointId};
 
 /// What a side holds.
 #[derive(Clone, Debug, Default, PartialEq, Eq)]
@@ -39,6 +39,12 @@ pub struct Point {
     pub word: u16,
 }
 
+impl Point {
+    pub fn is_committed(&self) -> bool {
+        self.word & 0x1000 != 0
+    }
+}
+
 impl View {
     pub fn is_started(&self) -> bool {
         self.state.is_some()
@@ -63,6 +69,8 @@ pub enum Answer {
     Done,
     Said(bool),
     Anchors(Vec<Anchor>),
+    /// of an outlook
+    Looked(Vec<Look>),
     Refused(Refused),
     /// the side doesn't have this call
     Unsupported,

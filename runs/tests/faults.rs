@@ -2,7 +2,7 @@
 
 use std::marker::PhantomData;
 
-use committer::Call;
+use committer::{Anchor, Call, OUTLOOK_BYTES, PointId};
 use runs::compare::{Kind, List, compare};
 use runs::counts::Counts;
 use runs::library::{Library, Side};
@@ -19,6 +19,11 @@ trait Fault {
     }
 
     fn view(_view: &mut View) {}
+
+    /// the number of anchors that an outlook tells; what it wrote for each may be changed
+    fn outlook(_told: &mut [u8], count: u32) -> u32 {
+        count
+    }
 
     /// added to the fingerprint after a call with this answer
     fn written(_answer: &Answer) -> u64 {
@@ -53,6 +58,15 @@ impl<F: Fault> Side for Wrong<F> {
 
     fn fingerprint(&self) -> u64 {
         self.library.fingerprint() ^ self.written
+    }
+
+    fn outlook(&self, trigger: &PointId, buffer: &mut [u8]) -> Result<u32, committer::Refused> {
+        let count = self.library.outlook(trigger, buffer)?;
+        Ok(F::outlook(&mut buffer[..OUTLOOK_BYTES * count as usize], count))
+    }
+
+    fn would_commit(&self, trigger: &PointId) -> Result<Vec<Anchor>, committer::Refused> {
+        self.library.would_commit(trigger)
     }
 }
 
@@ -272,6 +286,33 @@ impl Fault for Number {
     }
 }
 
+/// An outlook counts one point too many for its second anchor.
+struct Points;
+
+impl Fault for Points {
+    fn outlook(told: &mut [u8], count: u32) -> u32 {
+        if count > 1 {
+            told[2 * OUTLOOK_BYTES - 1] += 1;
+        }
+        count
+    }
+}
+
+/// An outlook leaves its last anchor out.
+struct LeftOut;
+
+impl Fault for LeftOut {
+    fn outlook(_: &mut [u8], count: u32) -> u32 {
+        count.saturating_sub(1)
+    }
+}
+
+#[test]
+fn faults_of_outlooks_are_caught() {
+    assert_eq!(found_in_chains::<Points>(), Kind::Outlook);
+    assert_eq!(found_in_chains::<LeftOut>(), Kind::Outlook);
+}
+
 /// The list and the kind of the first difference in lists that commit.
 fn found_in_chains<F: Fault>() -> Kind {
     let lists = (0..400).map(|n| chained(Random::of(7, 5, n)));
@@ -293,7 +334,7 @@ fn the_library_passes_chains() {
     for list in (0..100).map(|n| chained(Random::of(7, 5, n))) {
         compare::<Library>(&list, &mut counts).unwrap_or_else(|found| panic!("{found}\n{}", notation::written(&list)));
     }
-    assert!(counts.anchors > 100, "{counts}");
+    assert!(counts.anchors > 100 && counts.outlooks_with_anchors() > 100, "{counts}");
 }
 
 /// A word is written where 9 is given.

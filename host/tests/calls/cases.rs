@@ -2,7 +2,7 @@
 
 use committer::{Committer, PointId, PointInfo, Start, State, Status};
 
-use crate::common::{add, beginning, height, link, point, refuses, started, valid, version};
+use crate::common::{add, beginning, fill_memory, height, link, point, refuses, started, valid, version};
 
 /// Points of author 0 from round `from` to `to`, each including the one before.
 fn chain(committer: &mut Committer, from: u32, to: u32) {
@@ -310,11 +310,7 @@ fn a_start_after_a_reset() {
 
 /// A memory that a remove could have left.
 fn remember(committer: &mut Committer) {
-    let (_, state) = committer.parts_mut();
-    state.memory.last = 9;
-    state.memory.count = 2;
-    state.memory.entries[1].unreferenced_by = 77;
-    state.memory.entries[127].digest = [1, 2, 3, 4];
+    fill_memory(&mut committer.parts_mut().1.memory, 128);
 }
 
 #[test]
@@ -347,18 +343,15 @@ fn a_start_after_a_reset_clears_the_tables() {
     assert!(committer == expected);
 }
 
-/// A state that no reset left: another phase, a used place, or a memory of too many entries.
+/// A state that no reset left: another phase, or a used place.
 #[test]
 fn a_start_without_a_reset_clears_the_memory() {
-    let others: [fn(&mut State); 4] = [|s| s.phase = 0, |s| s.phase = 3, |s| s.count = 1, |s| s.memory.count = 129];
+    let others: [fn(&mut State); 3] = [|s| s.phase = 0, |s| s.phase = 3, |s| s.count = 1];
     for change in others {
         let mut committer = started(2, &beginning(), 11);
         remember(&mut committer);
         committer.reset().unwrap();
-        let (_, state) = committer.parts_mut();
-        let entry = state.memory.entries[1];
-        state.memory.entries.fill(entry);
-        change(state);
+        change(committer.parts_mut().1);
         committer.start(&beginning()).unwrap();
         assert!(committer == started(2, &beginning(), 10));
     }

@@ -2,14 +2,11 @@
 
 use committer::{Anchor, Committer, PointId, PointInfo, Refusal, Refused, Start, anchors};
 
-use crate::common::{assert_unchanged, beginning, link, point, refuses, started, valid, version};
+use crate::common::{
+    assert_outlook, assert_unchanged, beginning, buffer, link, point, refuses, started, valid, version,
+};
 
 const LARGE: usize = committer::COMMIT_BYTES_MAX;
-
-/// A buffer whose untouched bytes can be told.
-fn buffer(length: usize) -> Vec<u8> {
-    vec![0xa5; length]
-}
 
 fn put(committer: &mut Committer, id: PointId, info: PointInfo) {
     committer.name(&id).expect("a new point");
@@ -29,8 +26,9 @@ fn trigger(includes: &[PointId]) -> PointInfo {
     PointInfo { trigger: true, ..valid(includes, &[]) }
 }
 
-/// Commits into a large buffer.
+/// Commits into a large buffer; the outlook before it says the same.
 fn commit(committer: &mut Committer, id: &PointId) -> Result<Vec<Anchor>, (Refused, Vec<Anchor>)> {
+    assert_outlook(committer, id);
     let mut bytes = buffer(LARGE);
     let given = committer.commit(id, &mut bytes);
     let count = given.unwrap_or_else(|why| why.finished);
@@ -334,8 +332,14 @@ fn broken_16() {
 
 #[test]
 fn rounds_missing_17() {
-    let with =
-        Start { genesis: 10, commit_history_rounds: 2, deduplicate_rounds: 5, bottom: 20, used: Some(0), ..beginning() };
+    let with = Start {
+        genesis: 10,
+        commit_history_rounds: 2,
+        deduplicate_rounds: 5,
+        bottom: 20,
+        used: Some(0),
+        ..beginning()
+    };
     let mut list = certified(chain(1, &with, as_it_is));
     list.committer.drop_upto(10).unwrap();
     list.committer.gap_question().unwrap();

@@ -1,6 +1,10 @@
 //! Points and committers that the tests share.
 
-use committer::{Committer, Link, PointId, PointInfo, Refused, Start, Status};
+use committer::sys::Memory;
+use committer::{
+    Committer, Link, OUTLOOK_BYTES, OUTLOOK_BYTES_MAX, PointId, PointInfo, Refusal, Refused, Start, Status, anchors,
+    looks,
+};
 
 /// Genesis 10, H 2, bottom 10, all 32 peers.
 pub fn beginning() -> Start {
@@ -15,6 +19,17 @@ pub fn started(places: usize, with: &Start, top: u32) -> Committer {
         committer.round(round, u32::MAX).expect("the round above the top");
     }
     committer
+}
+
+/// Gives the memory `count` entries that rise by digest; each word of the digests decides somewhere.
+pub fn fill_memory(memory: &mut Memory, count: usize) {
+    memory.last = 9;
+    memory.count = count;
+    for (i, entry) in memory.entries.iter_mut().enumerate() {
+        entry.author = i as u32 % 32;
+        entry.digest = [i / 64, i / 16 % 4, i / 4 % 4, i % 4].map(|word| word as u64);
+        entry.unreferenced_by = 77;
+    }
 }
 
 /// The id of an author's version in a round. Which word of the digest holds the author, and which the version, goes by
@@ -79,6 +94,60 @@ pub fn assert_unchanged(committer: &Committer, before: &Committer) {
     assert!(tables.links == tables_before.links, "the links changed");
     assert!(tables.certs == tables_before.certs, "the certificate words changed");
     assert!(tables.order == tables_before.order, "the order changed");
+}
+
+/// A buffer whose untouched bytes can be told.
+pub fn buffer(length: usize) -> Vec<u8> {
+    vec![0xa5; length]
+}
+
+/// The outlook of a trigger is what a commit would do, once the gap question is put: the same anchors, the first with as
+/// many points (the histories of the others lose what the ones before them hold), or the same refusal. It changes
+/// nothing, and writes only if it isn't refused.
+pub fn assert_outlook(committer: &Committer, trigger: &PointId) {
+    let mut bytes = buffer(OUTLOOK_BYTES_MAX);
+    let before = committer.clone();
+    let told = committer.outlook(trigger, &mut bytes);
+    assert_unchanged(committer, &before);
+    let mut copy = before.clone();
+    // refused with 2 if nothing is started, as commit and outlook are
+    let _ = copy.gap_question();
+    let mut records = buffer(committer::COMMIT_BYTES_MAX);
+    match copy.commit(trigger, &mut records) {
+        Ok(count) => {
+            assert_eq!(told, Ok(count));
+            let (looks, anchors) = (looks(&bytes, count), anchors(&records, count));
+            assert_eq!(looks.len(), anchors.len());
+            for (n, (look, anchor)) in looks.iter().zip(&anchors).enumerate() {
+                assert_eq!(look.anchor, anchor.anchor);
+                let points = anchor.points.len() as u32;
+                assert!(if n == 0 { look.points == points } else { look.points >= points }, "{look} {anchor}");
+            }
+            assert_outlook_buffers(committer, trigger, &bytes, count);
+        }
+        Err(why) => {
+            assert_eq!(told, Err(Refused { finished: 0, ..why }));
+            assert_eq!(bytes, buffer(OUTLOOK_BYTES_MAX));
+        }
+    }
+    assert_unchanged(committer, &before);
+}
+
+/// Just as many bytes as are needed will do; with one less, or none, it is 21 and no byte is written.
+fn assert_outlook_buffers(committer: &Committer, trigger: &PointId, whole: &[u8], count: u32) {
+    let length = OUTLOOK_BYTES * count as usize;
+    assert!(whole[length..].iter().all(|byte| *byte == 0xa5), "bytes beyond the outlook were touched");
+    let mut bytes = buffer(length);
+    assert_eq!(committer.outlook(trigger, &mut bytes), Ok(count));
+    assert_eq!(bytes, whole[..length]);
+    if count > 0 {
+        for short in [length - 1, length - OUTLOOK_BYTES, 0] {
+            let mut bytes = buffer(short);
+            let due = Refused { refusal: Refusal::NoRoom, finished: 0 };
+            assert_eq!(committer.outlook(trigger, &mut bytes), Err(due));
+            assert_eq!(bytes, buffer(short));
+        }
+    }
 }
 
 /// Numbers from a seed: xorshift with 64 bits.

@@ -6,6 +6,7 @@ mod common;
 mod full_size;
 mod model;
 mod noise;
+mod outlooks;
 mod random_runs;
 mod records;
 mod refusals;

@@ -1,10 +1,12 @@
-//! Document 01 once more, as plainly as it can be said: maps, and heights by following every path. Only the inspector's
-//! memory isn't here.
+//! Document 01 once more, as plainly as it can be said: maps, and heights by following every path. Only remove and the
+//! inspector's memory aren't here.
 
+use std::cmp::Reverse;
 use std::collections::{BTreeMap, BTreeSet};
 
 use committer::{
-    Answer, Call, Link, Point, PointId, PointInfo, ROUND_MAX, Refusal, Refused, RetainedRound, Start, Status, Summary,
+    Anchor, Answer, Call, Link, Look, Point, PointId, PointInfo, ROUND_MAX, Refusal, Refused, RetainedRound, Start,
+    Status, Summary,
 };
 
 pub struct Model {
@@ -16,6 +18,8 @@ struct Store {
     with: Start,
     bottom: u32,
     top: u32,
+    last_committed_proof: Option<u32>,
+    last_anchor: Option<u32>,
     full_history_bottom: u32,
     first_executable: u32,
     gap: Option<bool>,
@@ -30,9 +34,23 @@ struct Held {
     author: u32,
     info: Option<PointInfo>,
     top: bool,
+    committed: bool,
 }
 
 type Number = u32;
+
+/// What stops a walk or an anchor: the number, and the round of a conflict, else 0.
+type Stop = (Number, u32);
+
+/// An anchor of a chain, its proof, and the round of its top proof.
+struct EnqueuedAnchor {
+    anchor: PointId,
+    proof: PointId,
+    prev_proof_round: u32,
+}
+
+/// By key; 0 for none.
+struct Heights(BTreeMap<Key, u32>);
 
 impl Model {
     pub fn new(places: usize) -> Model {
@@ -40,10 +58,7 @@ impl Model {
     }
 
     pub fn call(&mut self, call: &Call) -> Answer {
-        self.answer(call).unwrap_or_else(|number| {
-            let refusal = Refusal::of(number, 0).expect("a number of the table");
-            Answer::Refused(Refused { refusal, finished: 0 }, Vec::new())
-        })
+        self.answer(call).unwrap_or_else(|number| refused((number, 0), Vec::new()))
     }
 
     fn answer(&mut self, call: &Call) -> Result<Answer, Number> {
@@ -59,11 +74,13 @@ impl Model {
             Call::Certify(id) => store.certify(id),
             Call::Drop(round) => Ok(store.drop(*round)),
             Call::Gap => Ok(store.ask()),
+            Call::Commit(id) => Ok(store.commit(id)),
+            Call::Outlook(id) => Ok(store.outlook(id).map_or_else(|stop| refused(stop, Vec::new()), Answer::Looked)),
             Call::Reset => {
                 self.store = None;
                 Ok(Answer::Done)
             }
-            _ => Ok(Answer::Unsupported),
+            Call::Start(_) | Call::Remove { .. } => Ok(Answer::Unsupported),
         }
     }
 
@@ -91,8 +108,8 @@ impl Model {
             deduplicate_rounds: store.with.deduplicate_rounds,
             bottom: store.bottom,
             top: store.top,
-            last_committed_proof: None,
-            last_anchor: None,
+            last_committed_proof: store.last_committed_proof,
+            last_anchor: store.last_anchor,
             full_history_bottom: store.full_history_bottom,
             first_executable: store.first_executable,
             emit_first_after_gap: store.gap,
@@ -120,7 +137,8 @@ impl Held {
         let info = self.info.as_ref();
         let status = info.and_then(|info| Status::of(info.status));
         let linked = info.is_some_and(|info| info.status <= 3);
-        let flags = if self.top { 0x8000 } else { 0 } | if linked { 0x6000 } else { 0 };
+        let committed = if self.committed { 0x1000 } else { 0 };
+        let flags = if self.top { 0x8000 } else { 0 } | if linked { 0x6000 } else { 0 } | committed;
         Point {
             id: PointId { round: key.0, author: self.author, digest: key.1 },
             status,
@@ -141,6 +159,8 @@ impl Store {
             with: *with,
             bottom: with.bottom,
             top: with.bottom,
+            last_committed_proof: None,
+            last_anchor: None,
             full_history_bottom,
             first_executable: if with.after_gap { full_history_bottom + with.deduplicate_rounds } else { with.bottom },
             gap: with.after_gap.then_some(false),
@@ -187,7 +207,7 @@ impl Store {
         if self.points.len() == places {
             return Err(4);
         }
-        self.points.insert((id.round, id.digest), Held { author: id.author, info: None, top: false });
+        self.points.insert((id.round, id.digest), Held { author: id.author, info: None, top: false, committed: false });
         Ok(Answer::Done)
     }
 
@@ -270,6 +290,189 @@ impl Store {
         }
         reached
     }
+}
+
+/// Commits and outlooks. Buffers are large.
+impl Store {
+    /// Resolved, or 14; usable, or 13 if it is certified, else 15.
+    fn checked(&self, key: &Key, heights: &Heights, usable: impl Fn(&Held, u32) -> bool) -> Result<&PointInfo, Stop> {
+        let held = self.points.get(key).ok_or((14, 0))?;
+        let info = held.info.as_ref().ok_or((14, 0))?;
+        let height = heights.of(key);
+        match (usable(held, info.status), height > 0) {
+            (true, _) => Ok(info),
+            (false, true) => Err((13, key.0)),
+            (false, false) => Err((15, 0)),
+        }
+    }
+
+    /// A point that the walk needs.
+    fn ready(&self, id: &PointId, heights: &Heights) -> Result<&PointInfo, Stop> {
+        if !self.named(id) {
+            return Err((14, 0));
+        }
+        self.checked(&(id.round, id.digest), heights, |_, status| status == 1)
+    }
+
+    /// The anchors that a trigger yields, oldest first.
+    fn anchors(&self, id: &PointId, heights: &Heights) -> Result<Vec<EnqueuedAnchor>, Stop> {
+        if id.author < 32 && id.round < self.bottom {
+            return Ok(Vec::new());
+        }
+        self.test_id(id).map_err(|number| (number, 0))?;
+        let key = (id.round, id.digest);
+        let held = self.points.get(&key).filter(|held| held.author == id.author).ok_or((9, 0))?;
+        let trigger = held.info.as_ref().ok_or((9, 0))?;
+        let certified = heights.of(&key) > 0;
+        match trigger.status {
+            1 => self.chain(id, trigger, heights),
+            2 if certified && held.top => Err((13, id.round)),
+            // turned away by `filter`
+            2 if certified => Ok(Vec::new()),
+            _ if certified => Err((13, id.round)),
+            _ => Err((15, 0)),
+        }
+    }
+
+    /// From the round below the trigger down to the last committed proof's, or the bottom.
+    fn chain(&self, id: &PointId, trigger: &PointInfo, heights: &Heights) -> Result<Vec<EnqueuedAnchor>, Stop> {
+        let lowest = self.last_committed_proof.unwrap_or(0).max(self.bottom);
+        let mut chain: Vec<EnqueuedAnchor> = Vec::new();
+        if !trigger.trigger || id.round == self.with.genesis || id.round <= lowest {
+            return Ok(chain);
+        }
+        let mut sought = previous(id, trigger).ok_or((16, 0))?;
+        for round in (lowest..id.round).rev() {
+            if sought.round < round {
+                continue;
+            }
+            if sought.round > round {
+                return Err((16, 0));
+            }
+            match self.rounds[&round].used {
+                Some(author) if author == sought.author => break,
+                Some(_) => return Err((16, 0)),
+                None => {}
+            }
+            let proof = self.ready(&sought, heights)?;
+            let below = previous(&sought, proof).filter(|_| proof.proof).ok_or((16, 0))?;
+            if round == lowest {
+                break;
+            }
+            let top_proof = self.ready(&below, heights)?.top_proof;
+            chain.push(EnqueuedAnchor { anchor: below, proof: sought, prev_proof_round: top_proof.round });
+            sought = top_proof;
+        }
+        chain.reverse();
+        match chain.first() {
+            Some(oldest) if oldest.prev_proof_round > lowest => Err((19, 0)),
+            _ => Ok(chain),
+        }
+    }
+
+    /// The tests of an anchor that commit and outlook share: 22, 13 to 15, 17, 18; its history, by rising round and
+    /// digest.
+    fn history(&self, anchor: &PointId, heights: &Heights) -> Result<Vec<PointId>, Stop> {
+        if anchor.round <= self.with.genesis {
+            return Err((22, 0));
+        }
+        let limit = (self.with.genesis + 1).max(anchor.round.saturating_sub(self.with.commit_history_rounds));
+        let needed = self.needed(anchor, limit.max(self.bottom));
+        let mut downwards: Vec<&Key> = needed.iter().collect();
+        downwards.sort_by_key(|key| (Reverse(key.0), key.1));
+        for key in downwards {
+            self.checked(key, heights, |held, status| {
+                status == 1 || status == 2 && !(held.top && heights.of(key) > 0)
+            })?;
+        }
+        if self.full_history_bottom <= limit && limit < self.bottom {
+            return Err((17, 0));
+        }
+        let history: Vec<Key> = needed.into_iter().filter(|key| !self.points[key].committed).collect();
+        if history.iter().any(|key| heights.of(key) == 0) {
+            return Err((18, 0));
+        }
+        Ok(history.iter().map(|key| PointId { round: key.0, author: self.points[key].author, digest: key.1 }).collect())
+    }
+
+    /// The anchor and what uncommitted points from it downwards link to.
+    fn needed(&self, anchor: &PointId, lowest: u32) -> BTreeSet<Key> {
+        let mut needed = BTreeSet::new();
+        let mut next = vec![(anchor.round, anchor.digest)];
+        while let Some(key) = next.pop() {
+            if key.0 < lowest || !needed.insert(key) || self.points[&key].committed {
+                continue;
+            }
+            let info = self.points[&key].info.iter();
+            next.extend(info.flat_map(|info| targets(key.0, info)).map(|id| (id.round, id.digest)));
+        }
+        needed
+    }
+
+    fn outlook(&self, id: &PointId) -> Result<Vec<Look>, Stop> {
+        let heights = Heights(self.heights());
+        let anchors = self.anchors(id, &heights)?;
+        let look = |e: &EnqueuedAnchor| {
+            let points = self.history(&e.anchor, &heights)?.len() as u32;
+            Ok(Look { anchor: e.anchor, points })
+        };
+        anchors.iter().map(look).collect()
+    }
+
+    fn commit(&mut self, id: &PointId) -> Answer {
+        let heights = Heights(self.heights());
+        let mut finished = Vec::new();
+        let anchors = match self.anchors(id, &heights) {
+            Ok(anchors) => anchors,
+            Err(stop) => return refused(stop, finished),
+        };
+        for e in anchors {
+            match self.dequeue(&e, &heights) {
+                Ok(anchor) => finished.push(anchor),
+                Err(stop) => return refused(stop, finished),
+            }
+        }
+        Answer::Handed(finished)
+    }
+
+    /// One anchor handed out.
+    fn dequeue(&mut self, e: &EnqueuedAnchor, heights: &Heights) -> Result<Anchor, Stop> {
+        let points = self.history(&e.anchor, heights)?;
+        if self.gap == Some(false) {
+            return Err((20, 0));
+        }
+        let executable = self.first_executable <= e.anchor.round;
+        let first = executable && self.gap == Some(true);
+        let previous = e.prev_proof_round.saturating_sub(1);
+        let previous = if first || previous <= self.with.genesis { 0 } else { previous };
+        for id in &points {
+            self.points.get_mut(&(id.round, id.digest)).expect("named").committed = true;
+        }
+        self.rounds.get_mut(&e.proof.round).expect("retained").used = Some(e.anchor.author);
+        self.last_committed_proof = Some(e.proof.round);
+        self.last_anchor = Some(e.anchor.round);
+        if first {
+            self.gap = None;
+        }
+        Ok(Anchor { anchor: e.anchor, proof: e.proof, executable, previous, points })
+    }
+}
+
+impl Heights {
+    fn of(&self, key: &Key) -> u32 {
+        self.0.get(key).copied().unwrap_or(0)
+    }
+}
+
+fn refused((number, round): Stop, finished: Vec<Anchor>) -> Answer {
+    let refusal = Refusal::of(number, round).expect("a number of the table");
+    Answer::Refused(Refused { refusal, finished: finished.len() as u32 }, finished)
+}
+
+/// The include under the point's own author.
+fn previous(id: &PointId, info: &PointInfo) -> Option<PointId> {
+    let link = info.includes.iter().find(|link| link.peer == id.author)?;
+    Some(PointId { round: id.round - 1, author: id.author, digest: link.digest })
 }
 
 /// Where the links of a point lead.

@@ -1,8 +1,10 @@
 //! State and tables that no call left: every call is refused with 2 and changes nothing, and a start works.
 
+use committer::sys::Memory;
 use committer::{Answer, Call, Committer, PLACES_MAX, PointId, PointInfo, STATE_BYTES, Start, State, Tables};
 
-use crate::common::{Noise, add, assert_unchanged, beginning, point, started, valid};
+use crate::common::{Noise, add, assert_outlook, assert_unchanged, beginning, fill_memory, point, started, valid};
+use crate::outlooks::two_anchors;
 
 /// One call of each kind but start, with arguments made up.
 fn calls(noise: &mut Noise) -> Vec<Call> {
@@ -17,6 +19,7 @@ fn calls(noise: &mut Noise) -> Vec<Call> {
         Call::Resolve(id, info),
         Call::Certify(id),
         Call::Commit(id),
+        Call::Outlook(id),
         Call::Drop(round),
         Call::Gap,
         Call::Reset,
@@ -51,6 +54,7 @@ fn assert_not_started(committer: &mut Committer, noise: &mut Noise) {
         assert_eq!(number(&answer), 2, "{call:?}");
         assert_unchanged(committer, &before);
     }
+    assert_outlook(committer, &point(noise.below(40), noise.below(40)));
     assert_eq!((committer.summary(), committer.points()), (None, vec![]));
 }
 
@@ -100,7 +104,7 @@ fn plausible(state: &mut State, places: usize, noise: &mut Noise) {
     for record in &mut state.rounds {
         record.used_anchor_proof = noise.below(33);
     }
-    state.memory.count = noise.below(129) as usize;
+    fill_memory(&mut state.memory, noise.below(129) as usize);
 }
 
 #[test]
@@ -122,6 +126,38 @@ fn noise_everywhere() {
         }
     }
     assert!((100..2900).contains(&started), "starts should be accepted and refused: {started}");
+}
+
+/// Each makes of a full memory one that no remove leaves: too many entries, an author who is no peer, digests that don't
+/// rise.
+const MEMORIES: [fn(&mut Memory); 7] = [
+    |m| m.count = 129,
+    |m| m.count = usize::MAX,
+    |m| m.entries[0].author = 32,
+    |m| m.entries[127].author = u32::MAX,
+    |m| m.entries[64].digest = m.entries[63].digest,
+    |m| m.entries[1].digest = m.entries[2].digest,
+    |m| m.entries.swap(126, 127),
+];
+
+/// Tables with such a memory count as not started; a start, after a reset too, empties it.
+#[test]
+fn a_memory_that_does_not_rise() {
+    let noise = &mut Noise::new(7);
+    for break_memory in MEMORIES {
+        for reset in [false, true] {
+            let mut committer = started(3, &beginning(), 11);
+            add(&mut committer, &point(10, 0), &[], &[]);
+            fill_memory(&mut committer.parts_mut().1.memory, 128);
+            assert!(committer.is_started());
+            if reset {
+                committer.reset().unwrap();
+            }
+            break_memory(&mut committer.parts_mut().1.memory);
+            assert_not_started(&mut committer, noise);
+            assert!(assert_start(&mut committer, &beginning()));
+        }
+    }
 }
 
 /// What was started can be used.
@@ -228,6 +264,20 @@ fn one_changed_bit() {
         assert_eq!(answer.is_ok(), !counts);
     }
     assert!((500..5500).contains(&not_started), "both should occur: {not_started}");
+}
+
+/// One changed bit on a board whose trigger yields two anchors: outlook and commit still agree.
+#[test]
+fn one_changed_bit_before_an_outlook() {
+    let board = two_anchors(true);
+    let mut refused = [0; 24];
+    for seed in 0..3000 {
+        let mut committer = board.clone();
+        flip(&mut committer, &mut Noise::new(seed));
+        assert_outlook(&committer, &point(16, 0));
+        refused[number(&committer.call(&Call::Outlook(point(16, 0)))) as usize] += 1;
+    }
+    assert!(refused[0] > 100 && refused[2] > 100 && refused[3..].iter().sum::<u32>() > 20, "{refused:?}");
 }
 
 /// Changes one bit of the state or of a table. Of the tables only words of used places are changed, of the links mostly

@@ -5,7 +5,7 @@ use std::collections::BTreeMap;
 
 use committer::{Answer, Call, Committer, Link, PLACES_MAX, PointId, PointInfo, Start};
 
-use crate::common::{Noise, version};
+use crate::common::{Noise, assert_outlook, assert_unchanged, version};
 use crate::model::Model;
 
 struct Run {
@@ -14,6 +14,8 @@ struct Run {
     model: Model,
     /// how many calls of a name were answered with a number, 0 if not refused
     answers: BTreeMap<(&'static str, u32), u32>,
+    /// how many anchors commits handed out, and outlooks told
+    anchors: [u32; 2],
     /// authors that have points, at most 32
     authors: u32,
 }
@@ -25,6 +27,7 @@ impl Run {
             committer: Committer::new(places),
             model: Model::new(places),
             answers: BTreeMap::new(),
+            anchors: [0; 2],
             authors,
         }
     }
@@ -34,8 +37,14 @@ impl Run {
         let before = self.committer.clone();
         let answer = self.committer.call(call);
         assert_eq!(answer, expected, "{call:?}");
-        if let Answer::Refused(..) = answer {
-            crate::common::assert_unchanged(&self.committer, &before);
+        match &answer {
+            Answer::Refused(why, _) if why.finished == 0 => assert_unchanged(&self.committer, &before),
+            Answer::Handed(anchors) => self.anchors[0] += anchors.len() as u32,
+            Answer::Looked(looks) => self.anchors[1] += looks.len() as u32,
+            _ => {}
+        }
+        if let Call::Outlook(trigger) | Call::Commit(trigger) = call {
+            assert_outlook(&before, trigger);
         }
         *self.answers.entry((name(call), number(&answer))).or_insert(0) += 1;
     }
@@ -53,7 +62,9 @@ impl Run {
         }
         match self.noise.below(100) {
             0..10 => self.any_round(),
-            10..45 => Call::Name(self.any_id()),
+            10..41 => Call::Name(self.any_id()),
+            41..43 => Call::Commit(self.any_trigger()),
+            43..45 => Call::Outlook(self.any_trigger()),
             45..75 => self.any_resolve(),
             75..90 => Call::Certify(self.any_known()),
             90..95 => Call::Drop(self.any_drop()),
@@ -113,6 +124,61 @@ impl Run {
             return self.any_id();
         }
         ids[self.noise.below(ids.len() as u32) as usize].0
+    }
+
+    /// A point that is a trigger, mostly.
+    fn any_trigger(&mut self) -> PointId {
+        let points = self.model.points();
+        let triggers: Vec<PointId> = points.iter().filter(|point| point.trigger).map(|point| point.id).collect();
+        if triggers.is_empty() || self.noise.one_in(10) {
+            return self.any_known();
+        }
+        triggers[self.noise.below(triggers.len() as u32) as usize]
+    }
+
+    /// A row more: a point of each author that includes all of the row below, anchors and proofs in turn. Now and then
+    /// something is wrong with it, or other calls come between.
+    fn add_row(&mut self) {
+        let round = self.rounds().1 + 1;
+        self.make(&Call::Round { round, peers: u32::MAX });
+        let below: Vec<PointId> =
+            self.model.ids().iter().map(|(id, _)| *id).filter(|id| id.round + 1 == round).collect();
+        let links: BTreeMap<u32, Link> =
+            below.iter().map(|id| (id.author, Link { peer: id.author, digest: id.digest })).collect();
+        for author in 0..self.authors {
+            let id = version(round, author, 0);
+            self.make(&Call::Name(id));
+            let status = if self.noise.one_in(60) { 1 + self.noise.below(5) } else { 1 };
+            let linked = status <= 3 && !self.noise.one_in(40);
+            let info = PointInfo {
+                status,
+                proof: round % 2 == 0,
+                trigger: round % 2 == 1 && (author == 0 || self.noise.one_in(10)),
+                top_proof: version(round.saturating_sub(1), author, 0),
+                includes: if linked { links.values().copied().collect() } else { Vec::new() },
+                witness: if linked && self.noise.one_in(4) { self.any_links(round, 2) } else { Vec::new() },
+                ..PointInfo::default()
+            };
+            if !self.noise.one_in(60) {
+                self.make(&Call::Resolve(id, info));
+            }
+            if self.noise.one_in(2) {
+                self.make(&Call::Certify(id));
+            }
+        }
+    }
+
+    /// What follows a row: an outlook, a commit, the gap question, a drop, or any call.
+    fn after_row(&mut self) {
+        let call = match self.noise.below(24) {
+            0..9 => Call::Outlook(self.any_trigger()),
+            9..13 => Call::Commit(self.any_trigger()),
+            13..15 => Call::Gap,
+            15 => Call::Drop(self.any_drop()),
+            16 => self.any_call(),
+            _ => return,
+        };
+        self.make(&call);
     }
 
     fn any_resolve(&mut self) -> Call {
@@ -181,7 +247,9 @@ fn name(call: &Call) -> &'static str {
         Call::Drop(_) => "drop",
         Call::Gap => "gap",
         Call::Reset => "reset",
-        _ => "other",
+        Call::Commit(_) => "commit",
+        Call::Outlook(_) => "outlook",
+        Call::Remove { .. } => "remove",
     }
 }
 
@@ -192,8 +260,10 @@ fn number(answer: &Answer) -> u32 {
     }
 }
 
+type Answers = BTreeMap<(&'static str, u32), u32>;
+
 /// Runs of a seed each; what was answered how often.
-fn runs(seeds: std::ops::Range<u64>, calls: u32) -> BTreeMap<(&'static str, u32), u32> {
+fn runs(seeds: std::ops::Range<u64>, calls: u32) -> Answers {
     let mut all = BTreeMap::new();
     for seed in seeds {
         let mut shape = Noise::new(seed + 1_000_000);
@@ -204,40 +274,90 @@ fn runs(seeds: std::ops::Range<u64>, calls: u32) -> BTreeMap<(&'static str, u32)
             run.make(&call);
             run.compare();
         }
-        for (answer, count) in run.answers {
-            *all.entry(answer).or_insert(0) += count;
-        }
+        add(&mut all, &run.answers);
     }
     all
 }
 
-#[test]
-fn small_boards() {
-    let answers = runs(0..150, 400);
-    // each call was accepted, and refused with each of its numbers
-    let expected = [
-        ("start", vec![0, 1, 2]),
-        ("round", vec![0, 2, 3]),
-        ("name", vec![0, 2, 4, 5, 6, 7, 8]),
-        ("resolve", vec![0, 2, 5, 6, 9, 10, 11, 12]),
-        ("certify", vec![0, 2, 5, 6, 9]),
-        ("drop", vec![0, 2]),
-        ("gap", vec![0, 2]),
-        ("reset", vec![0]),
-    ];
+fn add(all: &mut Answers, answers: &Answers) {
+    for (answer, count) in answers {
+        *all.entry(*answer).or_insert(0) += count;
+    }
+}
+
+/// Each call was accepted, or refused with a number, at least so often.
+fn assert_met(answers: &Answers, least: u32, expected: &[(&'static str, &[u32])]) {
     for (name, numbers) in expected {
-        for number in numbers {
-            let count = answers.get(&(name, number)).copied().unwrap_or(0);
-            assert!(count >= 10, "{name} with {number}: {count} times, of {answers:?}");
+        for number in *numbers {
+            let count = answers.get(&(name, *number)).copied().unwrap_or(0);
+            assert!(count >= least, "{name} with {number}: {count} times, of {answers:?}");
         }
     }
+}
+
+#[test]
+fn small_boards() {
+    let expected: [(&str, &[u32]); 10] = [
+        ("start", &[0, 1, 2]),
+        ("round", &[0, 2, 3]),
+        ("name", &[0, 2, 4, 5, 6, 7, 8]),
+        ("resolve", &[0, 2, 5, 6, 9, 10, 11, 12]),
+        ("certify", &[0, 2, 5, 6, 9]),
+        ("drop", &[0, 2]),
+        ("gap", &[0, 2]),
+        ("reset", &[0]),
+        ("commit", &[0, 9, 13, 15, 16]),
+        ("outlook", &[0, 9, 13, 15, 16]),
+    ];
+    assert_met(&runs(0..150, 400), 10, &expected);
+}
+
+/// Boards whose triggers yield anchors: outlooks between commits, drops and gap questions.
+#[test]
+fn boards_that_commit() {
+    let mut answers = Answers::new();
+    let mut anchors = [0; 2];
+    for seed in 0..150 {
+        let mut run = Run::new(seed, 130, 1 + seed as u32 % 3);
+        let noise = &mut run.noise;
+        let genesis = noise.below(6);
+        let with = Start {
+            genesis,
+            commit_history_rounds: 1 + noise.below(6),
+            deduplicate_rounds: noise.below(9),
+            bottom: genesis + noise.below(3),
+            peers: u32::MAX,
+            after_gap: noise.one_in(3),
+            used: Some(0),
+        };
+        run.make(&Call::Start(with));
+        for _ in 0..40 {
+            if run.model.summary().is_none() {
+                break;
+            }
+            run.add_row();
+            run.after_row();
+            run.compare();
+        }
+        add(&mut answers, &run.answers);
+        anchors = [anchors[0] + run.anchors[0], anchors[1] + run.anchors[1]];
+    }
+    assert_met(&answers, 10, &[("commit", &[0, 13, 14, 16, 18, 20]), ("outlook", &[0, 13, 14, 15, 16, 17, 18])]);
+    assert!(!answers.contains_key(&("outlook", 20)));
+    assert!(anchors[0] >= 100 && anchors[1] >= 500, "handed out and told: {anchors:?}");
 }
 
 /// Full tables, many links: compared now and then, since following every path takes its time.
 #[test]
 fn a_large_board() {
     let mut run = Run::new(7, PLACES_MAX, 32);
-    run.make(&Call::Start(Start { genesis: 1, commit_history_rounds: 40, bottom: 1, peers: u32::MAX, ..Start::default() }));
+    run.make(&Call::Start(Start {
+        genesis: 1,
+        commit_history_rounds: 40,
+        bottom: 1,
+        peers: u32::MAX,
+        ..Start::default()
+    }));
     for round in 2..=60 {
         run.make(&Call::Round { round, peers: u32::MAX });
     }

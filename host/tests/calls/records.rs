@@ -1,7 +1,7 @@
 //! Calls as records, and the recording that the repository's `replay` is run on.
 
 use committer::record::{self, Broken, calls, decode, encode};
-use committer::{Anchor, Answer, Call, Committer, Link, PointId, PointInfo, Refusal, Start};
+use committer::{Anchor, Answer, Call, Committer, Link, Look, PointId, PointInfo, Refusal, Start};
 
 use crate::common::{beginning, point, started, valid};
 
@@ -132,10 +132,8 @@ fn numbers_without_room() {
 fn calls_that_are_not_made_yet() {
     let mut committer = started(4, &beginning(), 12);
     let before = committer.clone();
-    for call in [Call::Remove { round: 11, since: None }, Call::Outlook(point(11, 0))] {
-        assert_eq!(committer.call(&call), Answer::Unsupported);
-        assert!(committer == before);
-    }
+    assert_eq!(committer.call(&Call::Remove { round: 11, since: None }), Answer::Unsupported);
+    assert!(committer == before);
 }
 
 /// The lines that `replay` writes for a call.
@@ -145,14 +143,17 @@ fn lines_of(call: &Call, answer: Answer) -> Vec<String> {
         Call::Drop(_) => "drop ",
         _ => "",
     };
-    let (anchors, last) = match answer {
+    let shown = |anchors: &[Anchor]| anchors.iter().map(Anchor::to_string).collect::<Vec<_>>();
+    let (mut lines, last) = match answer {
         Answer::Done => (vec![], "ok".into()),
         Answer::Said(yes) => (vec![], format!("{question}{}", if yes { "yes" } else { "no" })),
-        Answer::Handed(anchors) => (anchors, "ok".into()),
-        Answer::Refused(why, finished) => (finished, refused(why.refusal)),
+        Answer::Handed(anchors) => (shown(&anchors), "ok".into()),
+        Answer::Looked(looks) => (looks.iter().map(Look::to_string).collect(), "ok".into()),
+        Answer::Refused(why, finished) => (shown(&finished), refused(why.refusal)),
         Answer::Unsupported => (vec![], "unsupported".into()),
     };
-    anchors.iter().map(Anchor::to_string).chain([last]).collect()
+    lines.push(last);
+    lines
 }
 
 fn refused(why: Refusal) -> String {

@@ -2,7 +2,7 @@
 
 use committer::{Committer, STATE_BYTES, State, Tables};
 
-use crate::common::{add, beginning, point, refuses, started, version};
+use crate::common::{add, beginning, fill_memory, point, refuses, started, version};
 
 /// Places 0 to 4: two points of round 10, one of 11 that includes both, one of 12 with an include and a witness, one
 /// named in 13.
@@ -22,7 +22,7 @@ fn board() -> Committer {
 type Break = fn(&mut Tables, &mut State);
 
 /// Each breaks a rule.
-const BREAKS: [(&str, Break); 51] = [
+const BREAKS: [(&str, Break); 54] = [
     ("phase 0", |_, s| s.phase = 0),
     ("phase 2", |_, s| s.phase = 2),
     ("phase 3", |_, s| s.phase = 3),
@@ -36,7 +36,19 @@ const BREAKS: [(&str, Break); 51] = [
     ("top above the last round", |_, s| s.top = 4_000_000_001),
     ("513 rounds", |_, s| s.top = 10 + 512),
     ("used mark of author 32", |_, s| s.rounds[12].used_anchor_proof = 33),
-    ("129 entries of memory", |_, s| s.memory.count = 129),
+    ("129 entries of memory", |_, s| fill_memory(&mut s.memory, 129)),
+    ("an entry of author 32", |_, s| {
+        fill_memory(&mut s.memory, 2);
+        s.memory.entries[1].author = 32;
+    }),
+    ("two entries of one digest", |_, s| {
+        fill_memory(&mut s.memory, 3);
+        s.memory.entries[2].digest = s.memory.entries[1].digest;
+    }),
+    ("an entry of a lower digest", |_, s| {
+        fill_memory(&mut s.memory, 3);
+        s.memory.entries[1].digest = [0, 1, 0, 0];
+    }),
     ("a point below the bottom", |_, s| s.bottom = 11),
     ("a point above the top", |_, s| s.top = 12),
     ("an author who isn't a peer", |_, s| s.rounds[10].peers = 1),
@@ -114,14 +126,26 @@ fn five_digests_break_a_rule() {
 }
 
 /// Each leaves the tables as some calls could have, or is what no rule asks about.
-const ALLOWED: [(&str, Break); 11] = [
+const ALLOWED: [(&str, Break); 13] = [
     ("the last proof", |_, s| s.last_committed_proof = u32::MAX),
     ("the last anchor", |_, s| s.last_anchor = u32::MAX),
     ("the full-history bottom", |_, s| s.full_history_bottom = u32::MAX),
     ("the first executable round", |_, s| s.first_executable = u32::MAX),
     ("the gap flag", |_, s| s.emit_first_after_gap = u32::MAX),
     ("a record of a round that isn't retained", |_, s| s.rounds[14].used_anchor_proof = 99),
-    ("an entry of the memory", |_, s| s.memory.entries[0].author = 99),
+    ("a full memory", |_, s| fill_memory(&mut s.memory, 128)),
+    ("what an entry says of the round below, the memory's round", |_, s| {
+        fill_memory(&mut s.memory, 2);
+        s.memory.last = u32::MAX;
+        s.memory.entries[1].has_previous = u32::MAX;
+        s.memory.entries[1].previous = [u64::MAX; 4];
+        s.memory.entries[0].unreferenced_by = u32::MAX;
+    }),
+    ("an entry beyond those of the memory", |_, s| {
+        fill_memory(&mut s.memory, 2);
+        s.memory.entries[2].author = 99;
+        s.memory.entries[2].digest = s.memory.entries[1].digest;
+    }),
     ("a key of a free place", |t, _| t.keys[5 * 8..].fill(99)),
     ("a link of a free place", |t, _| t.links[5 * 328..].fill(99)),
     ("a certificate of a free place", |t, _| t.certs[5] = u64::MAX),

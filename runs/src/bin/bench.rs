@@ -46,6 +46,7 @@ fn main() {
     print_growth(&times);
     print_reads(&times);
     print_commits();
+    print_outlooks();
 }
 
 // ---- what is timed
@@ -261,6 +262,82 @@ fn rust_commit(points: u32, calls: &[Call], trigger: &PointId) -> f64 {
         times.push(clock(|| assert!(matches!(rust.call(&commit), Told::Answer(Answer::Anchors(_))))));
     }
     median(times)
+}
+
+// ---- outlooks
+
+/// Anchors that a trigger yields.
+const CHAINS: [u32; 2] = [1, 9];
+/// Rows below the first anchor.
+const LEAD: u32 = 4;
+
+/// The calls until a trigger yields so many anchors: rows of 32 points, each of which includes the row below; above the first rows anchors
+/// and proofs of peer 0 in turn, then the trigger.
+fn chained(anchors: u32) -> (Vec<Call>, PointId) {
+    let first = BOTTOM + LEAD + 1;
+    let top = first + 2 * anchors;
+    let bottom = Start {
+        genesis: BOTTOM,
+        commit_history_rounds: HISTORY_ROUNDS,
+        bottom: BOTTOM,
+        peers: u32::MAX,
+        used: Some(0),
+        ..Start::default()
+    };
+    let mut calls = vec![Call::Start(bottom)];
+    for round in BOTTOM + 1..=top {
+        calls.push(Call::Round { round, peers: u32::MAX });
+        let below = (0..PEERS).filter(|_| round > BOTTOM + 1).map(|peer| at(round - 1, peer));
+        let includes: Vec<Link> = below.map(|id| Link { peer: id.author, digest: id.digest }).collect();
+        for id in (0..PEERS).map(|author| at(round, author)) {
+            let proof = round > first && (round - first) % 2 == 1;
+            let top_proof = match round {
+                _ if proof => id,
+                _ if round > first => at(round - 1, id.author),
+                _ => at(BOTTOM, 0),
+            };
+            let trigger = round == top;
+            let info =
+                PointInfo { status: 1, proof, trigger, top_proof, includes: includes.clone(), ..PointInfo::default() };
+            calls.extend([Call::Name(id), Call::Resolve(id, info)]);
+        }
+    }
+    calls.push(Call::Certify(at(top - 2, 0)));
+    (calls, at(top, 0))
+}
+
+fn print_outlooks() {
+    println!("\n| anchors | points handed out | outlook, library | commit, library | table test |");
+    println!("|---|---|---|---|---|");
+    for anchors in CHAINS {
+        let (calls, trigger) = chained(anchors);
+        let (points, [outlook, commit, test]) = our_outlook(anchors, &calls, &trigger);
+        println!("| {anchors} | {points} | {outlook:.1} | {commit:.1} | {test:.1} |");
+    }
+}
+
+/// The points handed out, and the times of the outlook, the commit of the same trigger and the table test, which take turns.
+fn our_outlook(anchors: u32, calls: &[Call], trigger: &PointId) -> (usize, [f64; 3]) {
+    let held = (LEAD + 2 * anchors + 1) * PEERS;
+    let mut before = Committer::new(PLACES_MAX);
+    calls.iter().for_each(|call| take(&mut before, call));
+    let mut work = before.clone();
+    let mut buffer = vec![0; committer::COMMIT_BYTES_MAX];
+    let mut points = 0;
+    let mut times: [Vec<f64>; 3] = Default::default();
+    for _ in 0..repetitions(held) {
+        restore(&mut work, &before, held);
+        let test = clock(|| work.gap_question().expect("started"));
+        restore(&mut work, &before, held);
+        let outlook = clock(|| assert_eq!(work.outlook(trigger, &mut buffer), Ok(anchors)));
+        restore(&mut work, &before, held);
+        let commit = clock(|| assert_eq!(work.commit(trigger, &mut buffer), Ok(anchors)));
+        points = committer::anchors(&buffer, anchors).iter().map(|anchor| anchor.points.len()).sum();
+        for (times, time) in times.iter_mut().zip([outlook, commit, test]) {
+            times.push(time);
+        }
+    }
+    (points, times.map(median))
 }
 
 /// The sum of every word of the used places.

@@ -27,6 +27,8 @@ const CALLS_LEAST: u64 = 100_000;
 /// Anchor records that both handed out, and commits refused with 13, 14, 15, 16, 18, 20 that the Rust was given.
 const ANCHORS_LEAST: u64 = 5_000;
 const COMMITS_LEAST: u64 = 100;
+/// Outlooks that tell anchors.
+const OUTLOOKS_LEAST: u64 = 5_000;
 
 /// A list, its family, and whether it runs under both hash seeds.
 struct Task {
@@ -141,6 +143,11 @@ fn enough(counts: &Counts) -> ExitCode {
     }
     if counts.anchors < ANCHORS_LEAST {
         println!("{} anchor records were compared only, not {ANCHORS_LEAST}", counts.anchors);
+        good = false;
+    }
+    let outlooks = counts.outlooks_with_anchors();
+    if outlooks < OUTLOOKS_LEAST {
+        println!("{outlooks} outlooks with anchors were compared only, not {OUTLOOKS_LEAST}");
         good = false;
     }
     println!("{}", if good { "no other difference" } else { "too little was compared" });

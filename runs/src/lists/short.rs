@@ -14,7 +14,14 @@ pub fn shorts() -> impl Iterator<Item = List> {
 }
 
 fn start(commit_history_rounds: u32) -> Call {
-    Call::Start(Start { genesis: 10, commit_history_rounds, bottom: 10, peers: 0b11, used: Some(0), ..Start::default() })
+    Call::Start(Start {
+        genesis: 10,
+        commit_history_rounds,
+        bottom: 10,
+        peers: 0b11,
+        used: Some(0),
+        ..Start::default()
+    })
 }
 
 fn round(round: u32) -> Call {

@@ -1,0 +1,126 @@
+/*
+ * A board's use of the committer from C: case K13 of document 01. Genesis 10, H 2, a start at 10; the trigger 15.0 yields the anchor 13.0
+ * with four points. What its outlook tells and its anchor record are written as the lines that `replay` writes.
+ */
+#include <inttypes.h>
+#include <stdio.h>
+#include <stdlib.h>
+
+#include "committer.h"
+
+#define PLACES 20u
+#define PEERS 3u /* the set of peers 0 and 1 */
+
+/* What the host keeps: the tables that it lends, and the state. */
+static uint64_t keys[COMMITTER_KEYS_LEN(PLACES)], links[COMMITTER_LINKS_LEN(PLACES)], certs[COMMITTER_CERTS_LEN(PLACES)],
+    order[COMMITTER_ORDER_LEN(PLACES)];
+static committer_state state; /* all zero before the first start */
+
+#define TABLES \
+    keys, COMMITTER_KEYS_LEN(PLACES), links, COMMITTER_LINKS_LEN(PLACES), certs, COMMITTER_CERTS_LEN(PLACES), order, COMMITTER_ORDER_LEN(PLACES)
+
+/* Keeps the state that a call returned, and ends the program if the call was refused. Returns the number of anchors. */
+static uint32_t keep(const char *call, const committer_reply *reply)
+{
+    if (reply->refused != COMMITTER_DONE) {
+        fprintf(stderr, "%s: refused %" PRIu32 "\n", call, reply->refused);
+        exit(1);
+    }
+    state = reply->state;
+    return reply->anchors;
+}
+
+/* A stand-in for the digest that a real point has. */
+static committer_point_id id(uint32_t round, uint32_t author, uint64_t digest)
+{
+    committer_point_id id = {round, author, {{0, 0, 0, digest}}};
+    return id;
+}
+
+/* Names a valid point and resolves it; its includes are peers 0 and 1, as many as there are, with these digests. */
+static void add(committer_point_id point, uint32_t marks, committer_point_id top_proof, size_t includes, const uint64_t *digests)
+{
+    committer_resolution resolution = {COMMITTER_VALID, marks, top_proof, 0, includes, 0};
+    uint64_t refs[2 * COMMITTER_REF_WORDS] = {0};
+    for (size_t i = 0; i < includes; i++) {
+        refs[i * COMMITTER_REF_WORDS] = i;
+        refs[i * COMMITTER_REF_WORDS + 4] = digests[i];
+    }
+    committer_reply reply = committer_name(state, TABLES, point);
+    keep("name", &reply);
+    reply = committer_resolve(state, TABLES, point, resolution, refs, includes * COMMITTER_REF_WORDS);
+    keep("resolve", &reply);
+}
+
+static uint32_t number(const uint8_t *bytes)
+{
+    return (uint32_t)bytes[0] << 24 | (uint32_t)bytes[1] << 16 | (uint32_t)bytes[2] << 8 | bytes[3];
+}
+
+/* Prints an id, with a mark between round, author and digest. */
+static void print_id(const uint8_t *bytes, char mark)
+{
+    printf("%" PRIu32 "%c%u%c", number(bytes), mark, bytes[4], mark);
+    for (int i = 5; i < 37; i++) {
+        printf("%02x", bytes[i]);
+    }
+}
+
+static void print_outlook(const uint8_t *bytes)
+{
+    printf("outlook ");
+    print_id(bytes, ' ');
+    printf(" %" PRIu32 "\n", number(bytes + COMMITTER_ID_BYTES));
+}
+
+/* Prints an anchor record and returns its length. */
+static size_t print_record(const uint8_t *bytes)
+{
+    uint32_t points = number(bytes + 79);
+    printf("anchor ");
+    print_id(bytes, ' ');
+    printf(" proof ");
+    print_id(bytes + 37, ' ');
+    printf(" exec %u prev %" PRIu32 " points %" PRIu32 ":", bytes[74], number(bytes + 75), points);
+    for (uint32_t i = 0; i < points; i++) {
+        putchar(' ');
+        print_id(bytes + COMMITTER_RECORD_BYTES(i), '.');
+    }
+    putchar('\n');
+    return COMMITTER_RECORD_BYTES(points);
+}
+
+int main(void)
+{
+    static uint8_t buffer[COMMITTER_COMMIT_MAX]; /* room for an outlook too */
+    const committer_start_args with = {10, 2, 5, 10, PEERS, 0, 0};
+    const committer_point_id used = id(10, 0, 0), anchor = id(13, 0, 130), trigger = id(15, 0, 150);
+
+    committer_reply reply = committer_start(state, TABLES, with);
+    keep("start", &reply);
+    for (uint32_t round = 11; round <= 15; round++) {
+        reply = committer_round(state, TABLES, round, PEERS);
+        keep("round", &reply);
+    }
+    add(id(11, 0, 110), 0, used, 0, NULL);
+    add(id(12, 0, 120), 0, used, 1, (const uint64_t[]){110});
+    add(id(12, 1, 121), 0, used, 1, (const uint64_t[]){110});
+    add(anchor, 0, used, 2, (const uint64_t[]){120, 121});
+    add(id(14, 0, 140), COMMITTER_PROOF, id(14, 0, 140), 1, (const uint64_t[]){130});
+    add(trigger, COMMITTER_TRIGGER, used, 1, (const uint64_t[]){140});
+    reply = committer_certify(state, TABLES, anchor);
+    keep("certify", &reply);
+
+    reply = committer_outlook(state, TABLES, trigger, buffer, sizeof buffer);
+    uint32_t told = keep("outlook", &reply);
+    for (uint32_t n = 0; n < told; n++) {
+        print_outlook(buffer + n * COMMITTER_OUTLOOK_BYTES);
+    }
+    reply = committer_commit(state, TABLES, trigger, buffer, sizeof buffer);
+    uint32_t handed = keep("commit", &reply);
+    const uint8_t *record = buffer;
+    for (uint32_t n = 0; n < handed; n++) {
+        record += print_record(record);
+    }
+    return 0;
+}
