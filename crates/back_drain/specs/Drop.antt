@@ -1,6 +1,6 @@
 -- A drop: the store after it, and its answer.
-use Prim.Native.Nat.{ℕ, _-_, _≤_, max, min}
-use mathlib.Core.Path.{_≡_, refl, fun-ext}
+use Prim.Native.Nat.{ℕ, _-_, min}
+use mathlib.Core.Path.{_≡_, refl}
 use mathlib.Core.List.{List, []}
 use mathlib.Core.Bool.{true}
 use native.Mathlib.Omega.{arith}
@@ -12,46 +12,25 @@ use Rattle.spec.specs.Calls.{flag, newBottom, doDrop}
 use Rattle.models.specs.Digest.{Fit}
 use Rattle.dag_round_keys.specs.Zero.{emptied}
 use Rattle.dag_round_order.specs.Shift.{drained}
-use Rattle.commit_state.specs.Memory.{memoryHolds}
 use Rattle.commit_state.specs.View.{gapOf, confOf, progressOf}
 use Rattle.commit_state.specs.Back.{droppedState}
-use Rattle.commit_state.specs.Reads.{dropped-rounds}
 use Rattle.commit_state.specs.declared.state.State.{State}
 use Rattle.tables_test.specs.View.{view}
 use Rattle.tables_test.specs.Refines.{counted}
-use Rattle.back_drain.specs.Model.{below}
-use Rattle.back_drain.specs.Refines.{drained-phase, drained-places, drained-pt, drained-heights}
-
--- the new bottom of a drop up to round r
-abbrev pub dropBottom : State → ℕ → ℕ
-dropBottom s r = max (s .bottom .0) (min r (s .top .0))
+use Rattle.back_drain.specs.Model.{below, drainBottom}
+use Rattle.back_drain.specs.Refines.{drained-view}
 
 -- the store that is read after it, with the first k places of the order gone
 abbrev pub dropView : State → List ℕ → List ℕ → List ℕ → List ℕ → ℕ → ℕ → Store
-dropView s ks ls cs os r k = view (droppedState s (min r (s .top .0)) (dropBottom s r) (s .count - k)) (emptied ks 8 os k) (emptied ls 328 os k) (emptied cs 1 os k) (drained os (s .count) k)
+dropView s ks ls cs os r k = view (droppedState s (min r (s .top .0)) (drainBottom s r) (s .count - k)) (emptied ks 8 os k) (emptied ls 328 os k) (emptied cs 1 os k) (drained os (s .count) k)
 
 module _ (s : State) (ks ls cs os : List ℕ) (r : ℕ) where
   -- it is the store that 01 leaves
-  pub drop-view : Fit ks → Fit ls → countsAsStarted (view s ks ls cs os) ≡ true → dropView s ks ls cs os r (below ks os (s .count) (dropBottom s r)) ≡ doDrop (view s ks ls cs os) r .store
+  pub drop-view : Fit ks → Fit ls → countsAsStarted (view s ks ls cs os) ≡ true → dropView s ks ls cs os r (below ks os (s .count) (drainBottom s r)) ≡ doDrop (view s ks ls cs os) r .store
   unfolding view droppedState calls.drained newBottom doDrop withNumbers confOf progressOf gapOf
   drop-view fk fl h =
-      let b : ℕ = dropBottom s r in
-      let k : ℕ = below ks os (s .count) b in
-      let low : s .bottom .0 ≤ b = omega arith in
-      let t : State = droppedState s (min r (s .top .0)) b (s .count - k) in
-      let holds : memoryHolds (s .memory) ≡ true = counted s ks ls cs os fk fl h .memory-ok in
-      λ i. record {
-        phase = drained-phase s ks ls cs os fk fl h b low t refl refl holds refl i;
-        places = drained-places s ks ls cs os fk fl h b low t refl refl holds i;
-        pt = drained-pt s ks ls cs os fk fl h b low t refl refl holds i;
-        heights = drained-heights s ks ls cs os fk fl h b low t refl refl holds i;
-        bottom = b;
-        top = s .top .0;
-        rounds = fun-ext (λ x. dropped-rounds s (min r (s .top .0)) b (s .count - k) x low) i;
-        conf = confOf s;
-        progress = progressOf t;
-        memory = view s ks ls cs os .memory;
-      }
+      let b : ℕ = drainBottom s r in
+      drained-view s ks ls cs os fk fl h b (omega arith) (droppedState s (min r (s .top .0)) b (s .count - below ks os (s .count) b)) refl refl (counted s ks ls cs os fk fl h .memory-ok) refl refl refl refl
 
   -- yes, if the whole range is dropped
   pub drop-answer : doDrop (view s ks ls cs os) r .answer ≡ flag (eqb (min r (s .top .0)) r)

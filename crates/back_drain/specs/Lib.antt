@@ -1,3 +1,4 @@
 pub mod Model
 pub mod Refines
 pub mod Drop
+pub mod Remove

@@ -1,5 +1,5 @@
 -- The places of rounds below a new bottom, and the order without them.
-use Prim.Native.Nat.{ℕ, _+_, _-_, _<_, _≤_}
+use Prim.Native.Nat.{ℕ, _+_, _-_, _<_, _≤_, max, min}
 use mathlib.Core.Path.{_≡_, sym, ap, subst, _∙_}
 use mathlib.Core.List.{List, _∷_, []}
 use mathlib.Core.Bool.{_&&_}
@@ -17,7 +17,12 @@ use Rattle.dag_round_keys.specs.Key.{key}
 use Rattle.dag_round_keys.specs.Sorted.{Sorted, placeOf, round-place, rounds-rise}
 use Rattle.dag_round_keys.specs.Zero.{emptied, emptied-off}
 use Rattle.dag_round_order.specs.Shift.{drained, drained-at}
+use Rattle.commit_state.specs.declared.state.State.{State}
 use Rattle.tables_test.specs.Same.{Same}
+
+-- the new bottom of a drain up to round r: not below the old one, and a round is left
+abbrev pub drainBottom : State → ℕ → ℕ
+drainBottom s r = max (s .bottom .0) (min r (s .top .0))
 
 -- how many of the first n places are of rounds below b: the first that isn't, or n
 unfoldable pub below : List ℕ → List ℕ → ℕ → ℕ → ℕ

@@ -9,7 +9,7 @@ use lib.ListN.{length, getD}
 use borrow.Author.Tests.{le-leb, lt-leb, le-ltb, lt-ltb, eq-eqb}
 use Rattle.laws.specs.Test.{both, leOr}
 use Rattle.spec.specs.Store as store
-use Rattle.spec.specs.Store.{Point, Store, free}
+use Rattle.spec.specs.Store.{Point, Store, free, withNumbers}
 use Rattle.spec.specs.Rules.{countsAsStarted}
 use Rattle.spec.specs.Calls as calls
 use Rattle.models.specs.Digest.{Fit}
@@ -22,7 +22,8 @@ use Rattle.dag_round_order.specs.Shift.{drained, drained-sorted, drained-inside
 use Rattle.tables_heights.specs.View.{Live}
 use Rattle.tables_links.specs.Named.{Links}
 use Rattle.commit_state.specs.Memory.{memoryHolds}
-use Rattle.commit_state.specs.View.{pointAt}
+use Rattle.commit_state.specs.View.{pointAt, window, confOf, progressOf, memoryOf}
+use Rattle.commit_state.specs.Reads.{window-cut}
 use Rattle.commit_state.specs.declared.state.State.{State}
 use Rattle.tables_test.specs.Model.{shape, shape-says, places-says}
 use Rattle.tables_test.specs.View.{seenAt, seen-used, view, regular, wordsFit}
@@ -140,11 +141,11 @@ module _ (s : State) (ks ls cs os : List ℕ) (fk : Fit ks) (fl : Fit ls) (h : c
         })
 
     -- the phase stays
-    pub drained-phase : t .phase ≡ s .phase → view t ks2 ls2 cs2 os2 .phase ≡ v .phase
+    drained-phase : t .phase ≡ s .phase → view t ks2 ls2 cs2 os2 .phase ≡ v .phase
     drained-phase = phase-same s t ks ls cs os ks2 ls2 cs2 os2 (had .shaped) (had .regulated) shaped2 drained-regular
 
     -- the number of places stays
-    pub drained-places : view t ks2 ls2 cs2 os2 .places ≡ v .places
+    drained-places : view t ks2 ls2 cs2 os2 .places ≡ v .places
     drained-places = places-same s t ks ls cs os ks2 ls2 cs2 os2 (had .shaped) (had .regulated) shaped2 size
 
     -- what is read of the place q: as it was, or f below b
@@ -157,11 +158,27 @@ module _ (s : State) (ks ls cs os : List ℕ) (fk : Fit ks) (fl : Fit ls) (h : c
         ∙ chosen (isUsed os n q) b (roundAt ks q) (store.roundAt v q) y x f (λ u. ap (λ (p : Point). p .id .round) (seen-used ks ls cs os n q (used-is os n q .0 u))) (λ u. d (used-is os2 (n - k) q .0 (z ∙ u))))
 
     -- the points are those that 01 leaves
-    pub drained-pt : view t ks2 ls2 cs2 os2 .pt ≡ calls.drained v b .pt
+    drained-pt : view t ks2 ls2 cs2 os2 .pt ≡ calls.drained v b .pt
     unfolding view seenAt calls.drained
     drained-pt = fun-ext (λ q. reads q (pointAt ks2 ls2 cs2 q) (pointAt ks ls cs q) free (λ u. same-point ks ls cs ks2 ls2 cs2 q (kept ks 8 q u) (kept ls 328 q u) (kept cs 1 q u)))
 
     -- and so are their heights
-    pub drained-heights : view t ks2 ls2 cs2 os2 .heights ≡ calls.drained v b .heights
+    drained-heights : view t ks2 ls2 cs2 os2 .heights ≡ calls.drained v b .heights
     unfolding view calls.drained
     drained-heights = fun-ext (λ q. reads q (heightOf (getD cs2 q 0)) (heightOf (getD cs q 0)) 0 (λ u. ap heightOf (same-cert ks ls cs ks2 ls2 cs2 q (kept ks 8 q u) (kept ls 328 q u) (kept cs 1 q u))))
+
+    -- so the store is the one that 01 leaves, with the progress and the memory of t
+    pub drained-view : t .phase ≡ s .phase → t .top ≡ s .top → t .rounds ≡ s .rounds → confOf t ≡ confOf s → view t ks2 ls2 cs2 os2 ≡ withNumbers (calls.drained v b) (progressOf t) (memoryOf (t .memory))
+    unfolding view calls.drained withNumbers
+    drained-view ph tp rd cf = λ i. record {
+      phase = drained-phase ph i;
+      places = drained-places i;
+      pt = drained-pt i;
+      heights = drained-heights i;
+      bottom = eb i;
+      top = tp i .0;
+      rounds = fun-ext (λ r. (λ j. window (rd j) (eb j) (tp j .0) r) ∙ window-cut (s .rounds) (s .bottom .0) b (s .top .0) r low) i;
+      conf = cf i;
+      progress = progressOf t;
+      memory = memoryOf (t .memory);
+    }

@@ -88,10 +88,14 @@ did c m d h k x e = record {
 unfoldable pub refusal : State → Refusal → Outcome
 refusal s r = record { answer = Refused r 0; state = s }
 
--- unless the test refuses it, a call without a buffer leaves x
-unfoldable pub unlessRefused : Check → Tables → Left → Left
-unlessRefused Passed d x = x
-unlessRefused (Failed r) d x = record { answer = Refused r 0; tables = d; buffer = [] }
+-- unless the test refuses it, a call that is lent the buffer b leaves x
+unfoldable pub unlessRefusedWith : Check → Tables → List ℕ → Left → Left
+unlessRefusedWith Passed d b x = x
+unlessRefusedWith (Failed r) d b x = record { answer = Refused r 0; tables = d; buffer = b }
+
+-- a call without a buffer
+abbrev pub unlessRefused : Check → Tables → Left → Left
+unlessRefused t d x = unlessRefusedWith t d [] x
 
 abbrev pub doneWith : Tables → Left
 doneWith d = record { answer = Done; tables = d; buffer = [] }
@@ -102,13 +106,16 @@ tested counted t = cond counted t (failed 2)
 
 -- one law for each way out of the code
 module _ (t : Check) (d : Tables) (y : Left) where
-  pub left-refused : (r : Refusal) → t ≡ Failed r → (o : Outcome) → o ≡ refusal (d .state) r → left o (d .keys) (d .links) (d .certs) (d .order) [] ≡ unlessRefused t d y
-  unfolding refusal unlessRefused
-  left-refused r e o f = ap (λ (z : Outcome). left z (d .keys) (d .links) (d .certs) (d .order) []) f ∙ rw e refl
+  pub left-refused : {b : List ℕ} (r : Refusal) → t ≡ Failed r → (o : Outcome) → o ≡ refusal (d .state) r → left o (d .keys) (d .links) (d .certs) (d .order) b ≡ unlessRefusedWith t d b y
+  unfolding refusal unlessRefusedWith
+  left-refused {b} r e o f = ap (λ (z : Outcome). left z (d .keys) (d .links) (d .certs) (d .order) b) f ∙ rw e refl
+
+  pub left-passed : (b : List ℕ) → t ≡ Passed → (x : Left) → x ≡ y → x ≡ unlessRefusedWith t d b y
+  unfolding unlessRefusedWith
+  left-passed b e x f = f ∙ rw e refl
 
   pub left-done : t ≡ Passed → (x : Left) → x ≡ y → x ≡ unlessRefused t d y
-  unfolding unlessRefused
-  left-done e x f = f ∙ rw e refl
+  left-done = left-passed []
 
 -- the test, by whether the tables count as started
 module _ (counted : Bool) (t : Check) (r : Bool) (e : r ≡ counted) where
@@ -147,33 +154,41 @@ call-tested v c o t u st le ac h = call-by v c st ∙ by (countsAsStarted v) (λ
     by true e = ac ∙ ap (finish v) (h (e refl))
     by false e = ap (λ l. record { answer = calls.refused (number 2) 0; store = v; buffer = l }) le
 
--- a call without a buffer that a test may refuse
-module _ (c : calls.Call) (m : Tables → Left) (d : Tables) (t : Check) (y : Left) (is : m d ≡ unlessRefused t d y) (le : bufferOf c ≡ []) (ok : nothingDone (y .answer) ≡ false) where
-  idle-kept : (u : Check) → nothingDone (unlessRefused u d y .answer) ≡ true → (unlessRefused u d y .tables ≡ d) × (unlessRefused u d y .buffer ≡ bufferOf c)
-  unfolding unlessRefused
+-- a call that a test may refuse
+module _ (c : calls.Call) (m : Tables → Left) (d : Tables) (t : Check) (y : Left) (is : m d ≡ unlessRefusedWith t d (bufferOf c) y) (ok : nothingDone (y .answer) ≡ false) where
+  idle-kept : (u : Check) → nothingDone (unlessRefusedWith u d (bufferOf c) y .answer) ≡ true → (unlessRefusedWith u d (bufferOf c) y .tables ≡ d) × (unlessRefusedWith u d (bufferOf c) y .buffer ≡ bufferOf c)
+  unfolding unlessRefusedWith
   idle-kept Passed h = absurd (clash h ok)
-  idle-kept (Failed r) h = (refl, sym le)
+  idle-kept (Failed r) h = (refl, refl)
 
-  did-unless : outcomeOf (unlessRefused t d y) ≡ call (viewOf d) c → (x : Left) → x ≡ m d → Did c m d x
+  did-unless : outcomeOf (unlessRefusedWith t d (bufferOf c) y) ≡ call (viewOf d) c → (x : Left) → x ≡ m d → Did c m d x
   did-unless h x e = did c m d (ap outcomeOf is ∙ h) (subst (λ (z : Left). nothingDone (z .answer) ≡ true → (z .tables ≡ d) × (z .buffer ≡ bufferOf c)) (sym is) (idle-kept t)) x e
 
--- one that is done, and leaves the tables e: 01's store u
+-- one without a buffer that is done, and leaves the tables e: 01's store u
 module _ (c : calls.Call) (m : Tables → Left) (d e : Tables) (t : Check) (is : m d ≡ unlessRefused t d (doneWith e)) (le : bufferOf c ≡ []) (u : Store) (h : call (viewOf d) c ≡ finish (viewOf d) (unlessFailed t (good u))) (s : t ≡ Passed → viewOf e ≡ u) where
   done-is : (w : Check) → (w ≡ Passed → viewOf e ≡ u) → outcomeOf (unlessRefused w d (doneWith e)) ≡ finish (viewOf d) (unlessFailed w (good u))
-  unfolding outcomeOf answerOf unlessRefused finish unlessFailed
+  unfolding outcomeOf answerOf unlessRefusedWith finish unlessFailed
   done-is Passed k = ap (λ v. calls.withoutBuffer v done) (k refl)
   done-is (Failed r) k = refl
 
   pub did-done : (x : Left) → x ≡ m d → Did c m d x
   unfolding nothingDone
-  did-done = did-unless c m d t (doneWith e) is le refl (done-is t s ∙ sym h)
+  did-done =
+      did-unless c m d t (doneWith e) (is ∙ ap (λ (l : List ℕ). unlessRefusedWith t d l (doneWith e)) (sym le)) refl
+      (ap (λ (l : List ℕ). outcomeOf (unlessRefusedWith t d l (doneWith e))) le ∙ (done-is t s ∙ sym h))
+
+-- one but start, by what it does where the tables count as started
+module _ (c : calls.Call) (m : Tables → Left) (d : Tables) (t : Check) (y : Left) (is : m d ≡ unlessRefusedWith (tested (countsAsStarted (viewOf d)) t) d (bufferOf c) y) (ok : nothingDone (y .answer) ≡ false) (st : isStart c ≡ false) where
+  pub did-tested : (countsAsStarted (viewOf d) ≡ true → outcomeOf (unlessRefusedWith t d (bufferOf c) y) ≡ perform (viewOf d) c) → (x : Left) → x ≡ m d → Did c m d x
+  unfolding outcomeOf answerOf refusalOf unlessRefusedWith tested byTables
+  did-tested h = did-unless c m d (tested (countsAsStarted (viewOf d)) t) y is ok (by (countsAsStarted (viewOf d)) (λ e. e) ∙ sym (call-by (viewOf d) c st))
+    where
+      by : (b : Bool) → (b ≡ true → countsAsStarted (viewOf d) ≡ true) → outcomeOf (unlessRefusedWith (tested b t) d (bufferOf c) y) ≡ byTables b (viewOf d) c
+      by true e = h (e refl)
+      by false e = refl
 
 -- one that only tables that don't count as started refuse
-module _ (c : calls.Call) (m : Tables → Left) (d : Tables) (y : Left) (is : m d ≡ unlessRefused (tested (countsAsStarted (viewOf d)) Passed) d y) (le : bufferOf c ≡ []) (ok : nothingDone (y .answer) ≡ false) (st : isStart c ≡ false) where
-  pub did-started : (countsAsStarted (viewOf d) ≡ true → outcomeOf y ≡ perform (viewOf d) c) → (x : Left) → x ≡ m d → Did c m d x
-  unfolding outcomeOf answerOf refusalOf unlessRefused tested byTables
-  did-started h = did-unless c m d (tested (countsAsStarted (viewOf d)) Passed) y is le ok (by (countsAsStarted (viewOf d)) (λ e. e) ∙ sym (call-by (viewOf d) c st))
-    where
-      by : (b : Bool) → (b ≡ true → countsAsStarted (viewOf d) ≡ true) → outcomeOf (unlessRefused (tested b Passed) d y) ≡ byTables b (viewOf d) c
-      by true e = h (e refl)
-      by false e = ap (λ l. record { answer = calls.refused (number 2) 0; store = viewOf d; buffer = l }) (sym le)
+pub did-started : (c : calls.Call) (m : Tables → Left) (d : Tables) (y : Left) → m d ≡ unlessRefusedWith (tested (countsAsStarted (viewOf d)) Passed) d (bufferOf c) y → nothingDone (y .answer) ≡ false → isStart c ≡ false
+    → (countsAsStarted (viewOf d) ≡ true → outcomeOf y ≡ perform (viewOf d) c) → (x : Left) → x ≡ m d → Did c m d x
+unfolding unlessRefusedWith
+did-started c m d y is ok st = did-tested c m d Passed y is ok st

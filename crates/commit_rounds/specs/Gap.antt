@@ -61,7 +61,7 @@ module _ (s : State) (ks ls cs os : List ℕ) where
 pub gap-did : (d : Tables) (x : Left) → x ≡ gapLeft d → Did gapQuestion gapLeft d x
 unfolding isStart bufferOf perform nothingDone
 gap-did d =
-    did-started gapQuestion gapLeft d (putLeft (eqb (d .state .«emit_first_after_gap») 1) d) refl refl refl refl (λ h. put-is (d .state) (d .keys) (d .links) (d .certs) (d .order) (eqb (d .state .«emit_first_after_gap») 1) ∙ sym (resolution-is (d .state) (d .keys) (d .links) (d .certs) (d .order)))
+    did-started gapQuestion gapLeft d (putLeft (eqb (d .state .«emit_first_after_gap») 1) d) refl refl refl (λ h. put-is (d .state) (d .keys) (d .links) (d .certs) (d .order) (eqb (d .state .«emit_first_after_gap») 1) ∙ sym (resolution-is (d .state) (d .keys) (d .links) (d .certs) (d .order)))
 
 -- one law for each way out of the code
 module _ (d : Tables) where

@@ -1,3 +1,4 @@
 pub mod Gap
 pub mod Round
+pub mod Drain
 pub mod Drop

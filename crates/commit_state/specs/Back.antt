@@ -200,3 +200,21 @@ droppedState s actual b n = let full = actual + s .«commit_history_rounds» in 
   rounds = s .rounds;
   memory = s .memory;
 }
+
+unfoldable pub removedState : State → ℕ → ℕ → Memory → State
+removedState s b n m = record {
+  phase = s .phase;
+  count = n;
+  genesis = s .genesis;
+  «commit_history_rounds» = s .«commit_history_rounds»;
+  «deduplicate_rounds» = s .«deduplicate_rounds»;
+  bottom = record { 0 = b };
+  top = s .top;
+  «last_committed_proof» = s .«last_committed_proof»;
+  «last_anchor» = s .«last_anchor»;
+  «full_history_bottom» = s .«full_history_bottom»;
+  «first_executable» = s .«first_executable»;
+  «emit_first_after_gap» = s .«emit_first_after_gap»;
+  rounds = s .rounds;
+  memory = m;
+}

@@ -21,7 +21,7 @@ use Rattle.commit_state.specs.declared.state.State.{State}
 use Rattle.commit_state.specs.declared.back.StartArgs.{StartArgs}
 use Rattle.commit_state.specs.State.{noRecord}
 use Rattle.commit_state.specs.View.{optionOf, gapOf, roundOf, recordOf, window, roundsOf, progressOf}
-use Rattle.commit_state.specs.Back.{usedOf, used-reads, fullBottom, firstOf, armedOf, begunState, clearedState, extendedState, droppedState}
+use Rattle.commit_state.specs.Back.{usedOf, used-reads, fullBottom, firstOf, armedOf, begunState, clearedState, extendedState}
 
 module _ (xs : List RoundRecord) (b t r : ℕ) where
   pub window-in : b ≤ r → r ≤ t → window xs b t r ≡ roundOf (recordOf xs r)
@@ -103,13 +103,9 @@ unfolding clearedState roundOf recordOf optionOf
 cleared-rounds s zero = window-in (replicate 512 noRecord) 0 0 0 (omega arith) (omega arith) ∙ ap roundOf (getD-replicate {A = RoundRecord} 512 0 noRecord noRecord (omega arith))
 cleared-rounds s (suc r) = window-above (replicate 512 noRecord) 0 0 (suc r) (omega arith)
 
--- ---- rounds, drop
+-- ---- rounds
 
 pub extended-rounds : (s : State) (peers r : ℕ) → length (s .rounds) ≡ 512 → s .bottom .0 ≤ s .top .0 → suc (s .top .0) < s .bottom .0 + 512
     → roundsOf (extendedState s peers) r ≡ cond (eqb r (suc (s .top .0))) (record { peers = peers; used = none }) (roundsOf s r)
 unfolding extendedState roundOf optionOf
 extended-rounds s peers r l k m = rw (add-one (s .top .0)) (window-more (s .rounds) (record { peers = peers; «used_anchor_proof» = 0 }) (suc (s .top .0)) l (s .bottom .0) (s .top .0) r refl k m)
-
-pub dropped-rounds : (s : State) (actual b n r : ℕ) → s .bottom .0 ≤ b → roundsOf (droppedState s actual b n) r ≡ cond (ltb r b) noRound (roundsOf s r)
-unfolding droppedState
-dropped-rounds s actual b n r l = window-cut (s .rounds) (s .bottom .0) b (s .top .0) r l

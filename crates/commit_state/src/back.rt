@@ -1,8 +1,8 @@
-// Origin: dag/commit/back.rs (init, extend_from_front, drain_upto), dag/commit/mod.rs (init, reset, is_once_after_gap, drop_upto).
+// Origin: dag/commit/back.rs (init, extend_from_front, drain_upto), dag/commit/mod.rs (init, reset, is_once_after_gap, drop_upto, remove_committed).
 // What the calls do to the state.
 ghost use mathlib.Core.Path.{_≡_};
 ghost use Prim.Native.Nat.{_+_, _<_, _≤_};
-ghost use Rattle.commit_state.specs.Back.{Starts, begunState, clearedState, extendedState, askedState, droppedState, fullBottom, firstOf, armedOf, usedOf, usedWord};
+ghost use Rattle.commit_state.specs.Back.{Starts, begunState, clearedState, extendedState, askedState, droppedState, removedState, fullBottom, firstOf, armedOf, usedOf, usedWord};
 ghost use Rattle.spec.specs.Rules.{usedOk};
 ghost use mathlib.Core.Bool.{true};
 use crate::state::Memory;
@@ -185,5 +185,17 @@ pub fn drop_state(s: State, actual: Round, bottom: Round, count: usize) -> State
     next.full_history_bottom = complete;
     next.first_executable = first;
     next.emit_first_after_gap = 1;
+    next
+}
+
+// The rounds below bottom are gone, count places are used, and the inspector has the memory given. All else stays: only a reset forgets
+// the last proof and the last anchor.
+pub fn removed_state(s: State, bottom: Round, count: usize, memory: Memory) -> State
+    ensures { λ r. ⌜ r ≡ removedState s (bottom .0) count memory ⌝ }
+{
+    let mut next = s;
+    next.bottom = bottom;
+    next.count = count;
+    next.memory = memory;
     next
 }

@@ -1,20 +1,19 @@
 -- How many points of one author pass a test, of those of one round (01: stats.rs).
 use Prim.Native.Nat.{ℕ, zero, suc, _+_, _*_, _-_, _<_, _≤_}
 use mathlib.Core.Path.{_≡_, refl, sym, ap, subst, _∙_}
-use mathlib.Core.List.{List, [], _∷_, _++_, List·Memᴰ, List·Memᴰ·head}
-use mathlib.Core.Bool.{Bool, true, false}
+use mathlib.Core.List.{List, [], _∷_, _++_}
+use mathlib.Core.Bool.{Bool, false}
 use native.Mathlib.Omega.{arith}
 use lib.Dec.{ltb}
 use lib.ListN.{length}
-use borrow.Author.Tests.{eqb-true, eq-eqb, ne-eqb, lt-ltb}
-use Rattle.laws.specs.Test.{byTest, sameOr, leOr, both, and-l, and-no, and-yes}
-use Rattle.laws.specs.Scan.{those, those-yes, those-no, those-fewer, those-elim, those-same}
+use borrow.Author.Tests.{eq-eqb, ne-eqb, lt-ltb}
+use Rattle.laws.specs.Test.{byTest, leOr, and-no, and-yes}
+use Rattle.laws.specs.Scan.{those, those-same}
 use Rattle.laws.specs.Lists.{has, keep, count, upTo}
 use Rattle.spec.specs.Store.{Store}
 use Rattle.spec.specs.Inspect.{of, placesIn}
 use Rattle.models.specs.Digest.{Fit}
 use Rattle.models.specs.Tables.{authorAt, placeAt, Inside}
-use Rattle.tables_ids.specs.Refines.{sameAuthor}
 use Rattle.dag_round_keys.specs.Sorted.{Sorted}
 use Rattle.commit_state.specs.declared.state.State.{State}
 use Rattle.tables_test.specs.Model.{shape-says, places-says}
@@ -23,7 +22,7 @@ use Rattle.tables_test.specs.Refines.{Started}
 use Rattle.back_drain.specs.Model.{below, below-le, below-low, below-high}
 use Rattle.back_history.specs.Model.{Range}
 use Rattle.back_history.specs.Refines.{one, picked}
-use Rattle.inspector_counters.specs.Places.{between, lowOf, highOf, high-le, round-used, round-at, places-in}
+use Rattle.inspector_counters.specs.Places.{between, lowOf, highOf, high-le, round-used, places-in}
 use Rattle.inspector_counters.specs.Tests.{versionAt, inspected, chosen, passes, testOf, passes-is}
 use Rattle.inspector_counters.specs.declared.round.Span.{Span}
 use Rattle.inspector_counters.specs.declared.tests.PointTest.{PointTest}
@@ -57,20 +56,6 @@ count-between f os low (suc k) =
     count-append f (between os low k) (placeAt os (low + k) ∷ [])
     ∙ byTest (f (placeAt os (low + k))) (λ y. rw y (omega (arith, h))) (λ y. rw y (omega (arith, h)))
 
--- of the k numbers from low on no more pass than of all below n
-those-part : (f : ℕ → Bool) (low k n : ℕ) → low + k ≤ n → length (those k (λ j. f (low + j))) ≤ length (those n f)
-unfolding those
-those-part f low zero n l = omega arith
-those-part f low (suc k) zero l = absurd (omega arith)
-those-part f low (suc k) (suc n) l =
-    sameOr (low + k) n
-    (λ e. let h = those-part f low k n (omega arith) in
-    byTest (f n)
-    (λ y. omega (arith, h, those-yes k (λ j. f (low + j)) (ap f e ∙ y), those-yes n f y))
-    (λ y. omega (arith, h, those-no k (λ j. f (low + j)) (ap f e ∙ y), those-no n f y)))
-    (λ d. let h = those-part f low (suc k) n (omega arith) in
-    byTest (f n) (λ y. omega (arith, h, those-yes n f y)) (λ y. omega (arith, h, those-no n f y)))
-
 -- those of one list after another
 keep-append : {A : Type 0} (f : A → Bool) (xs ys : List A) → keep f (xs ++ ys) ≡ keep f xs ++ keep f ys
 unfolding keep
@@ -84,7 +69,7 @@ keep-between f os low zero = refl
 keep-between f os low (suc k) = keep-append f (between os low k) (placeAt os (low + k) ∷ []) ∙ ap (λ z. z ++ one (f (placeAt os (low + k))) (placeAt os (low + k))) (keep-between f os low k)
 
 -- the test matters only at those positions
-picked-same : (os : List ℕ) (f g : ℕ → Bool) (low k : ℕ) → ((j : ℕ) → j < k → f (placeAt os (low + j)) ≡ g (placeAt os (low + j))) → picked os f low k ≡ picked os g low k
+pub picked-same : (os : List ℕ) (f g : ℕ → Bool) (low k : ℕ) → ((j : ℕ) → j < k → f (placeAt os (low + j)) ≡ g (placeAt os (low + j))) → picked os f low k ≡ picked os g low k
 unfolding picked one upTo
 picked-same os f g low zero h = refl
 picked-same os f g low (suc k) h = rw (h k (omega arith)) (ap (λ z. z ++ one (g (placeAt os (low + k))) (placeAt os (low + k))) (picked-same os f g low k (λ j l. h j (omega arith))))
@@ -136,26 +121,6 @@ module _ (s : State) (ks ls cs os : List ℕ) (fk : Fit ks) (fl : Fit ls) (t : S
   pub has-is : (a : ℕ) (w : PointTest) → ltb 0 (countOf ks cs os low high a w) ≡ has (of (testOf w v) v a) (placesIn v r)
   has-is a w = ap (ltb 0) (count-is a w) ∙ sym (has-count (of (testOf w v) v a) (placesIn v r))
 
-  -- at most 4: no author has a fifth point in a round (01: 'Refusals' 8)
-  pub count-few : (a : ℕ) (w : PointTest) → countOf ks cs os low high a w ≤ 4
-  unfolding countOf passesAt passes
-  count-few a w = go (those (high - low) (passesAt ks cs os a w low)) refl
-    where
-      by : (j : ℕ) → passesAt ks cs os a w low j ≡ true → authorAt ks (placeAt os (low + j)) ≡ a
-      by j h = eqb-true _ _ (and-l _ _ h)
-
-      go : (l : List ℕ) → those (high - low) (passesAt ks cs os a w low) ≡ l → length l ≤ 4
-      go [] e = omega arith
-      go (j ∷ js) e =
-          let (m, h) = those-elim (high - low) (passesAt ks cs os a w low) j (subst (List·Memᴰ j) (sym e) (List·Memᴰ·head refl)) in
-          let q : ℕ = placeAt os (low + j) in
-          let k : high ≤ s .count = high-le s ks ls cs os fk fl t r in
-          let at = round-at s ks ls cs os fk fl t r in
-          let mates = those-fewer (high - low) (λ i. sameAuthor ks os q (low + i)) (passesAt ks cs os a w low)
-          (λ i b y. both (eq-eqb _ _ (at (low + i) (omega arith) (omega arith) ∙ sym (at (low + j) (omega arith) (omega arith)))) (eq-eqb _ _ (by i y ∙ sym (by j h)))) in
-          let all = those-part (sameAuthor ks os q) low (high - low) (s .count) (omega (arith, k, low-high)) in
-          subst (λ x. length x ≤ 4) e (omega (arith, mates, all, t .facts .few q (low + j, omega (arith, m, k), refl)))
-
   -- what the search of its positions asks for
   pub span-ready : r ≤ 4_000_000_000 → ((length ks ≡ length os * 8) × (s .count ≤ length os) × Inside os (s .count) (length os)) × (Sorted ks os (s .count) × (r ≤ 4_000_000_000))
   span-ready l = let (a, b, c) = shape-says ks ls cs os (t .shaped) in ((a, t .count-ok, t .facts .inside), (t .facts .sorted, l))
@@ -174,9 +139,9 @@ module _ (s : State) (ks ls cs os : List ℕ) (fk : Fit ks) (fl : Fit ls) (t : S
 -- ---- the steps of the code
 
 -- the two ends
-pub span-is : (ks os : List ℕ) (n r low high : ℕ) → low ≡ below ks os n r → high ≡ below ks os n (r + 1) → record { low = low; high = high } ≡ spanOf ks os n r
+pub span-is : (ks os : List ℕ) (n r next low high : ℕ) → next ≡ r + 1 → low ≡ below ks os n r → high ≡ below ks os n next → record { low = low; high = high } ≡ spanOf ks os n r
 unfolding spanOf
-span-is ks os n r low high e d = λ i. record { low = e i; high = d i }
+span-is ks os n r next low high h e d = λ i. record { low = e i; high = (d ∙ ap (below ks os n) h) i }
 
 module _ (ks cs : List ℕ) (a : ℕ) (w : PointTest) (q : ℕ) where
   -- another author

@@ -1,43 +1,35 @@
 -- The counters of a peer at a round (01: stats.rs, `MempoolPeerCounters`).
-use Prim.Native.Nat.{ℕ, zero, suc, _-_, _≤_}
-use mathlib.Core.Path.{_≡_, refl, ap, _∙_}
+use Prim.Native.Nat.{ℕ, zero, suc, _-_, _<_, _≤_}
+use mathlib.Core.Path.{_≡_, refl, sym, ap, subst, _∙_}
 use mathlib.Core.List.{List}
 use mathlib.Core.Bool.{Bool, false, cond}
 use native.Mathlib.Omega.{arith}
 use lib.Dec.{eqb, ltb}
+use lib.ListN.{length, getD}
 use borrow.Author.Tests.{ne-eqb, le-leb}
-use Rattle.laws.specs.Test.{both, byTest}
+use Rattle.laws.specs.Test.{both}
 use Rattle.spec.specs.Store as store
 use Rattle.spec.specs.Store.{Store}
 use Rattle.spec.specs.Inspect.{one, holds, counted}
+use Rattle.spec.specs.Inspection.{AtMost, counted-most}
 use Rattle.models.specs.Digest.{Fit}
-use Rattle.stats.specs.Counters.{countersOf, Below}
+use Rattle.stats.specs.Counters.{countersOf, nine, Below, withSkipped, sum16-first}
 use Rattle.stats.specs.declared.MempoolPeerCounters.{MempoolPeerCounters}
 use Rattle.commit_state.specs.View.{optionOf, window, roundOf, recordOf}
 use Rattle.commit_state.specs.declared.state.State.{State}
 use Rattle.tables_test.specs.View.{view}
 use Rattle.tables_test.specs.Refines.{Started}
+use Rattle.back_history.specs.Refines.{well}
 use Rattle.inspector_counters.specs.Places.{lowOf, highOf}
 use Rattle.inspector_counters.specs.Tests.{testOf}
-use Rattle.inspector_counters.specs.Count.{countOf, count-is, count-few, has-is}
-use Rattle.inspector_counters.specs.Counts.{countsTo}
-use Rattle.inspector_counters.specs.declared.tests.PointTest.{PointTest}
+use Rattle.inspector_counters.specs.Count.{countOf, count-is, has-is}
+use Rattle.inspector_counters.specs.Counts.{countsTo, noCounts, Counted}
 use Rattle.inspector_counters.specs.declared.tests.PointTest.the-variants.{Found, Valid, Proved, TransInvalid, Invalid, IllFormed}
 use Rattle.inspector_counters.specs.declared.counts.PointCounts.{PointCounts}
 
 -- from the counts of a peer's points, whether it was the leader, and the references skipped
 unfoldable pub assembled : PointCounts → Bool → ℕ → MempoolPeerCounters
-assembled c leader refs = record {
-  «was_leader» = one leader;
-  «skipped_rounds» = one (eqb (c .found) 0);
-  «valid_points» = one (ltb 0 (c .valid));
-  «points_proved» = c .proved;
-  equivocated = c .found - 1;
-  «trans_invalid_points» = c .«trans_invalid»;
-  «invalid_points» = c .invalid;
-  «ill_formed_points» = c .«ill_formed»;
-  «references_skipped» = refs;
-}
+assembled c leader refs = nine (one leader) (one (eqb (c .found) 0)) (one (ltb 0 (c .valid))) (c .proved) (c .found - 1) (c .«trans_invalid») (c .invalid) (c .«ill_formed») refs
 
 -- the used mark u (the author plus 1, or 0) is the author a's
 unfoldable pub leads : ℕ → ℕ → Bool
@@ -87,26 +79,20 @@ module _ (s : State) (ks ls cs os : List ℕ) (r : ℕ) where
           referencesSkipped = d i;
         }
 
-    -- none is above 128: a peer has at most four points in a round
-    pub counters-few : refs ≤ 128 → Below 128 (assembled counts leader refs)
-    unfolding assembled countsTo countOf
-    counters-few h = record {
-      wasLeader = single leader;
-      skippedRounds = single (eqb (counts .found) 0);
-      validPoints = single (ltb 0 (counts .valid));
-      pointsProved = four Proved;
-      equivocated = omega (arith, four Found);
-      transInvalid = four TransInvalid;
-      invalid = four Invalid;
-      illFormed = four IllFormed;
-      referencesSkipped = h;
-    }
-      where
-        single : (b : Bool) → one b ≤ 128
-        single b = byTest b (λ y. rw y (omega arith)) (λ y. rw y (omega arith))
+  -- the same from the cells of all authors and the used mark of a retained round
+  module _ (fk : Fit ks) (fl : Fit ls) (t : Started s ks ls cs os) (m : store.Memory) (cells : List PointCounts) (h : Counted ks cs os (lowOf s ks os r) (highOf s ks os r - lowOf s ks os r) cells)
+      (low : s .bottom .0 ≤ r) (high : r ≤ s .top .0) (a : ℕ) (l : a < 32) (refs : ℕ) (d : refs ≡ counted m v r a .referencesSkipped) where
+    -- the peer's counters
+    abbrev peer : MempoolPeerCounters
+    peer = assembled (getD cells a noCounts) (leads (recordOf (s .rounds) r .«used_anchor_proof») a) refs
 
-        four : (w : PointTest) → countOf ks cs os (lowOf s ks os r) (highOf s ks os r) a w ≤ 128
-        four w = omega (arith, count-few s ks ls cs os fk fl t r a w)
+    pub peer-counted : countersOf peer ≡ counted m v r a
+    peer-counted =
+        ap (λ (c : PointCounts). countersOf (assembled c (leads (recordOf (s .rounds) r .«used_anchor_proof») a) refs)) (h .cells a l)
+        ∙ counters-are fk fl t m a (leads (recordOf (s .rounds) r .«used_anchor_proof») a) refs (leader-is low high a) d
+
+    pub peer-few : length (m .entries) ≤ 128 → Below 128 peer
+    peer-few k = subst (AtMost 128) (sym peer-counted) (counted-most v (well s ks ls cs os fk fl t) m r a k)
 
 -- ---- the steps of the code
 
@@ -120,28 +106,8 @@ pub leads-some : (u a : ℕ) → (u ≡ 0 → ⊥) → eqb (u - 1) a ≡ leads u
 unfolding leads
 leads-some u a d = rw (ne-eqb u 0 d) refl
 
--- the numbers from what the code computes
-pub assembled-is : (c : PointCounts) (leader : Bool) (refs w x y z : ℕ) → w ≡ one leader → x ≡ one (eqb (c .found) 0) → y ≡ one (ltb 0 (c .valid)) → z ≡ c .found - 1
-    → record {
-      «was_leader» = w;
-      «skipped_rounds» = x;
-      «valid_points» = y;
-      «points_proved» = c .proved;
-      equivocated = z;
-      «trans_invalid_points» = c .«trans_invalid»;
-      «invalid_points» = c .invalid;
-      «ill_formed_points» = c .«ill_formed»;
-      «references_skipped» = refs;
-    } ≡ assembled c leader refs
-unfolding assembled
-assembled-is c leader refs w x y z e f g h = λ i. record {
-  «was_leader» = e i;
-  «skipped_rounds» = f i;
-  «valid_points» = g i;
-  «points_proved» = c .proved;
-  equivocated = h i;
-  «trans_invalid_points» = c .«trans_invalid»;
-  «invalid_points» = c .invalid;
-  «ill_formed_points» = c .«ill_formed»;
-  «references_skipped» = refs;
-}
+-- the numbers from what the code computes, then the references skipped
+pub assembled-is : (c : PointCounts) (leader : Bool) (refs w x y z : ℕ) (r : MempoolPeerCounters) → refs < 65536 → w ≡ one leader → x ≡ one (eqb (c .found) 0) → y ≡ one (ltb 0 (c .valid)) → z ≡ c .found - 1
+    → r ≡ withSkipped (nine w x y (c .proved) z (c .«trans_invalid») (c .invalid) (c .«ill_formed») 0) refs → r ≡ assembled c leader refs
+unfolding assembled withSkipped
+assembled-is c leader refs w x y z r l e f g h k = k ∙ (λ i. nine (e i) (f i) (g i) (c .proved) (h i) (c .«trans_invalid») (c .invalid) (c .«ill_formed») (sum16-first refs l i))

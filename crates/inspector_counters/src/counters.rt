@@ -31,11 +31,11 @@ fn less_one(x: u16) -> u16
     if x == 0 { 0 } else { x - 1 }
 }
 
-// The counters of a peer with these counts, and with this number of references skipped.
+// The counters of a peer with these counts, and with this number of references skipped, which the Rust adds apart from the others.
 pub fn peer_counters(counts: PointCounts, leader: bool, references: u16) -> MempoolPeerCounters
     ensures { λ r. ⌜ r ≡ assembled counts leader references ⌝ }
 {
-    MempoolPeerCounters {
+    let counters = MempoolPeerCounters {
         was_leader: one_if(leader),
         skipped_rounds: one_if(counts.found == 0),
         valid_points: one_if(0 < counts.valid),
@@ -44,6 +44,7 @@ pub fn peer_counters(counts: PointCounts, leader: bool, references: u16) -> Memp
         trans_invalid_points: counts.trans_invalid,
         invalid_points: counts.invalid,
         ill_formed_points: counts.ill_formed,
-        references_skipped: references,
-    }
+        references_skipped: 0,
+    };
+    stats::skipped_added(counters, references)
 }

@@ -1,2 +1,5 @@
+pub mod Sets
+pub mod Trusted
 pub mod Refs
-pub mod Linked
+pub mod Live
+pub mod Referring

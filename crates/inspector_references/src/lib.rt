@@ -1,17 +1,53 @@
 // Origin: dag/commit/inspector.rs (must_reference, exclude_witness).
-// Whether a point refers to a digest, among its includes or among its witness, and whether a trusted point of a peer at one round does.
+// The trusted points of a round, and which of their authors refer to a digest, by includes or by witness.
+// A row has 11 words: author, digest (four), previous, previous digest (four), the peers that signed the previous point and did not include
+// it. Previous is 0 without a previous point; of a row made from a place it is the target word of the link to that point.
 ghost use mathlib.Core.Path.{_≡_};
-ghost use Prim.Native.Nat.{_+_, _*_, _<_, _≤_};
-ghost use lib.ListN.{length};
+ghost use Prim.Native.Nat.{ℕ, _+_, _*_, _-_, _<_, _≤_};
+ghost use lib.ListN.{length, getD};
+ghost use Rattle.laws.specs.Peers.{withPeer};
 ghost use Rattle.models.specs.Digest.{digestAt};
-ghost use Rattle.inspector_references.specs.Refs.{refersBy, refersAt};
-ghost use mathlib.Core.Bool.{_&&_};
 ghost use Rattle.back_history.specs.Model.{Range};
-ghost use Rattle.inspector_counters.specs.Tests.{passes};
-ghost use Rattle.inspector_counters.specs.declared.tests.PointTest.the-variants.{Trusted};
-ghost use Rattle.inspector_references.specs.Linked.{linkedBy};
-use inspector_counters::round::passes;
-use inspector_counters::tests::PointTest;
+ghost use Rattle.back_walk.specs.Words.{Placed};
+ghost use Rattle.inspector_references.specs.Sets.{without};
+ghost use Rattle.inspector_references.specs.Trusted.{Listed, trustedIn};
+ghost use Rattle.inspector_references.specs.Refs.{refersBy, refersAt};
+ghost use Rattle.inspector_references.specs.Referring.{RowIn, refersRow, referringBy};
+use inspector_counters::tests::version_at;
+
+// The places of a round's trusted points, by rising digest.
+pub struct Trusted {
+    pub count: usize,
+    pub places: [usize; 128],
+}
+
+// Those of the points at positions `low` to `high`.
+pub fn trusted_places(
+    keys: &[u64],
+    certs: &[u64],
+    order: &[u64],
+    low: usize,
+    high: usize,
+) -> Trusted
+    requires { ⌜ Range (now certs) (now order) low high ⌝ }
+    requires { ⌜ (length (now keys) ≡ length (now order) * 8) × (high - low ≤ 128) ⌝ }
+    ensures { λ r. ⌜ Listed (r .places) (r .count) (trustedIn (now (keys .entry)) (now (certs .entry)) (now (order .entry)) low (high - low)) ⌝ }
+{
+    let mut places: [usize; 128] = [0; 128];
+    let mut count: usize = 0;
+    let mut k: usize = 0;
+    while k < high - low {
+        let q = dag_round_keys::place(order, high, low + k);
+        let version = version_at(keys, certs, q);
+        let passed = version.inspect();
+        if passed.trusted {
+            places[count] = q;
+            count += 1;
+        }
+        k += 1;
+    }
+    Trusted { count, places }
+}
 
 // Whether link k of place q is one to the digest in the four words from p on.
 fn refers_by(links: &[u64], q: usize, k: usize, words: &[u64], p: usize) -> bool
@@ -25,7 +61,7 @@ fn refers_by(links: &[u64], q: usize, k: usize, words: &[u64], p: usize) -> bool
 }
 
 // Whether one of the 32 links of place q from `first` on (0 for includes, 32 for witness) is one to that digest.
-pub fn refers(links: &[u64], q: usize, first: usize, words: &[u64], p: usize) -> bool
+fn refers(links: &[u64], q: usize, first: usize, words: &[u64], p: usize) -> bool
     requires { ⌜ (q * 328 + 328 ≤ length (now links)) × (first ≤ 32) × (p + 4 ≤ length (now words)) ⌝ }
     ensures { λ r. ⌜ r ≡ refersAt (now (links .entry)) q first (digestAt (now (words .entry)) p) ⌝ }
 {
@@ -39,53 +75,58 @@ pub fn refers(links: &[u64], q: usize, first: usize, words: &[u64], p: usize) ->
     false
 }
 
-// Whether the point at place q is a trusted one of this author and refers to the digest in the four words from p on, by its links from
-// `first` on (0 for includes, 32 for witness).
-fn linked_at(
-    keys: &[u64],
-    links: &[u64],
-    certs: &[u64],
-    q: usize,
-    author: u32,
-    first: usize,
-    words: &[u64],
-    p: usize,
-) -> bool
-    requires { ⌜ (q * 8 + 8 ≤ length (now keys)) × (q < length (now certs)) ⌝ }
-    requires { ⌜ (q * 328 + 328 ≤ length (now links)) × (first ≤ 32) × (p + 4 ≤ length (now words)) ⌝ }
-    ensures { λ r. ⌜ r ≡ (passes (now (keys .entry)) (now (certs .entry)) author Trusted q && refersAt (now (links .entry)) q first (digestAt (now (words .entry)) p)) ⌝ }
+// Whether the point at place q refers to the previous point of row k, by those links. If they lead into a retained round (`live`), then by
+// the target word alone.
+fn refers_row(links: &[u64], q: usize, first: usize, live: bool, rows: &[u64], k: usize) -> bool
+    requires { ⌜ (q * 328 + 328 ≤ length (now links)) × (first ≤ 32) × RowIn (now rows) k ⌝ }
+    ensures { λ r. ⌜ r ≡ refersRow (now (links .entry)) q first live (now (rows .entry)) k ⌝ }
 {
-    if !passes(keys, certs, q, author, PointTest::Trusted) {
-        return false;
+    if live {
+        let author = laws::slot(rows[k * 11 + 0]);
+        let previous = rows[k * 11 + 5];
+        return links[q * 328 + 8 + first + author] == previous;
     }
-    refers(links, q, first, words, p)
+    refers(links, q, first, rows, k * 11 + 6)
 }
 
-// Whether one of the points from position `low` to `high` does.
-pub fn linked_by(
+// The set with one peer more.
+pub fn with_peer(peers: u64, peer: u64) -> u64
+    requires { ⌜ peer < 32 ⌝ }
+    ensures { λ r. ⌜ r ≡ withPeer peers peer ⌝ }
+{
+    peers | (1 << peer as u32)
+}
+
+// Those of the first set that aren't in the second.
+pub fn without(x: u64, y: u64) -> u64
+    ensures { λ r. ⌜ r ≡ without x y ⌝ }
+{
+    x ^ (x & y)
+}
+
+// The authors of those of the first n places that do.
+pub fn referring(
     keys: &[u64],
     links: &[u64],
-    certs: &[u64],
-    order: &[u64],
-    low: usize,
-    high: usize,
-    author: u32,
+    places: &[usize],
+    n: usize,
     first: usize,
-    words: &[u64],
-    p: usize,
-) -> bool
-    requires { ⌜ Range (now certs) (now order) low high ⌝ }
-    requires { ⌜ (length (now keys) ≡ length (now order) * 8) × (length (now links) ≡ length (now order) * 328) ⌝ }
-    requires { ⌜ (first ≤ 32) × (p + 4 ≤ length (now words)) ⌝ }
-    ensures { λ r. ⌜ r ≡ linkedBy (now (keys .entry)) (now (links .entry)) (now (certs .entry)) (now (order .entry)) low high author first (digestAt (now (words .entry)) p) ⌝ }
+    live: bool,
+    rows: &[u64],
+    k: usize,
+) -> u64
+    requires { ⌜ (n ≤ length (now places)) × (first ≤ 32) × RowIn (now rows) k ⌝ }
+    requires { ⌜ ((j : ℕ) → j < n → Placed (now keys) (now links) (getD (now places) j 0)) ⌝ }
+    ensures { λ r. ⌜ r ≡ referringBy (now (keys .entry)) (now (links .entry)) (now (places .entry)) n first live (now (rows .entry)) k ⌝ }
 {
-    let mut k: usize = 0;
-    while k < high - low {
-        let q = dag_round_keys::place(order, high, low + k);
-        if linked_at(keys, links, certs, q, author, first, words, p) {
-            return true;
+    let mut peers: u64 = 0;
+    let mut j: usize = 0;
+    while j < n {
+        let q = places[j];
+        if refers_row(links, q, first, live, rows, k) {
+            peers = with_peer(peers, dag_round_keys::author(keys, q));
         }
-        k += 1;
+        j += 1;
     }
-    false
+    peers
 }

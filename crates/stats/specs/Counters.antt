@@ -1,5 +1,5 @@
 -- Counters of a peer as the definitions', their sum and score (01: 'inspector.rs, stats.rs').
-use Prim.Native.Nat.{ℕ, zero, suc, _+_, _*_, _<_, _≤_}
+use Prim.Native.Nat.{ℕ, zero, suc, _+_, _*_, _<_, _≤_, min}
 use mathlib.Core.Path.{_≡_, refl, sym, ap, ap₂, _∙_}
 use mathlib.Core.List.{List, [], _∷_}
 use lib.ListN.{getD}
@@ -9,6 +9,7 @@ use native.Mathlib.Numerals.{add-one}
 use native.Mathlib.Omega.{arith}
 use Rattle.laws.specs.Test.{cond-yes, cond-no}
 use Rattle.spec.specs.Inspect.{Counters, add, score, scoreFrom, counterList, weight, weights, band}
+use Rattle.spec.specs.Inspection.{AtMost}
 use Rattle.stats.specs.declared.MempoolPeerCounters.{MempoolPeerCounters}
 
 unfoldable pub countersOf : MempoolPeerCounters → Counters
@@ -24,43 +25,65 @@ countersOf c = record {
   referencesSkipped = c .«references_skipped»;
 }
 
--- each counter is at most n
-pub record Below (n : ℕ) (c : MempoolPeerCounters) : Type 0 where
-  pub wasLeader : c .«was_leader» ≤ n
-  pub skippedRounds : c .«skipped_rounds» ≤ n
-  pub validPoints : c .«valid_points» ≤ n
-  pub pointsProved : c .«points_proved» ≤ n
-  pub equivocated : c .equivocated ≤ n
-  pub transInvalid : c .«trans_invalid_points» ≤ n
-  pub invalid : c .«invalid_points» ≤ n
-  pub illFormed : c .«ill_formed_points» ≤ n
-  pub referencesSkipped : c .«references_skipped» ≤ n
-
--- the sum of both, counter by counter
-unfoldable pub sumOf : MempoolPeerCounters → MempoolPeerCounters → MempoolPeerCounters
-sumOf x y = record {
-  «was_leader» = x .«was_leader» + y .«was_leader»;
-  «skipped_rounds» = x .«skipped_rounds» + y .«skipped_rounds»;
-  «valid_points» = x .«valid_points» + y .«valid_points»;
-  «points_proved» = x .«points_proved» + y .«points_proved»;
-  equivocated = x .equivocated + y .equivocated;
-  «trans_invalid_points» = x .«trans_invalid_points» + y .«trans_invalid_points»;
-  «invalid_points» = x .«invalid_points» + y .«invalid_points»;
-  «ill_formed_points» = x .«ill_formed_points» + y .«ill_formed_points»;
-  «references_skipped» = x .«references_skipped» + y .«references_skipped»;
+-- the nine in their order
+abbrev pub nine : ℕ → ℕ → ℕ → ℕ → ℕ → ℕ → ℕ → ℕ → ℕ → MempoolPeerCounters
+nine a b c d e f g h i = record {
+  «was_leader» = a;
+  «skipped_rounds» = b;
+  «valid_points» = c;
+  «points_proved» = d;
+  equivocated = e;
+  «trans_invalid_points» = f;
+  «invalid_points» = g;
+  «ill_formed_points» = h;
+  «references_skipped» = i;
 }
 
--- it has room
-pub record Fitting (x y : MempoolPeerCounters) : Type 0 where
-  pub wasLeader : x .«was_leader» + y .«was_leader» ≤ 65535
-  pub skippedRounds : x .«skipped_rounds» + y .«skipped_rounds» ≤ 65535
-  pub validPoints : x .«valid_points» + y .«valid_points» ≤ 65535
-  pub pointsProved : x .«points_proved» + y .«points_proved» ≤ 65535
-  pub equivocated : x .equivocated + y .equivocated ≤ 65535
-  pub transInvalid : x .«trans_invalid_points» + y .«trans_invalid_points» ≤ 65535
-  pub invalid : x .«invalid_points» + y .«invalid_points» ≤ 65535
-  pub illFormed : x .«ill_formed_points» + y .«ill_formed_points» ≤ 65535
-  pub referencesSkipped : x .«references_skipped» + y .«references_skipped» ≤ 65535
+-- no counts
+abbrev pub noCounters : MempoolPeerCounters
+noCounters = nine 0 0 0 0 0 0 0 0 0
+
+-- counter by counter
+abbrev each : (ℕ → ℕ → ℕ) → MempoolPeerCounters → MempoolPeerCounters → MempoolPeerCounters
+each f x y = record {
+  «was_leader» = f (x .«was_leader») (y .«was_leader»);
+  «skipped_rounds» = f (x .«skipped_rounds») (y .«skipped_rounds»);
+  «valid_points» = f (x .«valid_points») (y .«valid_points»);
+  «points_proved» = f (x .«points_proved») (y .«points_proved»);
+  equivocated = f (x .equivocated) (y .equivocated);
+  «trans_invalid_points» = f (x .«trans_invalid_points») (y .«trans_invalid_points»);
+  «invalid_points» = f (x .«invalid_points») (y .«invalid_points»);
+  «ill_formed_points» = f (x .«ill_formed_points») (y .«ill_formed_points»);
+  «references_skipped» = f (x .«references_skipped») (y .«references_skipped»);
+}
+
+-- each counter is at most n
+abbrev pub Below : ℕ → MempoolPeerCounters → Type 0
+Below n c = AtMost n (countersOf c)
+
+-- the sum of both
+unfoldable pub sumOf : MempoolPeerCounters → MempoolPeerCounters → MempoolPeerCounters
+sumOf = each _+_
+
+-- it has room in 16 bits
+abbrev pub Fitting : MempoolPeerCounters → MempoolPeerCounters → Type 0
+Fitting x y = Below 65535 (sumOf x y)
+
+-- two counts in 16 bits: the sum stops at the most that they hold
+abbrev pub sum16 : ℕ → ℕ → ℕ
+sum16 m n = min (m + n) 65535
+
+-- the sum of both in 16 bits
+unfoldable pub mergeOf : MempoolPeerCounters → MempoolPeerCounters → MempoolPeerCounters
+mergeOf = each sum16
+
+-- with the number n of references skipped
+abbrev pub setSkipped : MempoolPeerCounters → ℕ → MempoolPeerCounters
+setSkipped c n = nine (c .«was_leader») (c .«skipped_rounds») (c .«valid_points») (c .«points_proved») (c .equivocated) (c .«trans_invalid_points») (c .«invalid_points») (c .«ill_formed_points») n
+
+-- with n more of them
+unfoldable pub withSkipped : MempoolPeerCounters → ℕ → MempoolPeerCounters
+withSkipped c n = setSkipped c (sum16 (c .«references_skipped») n)
 
 -- the sum of the first k parts of the score
 unfoldable pub scoreTo : List ℕ → ℕ → ℕ
@@ -73,51 +96,54 @@ pub sum-is : (x y : MempoolPeerCounters) → countersOf (sumOf x y) ≡ add (cou
 unfolding countersOf sumOf add
 sum-is x y = refl
 
-pub sum-from : (x y z : MempoolPeerCounters) → z ≡ record {
-  «was_leader» = x .«was_leader» + y .«was_leader»;
-  «skipped_rounds» = x .«skipped_rounds» + y .«skipped_rounds»;
-  «valid_points» = x .«valid_points» + y .«valid_points»;
-  «points_proved» = x .«points_proved» + y .«points_proved»;
-  equivocated = x .equivocated + y .equivocated;
-  «trans_invalid_points» = x .«trans_invalid_points» + y .«trans_invalid_points»;
-  «invalid_points» = x .«invalid_points» + y .«invalid_points»;
-  «ill_formed_points» = x .«ill_formed_points» + y .«ill_formed_points»;
-  «references_skipped» = x .«references_skipped» + y .«references_skipped»;
-} → z ≡ sumOf x y
-unfolding sumOf
-sum-from x y z e = e
+-- what fits is the sum
+fits-is : (n : ℕ) → n ≤ 65535 → min n 65535 ≡ n
+fits-is n h = omega arith
 
--- sums of what is at most m and n
-sums : (a b m n : ℕ) → a ≤ m → b ≤ n → a + b ≤ m + n
-sums a b m n h k = omega arith
+module _ (x y : MempoolPeerCounters) where
+  -- a sum that fits is the sum
+  pub merge-fits : Fitting x y → mergeOf x y ≡ sumOf x y
+  unfolding mergeOf sumOf countersOf
+  merge-fits h = λ i. nine (fits-is (x .«was_leader» + y .«was_leader») (h .wasLeader) i) (fits-is (x .«skipped_rounds» + y .«skipped_rounds») (h .skippedRounds) i) (fits-is (x .«valid_points» + y .«valid_points») (h .validPoints) i) (fits-is (x .«points_proved» + y .«points_proved») (h .pointsProved) i) (fits-is (x .equivocated + y .equivocated) (h .equivocated) i) (fits-is (x .«trans_invalid_points» + y .«trans_invalid_points») (h .transInvalid) i) (fits-is (x .«invalid_points» + y .«invalid_points») (h .invalid) i) (fits-is (x .«ill_formed_points» + y .«ill_formed_points») (h .illFormed) i) (fits-is (x .«references_skipped» + y .«references_skipped») (h .referencesSkipped) i)
 
-module _ (x y : MempoolPeerCounters) (m n : ℕ) (a : Below m x) (b : Below n y) where
-  pub sum-below : Below (m + n) (sumOf x y)
-  unfolding sumOf
-  sum-below = record {
-    wasLeader = sums _ _ m n (a .wasLeader) (b .wasLeader);
-    skippedRounds = sums _ _ m n (a .skippedRounds) (b .skippedRounds);
-    validPoints = sums _ _ m n (a .validPoints) (b .validPoints);
-    pointsProved = sums _ _ m n (a .pointsProved) (b .pointsProved);
-    equivocated = sums _ _ m n (a .equivocated) (b .equivocated);
-    transInvalid = sums _ _ m n (a .transInvalid) (b .transInvalid);
-    invalid = sums _ _ m n (a .invalid) (b .invalid);
-    illFormed = sums _ _ m n (a .illFormed) (b .illFormed);
-    referencesSkipped = sums _ _ m n (a .referencesSkipped) (b .referencesSkipped);
-  }
+  -- so it is 01's
+  pub merge-is : Fitting x y → countersOf (mergeOf x y) ≡ add (countersOf x) (countersOf y)
+  merge-is h = ap countersOf (merge-fits h) ∙ sum-is x y
 
-  pub sum-fits : m + n ≤ 65535 → Fitting x y
-  sum-fits h = record {
-    wasLeader = omega (arith, h, a .wasLeader, b .wasLeader);
-    skippedRounds = omega (arith, h, a .skippedRounds, b .skippedRounds);
-    validPoints = omega (arith, h, a .validPoints, b .validPoints);
-    pointsProved = omega (arith, h, a .pointsProved, b .pointsProved);
-    equivocated = omega (arith, h, a .equivocated, b .equivocated);
-    transInvalid = omega (arith, h, a .transInvalid, b .transInvalid);
-    invalid = omega (arith, h, a .invalid, b .invalid);
-    illFormed = omega (arith, h, a .illFormed, b .illFormed);
-    referencesSkipped = omega (arith, h, a .referencesSkipped, b .referencesSkipped);
-  }
+  module _ (m n : ℕ) (a : Below m x) (b : Below n y) where
+    pub sum-below : Below (m + n) (sumOf x y)
+    unfolding sumOf countersOf
+    sum-below = omega arith
+
+    pub sum-fits : m + n ≤ 65535 → Fitting x y
+    unfolding sumOf countersOf
+    sum-fits h = omega arith
+
+    pub merge-below : Below (m + n) (mergeOf x y)
+    unfolding mergeOf countersOf
+    merge-below = omega arith
+
+-- at most m, so at most n
+pub below-more : (m n : ℕ) (c : MempoolPeerCounters) → m ≤ n → Below m c → Below n c
+unfolding countersOf
+below-more m n c l h = omega arith
+
+-- the first number added
+pub sum16-first : (n : ℕ) → n < 65536 → sum16 0 n ≡ n
+sum16-first n h = omega arith
+
+-- from what the code computes
+pub merge-from : (x y : MempoolPeerCounters) (a b c d e f g h i : ℕ)
+    → a ≡ sum16 (x .«was_leader») (y .«was_leader») → b ≡ sum16 (x .«skipped_rounds») (y .«skipped_rounds») → c ≡ sum16 (x .«valid_points») (y .«valid_points»)
+    → d ≡ sum16 (x .«points_proved») (y .«points_proved») → e ≡ sum16 (x .equivocated) (y .equivocated) → f ≡ sum16 (x .«trans_invalid_points») (y .«trans_invalid_points»)
+    → g ≡ sum16 (x .«invalid_points») (y .«invalid_points») → h ≡ sum16 (x .«ill_formed_points») (y .«ill_formed_points») → i ≡ sum16 (x .«references_skipped») (y .«references_skipped»)
+    → nine a b c d e f g h i ≡ mergeOf x y
+unfolding mergeOf
+merge-from x y a b c d e f g h i a₁ b₁ c₁ d₁ e₁ f₁ g₁ h₁ i₁ = λ j. nine (a₁ j) (b₁ j) (c₁ j) (d₁ j) (e₁ j) (f₁ j) (g₁ j) (h₁ j) (i₁ j)
+
+pub skipped-from : (c : MempoolPeerCounters) (n r : ℕ) → r ≡ sum16 (c .«references_skipped») n → setSkipped c r ≡ withSkipped c n
+unfolding withSkipped
+skipped-from c n r e = ap (setSkipped c) e
 
 -- ---- the score
 
@@ -175,7 +201,7 @@ score-more xs k s p t h d f = rw (add-one k) (f ∙ ap₂ (λ (x y : ℕ). x + y
 -- all nine
 pub score-is : (c : Counters) (xs : List ℕ) (s k : ℕ) → xs ≡ counterList c → s ≡ scoreTo xs k → k ≡ 9 → s ≡ score c
 unfolding score scoreFrom counterList scoreTo
-score-is c xs s k d h e = rw (d, e) at h ∙ nine _ _ _ _ _ _ _ _ _
+score-is c xs s k d h e = rw (d, e) at h ∙ grouped _ _ _ _ _ _ _ _ _
   where
-    nine : (a b c d e f g h i : ℕ) → 0 + a + b + c + d + e + f + g + h + i ≡ a + (b + (c + (d + (e + (f + (g + (h + (i + 0))))))))
-    nine a b c d e f g h i = omega arith
+    grouped : (a b c d e f g h i : ℕ) → 0 + a + b + c + d + e + f + g + h + i ≡ a + (b + (c + (d + (e + (f + (g + (h + (i + 0))))))))
+    grouped a b c d e f g h i = omega arith

@@ -1,10 +1,13 @@
 // Origin: models/stats.rs (MempoolPeerCounters).
 // The nine counters of a peer, their sum, and the score that document 01 adds. The Rust's `last_round` stands beside the counters, in
-// what remove answers of a peer.
+// MempoolPeerStats (peer_stats). From which round on peers are counted is in ranges.
 ghost use mathlib.Core.Path.{_≡_};
-ghost use Prim.Native.Nat.{_*_, _<_, _≤_};
+ghost use Prim.Native.Nat.{_+_, _*_, _<_, _≤_, min};
 ghost use Rattle.spec.specs.Inspect.{band, weight, counterList, score};
-ghost use Rattle.stats.specs.Counters.{countersOf, sumOf, Below, Fitting};
+ghost use Rattle.stats.specs.Counters.{countersOf, noCounters, mergeOf, withSkipped};
+
+pub mod peer_stats;
+pub mod ranges;
 
 pub struct MempoolPeerCounters {
     pub was_leader: u16,
@@ -60,10 +63,17 @@ fn weigh(counter: usize, count: u16) -> u32
     count as u32 * weight
 }
 
+// The sum, or 65,535 where it is above that (CounterU16's `saturating_add`).
+fn saturating_add(x: u16, y: u16) -> u16
+    ensures { λ r. ⌜ r ≡ min (x + y) 65535 ⌝ }
+{
+    if x < 65535 - y { x + y } else { 65535 }
+}
+
 impl MempoolPeerCounters {
     // No rounds counted yet.
     pub fn new() -> MempoolPeerCounters
-        ensures { λ r. ⌜ Below 0 r ⌝ }
+        ensures { λ r. ⌜ r ≡ noCounters ⌝ }
     {
         MempoolPeerCounters {
             was_leader: 0,
@@ -78,22 +88,33 @@ impl MempoolPeerCounters {
         }
     }
 
-    // The sum of both. Document 01: "Counts always fit."
+    // The sum of both, counter by counter; each stops at 65,535.
     pub fn merge(self, other: MempoolPeerCounters) -> MempoolPeerCounters
-        requires { ⌜ Fitting self other ⌝ }
-        ensures { λ r. ⌜ r ≡ sumOf self other ⌝ }
+        ensures { λ r. ⌜ r ≡ mergeOf self other ⌝ }
     {
         MempoolPeerCounters {
-            was_leader: self.was_leader + other.was_leader,
-            skipped_rounds: self.skipped_rounds + other.skipped_rounds,
-            valid_points: self.valid_points + other.valid_points,
-            points_proved: self.points_proved + other.points_proved,
-            equivocated: self.equivocated + other.equivocated,
-            trans_invalid_points: self.trans_invalid_points + other.trans_invalid_points,
-            invalid_points: self.invalid_points + other.invalid_points,
-            ill_formed_points: self.ill_formed_points + other.ill_formed_points,
-            references_skipped: self.references_skipped + other.references_skipped,
+            was_leader: saturating_add(self.was_leader, other.was_leader),
+            skipped_rounds: saturating_add(self.skipped_rounds, other.skipped_rounds),
+            valid_points: saturating_add(self.valid_points, other.valid_points),
+            points_proved: saturating_add(self.points_proved, other.points_proved),
+            equivocated: saturating_add(self.equivocated, other.equivocated),
+            trans_invalid_points: saturating_add(
+                self.trans_invalid_points,
+                other.trans_invalid_points,
+            ),
+            invalid_points: saturating_add(self.invalid_points, other.invalid_points),
+            ill_formed_points: saturating_add(self.ill_formed_points, other.ill_formed_points),
+            references_skipped: saturating_add(self.references_skipped, other.references_skipped),
         }
+    }
+
+    // With this number more of references skipped; stops at 65,535.
+    pub fn with_skipped(self, value: u16) -> MempoolPeerCounters
+        ensures { λ r. ⌜ r ≡ withSkipped self value ⌝ }
+    {
+        let mut next = self;
+        next.references_skipped = saturating_add(self.references_skipped, value);
+        next
     }
 
     // The counters in their order.
@@ -130,8 +151,23 @@ impl MempoolPeerCounters {
 
 // The sum left in the first (the Rust's `merge`, which has `&mut self`).
 pub fn merge_into(c: &mut MempoolPeerCounters, other: MempoolPeerCounters)
-    requires { ⌜ Fitting (now c) other ⌝ }
-    ensures { λ _. ⌜ now (c .exit) ≡ sumOf (now (c .entry)) other ⌝ }
+    ensures { λ _. ⌜ now (c .exit) ≡ mergeOf (now (c .entry)) other ⌝ }
 {
     *c = MempoolPeerCounters::merge(*c, other);
+}
+
+// Adds references skipped: this counter isn't known at the same time as the others.
+pub fn add_references_skipped(c: &mut MempoolPeerCounters, value: u16)
+    ensures { λ _. ⌜ now (c .exit) ≡ withSkipped (now (c .entry)) value ⌝ }
+{
+    *c = MempoolPeerCounters::with_skipped(*c, value);
+}
+
+// The same by value: a copy is changed in place and returned.
+pub fn skipped_added(c: MempoolPeerCounters, value: u16) -> MempoolPeerCounters
+    ensures { λ r. ⌜ r ≡ withSkipped c value ⌝ }
+{
+    let mut next = c;
+    add_references_skipped(&mut next, value);
+    next
 }

@@ -20,8 +20,6 @@ use Rattle.models.specs.declared.info.PointInfo.{PointInfo}
 use Rattle.trace.specs.Numbers.{numberAt, idAt, pointIdAt}
 use Rattle.trace.specs.declared.head.Kind.{Kind}
 use Rattle.trace.specs.declared.head.Kind.the-variants as kind
-use Rattle.trace.specs.declared.fields.Since.{Since}
-use Rattle.trace.specs.declared.fields.Since.the-variants.{Nothing, From}
 
 -- "a flag is no only at 0"
 abbrev pub flagIn : List ℕ → ℕ → Bool
@@ -44,11 +42,6 @@ startIn f = record {
 -- "Remove: round, flag, `stats_since`", the last unread after flag 0
 unfoldable pub sinceIn : List ℕ → Option ℕ
 sinceIn f = cond (flagIn f 4) (some (numberAt f 5 4)) none
-
--- `stats_since` as the code has it
-unfoldable pub sinceOf : Since → Option ℕ
-sinceOf Nothing = none
-sinceOf (From r) = some r
 
 -- a link: "peer 1, digest 32"
 abbrev pub linkIn : List ℕ → ℕ → Ref

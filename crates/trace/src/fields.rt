@@ -4,9 +4,10 @@ ghost use mathlib.Core.Path.{_≡_};
 ghost use Prim.Native.Nat.{_+_, _*_, _≤_};
 ghost use lib.ListN.{length};
 ghost use Rattle.laws.specs.Bytes.{written};
+ghost use Rattle.stats.specs.Ranges.{sinceOf};
 ghost use Rattle.trace.specs.Numbers.{numberAt};
 ghost use Rattle.trace.specs.Head.{linksIn};
-ghost use Rattle.trace.specs.Fields.{usedAuthorIn, startArgsIn, sinceIn, sinceOf, infoIn};
+ghost use Rattle.trace.specs.Fields.{usedAuthorIn, startArgsIn, sinceIn, infoIn};
 ghost use Rattle.trace.specs.Links.{linkWords, linksWords};
 use crate::bytes::byte_of;
 use crate::bytes::digest_words;
@@ -16,17 +17,12 @@ use commit_state::back::StartArgs;
 use commit_state::back::UsedAuthor;
 use models::info::PointInfo;
 use models::parts::Round;
+use stats::ranges::Since;
 
 // What adding a round takes.
 pub struct RoundFields {
     pub round: Round,
     pub peers: u32,
-}
-
-// `stats_since` of a remove.
-pub enum Since {
-    Nothing,
-    From(u32),
 }
 
 // What a remove takes.
@@ -97,7 +93,7 @@ pub fn remove_of(f: &[u8]) -> RemoveFields
     }
     RemoveFields {
         round: Round(round),
-        since: Since::From(since),
+        since: Since::From(Round(since)),
     }
 }
 

@@ -1,6 +1,7 @@
 use mathlib.Core.Path.{refl}
 use Rattle.commit_answer.specs.Answer.{tested-no, tested-by, left-refused, left-done}
-use Rattle.commit_rounds.specs.Drop.{drop-did, given, dropped-is}
+use Rattle.commit_rounds.specs.Drain.{given}
+use Rattle.commit_rounds.specs.Drop.{drop-did, dropped-is}
 use borrow.Author.Needs.{needs}
 use native.Mathlib.Omega.{arith}
 use Rattle.spec.specs.Rules.{countsAsStarted}

@@ -1,14 +1,10 @@
-use mathlib.Core.Path.{_∙_, ap}
-use Rattle.back_drain.specs.Model.{below}
 use Rattle.inspector_counters.specs.Count.{span-is}
 use borrow.Author.Needs.{needs}
 use Rattle.inspector_counters.proofs.round.span_at.Statement.{statement}
 use Rattle.inspector_counters.proofs.round.span_at.Tie as tie
 
 returns : tie.Need-returns
-returns c =
-    let a = c .before .before .before .before .before .args in
-    span-is _ _ _ _ _ _ (c .before .before .cut .ensures) (c .cut2 .ensures ∙ ap (below (a .keys .now) (a .order .now) (a .n)) (c .before .plus .ensures))
+returns c = span-is _ _ _ _ _ _ _ (c .before .plus .ensures) (c .before .before .cut .ensures) (c .cut2 .ensures)
 
 pub span-at-spec : {M : Type 1} → statement M
 span-at-spec = tie.close (tie.spec (λ c κs. search needs) (λ c κs. search needs) (λ c κs. search needs) returns)

@@ -1,5 +1,6 @@
 use borrow.Author.Needs.{needs}
-use Rattle.trace.specs.Fields.{sinceOf, since-none, since-some}
+use Rattle.stats.specs.Ranges.{sinceOf}
+use Rattle.trace.specs.Fields.{since-none, since-some}
 use Rattle.trace.proofs.fields.remove_of.Statement.{statement}
 use Rattle.trace.proofs.fields.remove_of.Tie as tie
 

@@ -1,0 +1,4 @@
+pub mod Told
+pub mod Passing
+pub mod Author
+pub mod Refines

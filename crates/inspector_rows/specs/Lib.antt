@@ -1,0 +1,3 @@
+pub mod Rows
+pub mod Must
+pub mod Memory
