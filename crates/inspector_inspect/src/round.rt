@@ -43,9 +43,11 @@ pub fn signers_at(
     n: usize,
 ) -> NotReferenced
     requires { ⌜ countsAsStarted (view s (now keys) (now links) (now certs) (now order)) ≡ true ⌝ }
-    requires { ⌜ Listed (now places) m (keep (isTrusted (view s (now keys) (now links) (now certs) (now order))) (placesIn (view s (now keys) (now links) (now certs) (now order)) (round .0))) ⌝ }
+    requires { ⌜ Listed (now places) m (keep (isTrusted (view s (now keys) (now links) (now certs) (now order)))
+        (placesIn (view s (now keys) (now links) (now certs) (now order)) (round .0))) ⌝ }
     requires { ⌜ RowsBefore s (now keys) (now links) (now certs) (now order) (round .0) (now rows) n × (1408 ≤ length (now rows)) ⌝ }
-    ensures { λ r. ⌜ Owed (before (view s (now (keys .entry)) (now (links .entry)) (now (certs .entry)) (now (order .entry))) (round .0)) (view s (now (keys .entry)) (now (links .entry)) (now (certs .entry)) (now (order .entry))) (round .0) (now (rows .entry)) n (r .sets) (r .signers) ⌝ }
+    ensures { λ r. ⌜ Owed (before (view s (now (keys .entry)) (now (links .entry)) (now (certs .entry)) (now (order .entry))) (round .0))
+        (view s (now (keys .entry)) (now (links .entry)) (now (certs .entry)) (now (order .entry))) (round .0) (now (rows .entry)) n (r .sets) (r .signers) ⌝ }
 {
     let bottom = s.bottom;
     let last = last_before(s, round);
