@@ -50,10 +50,6 @@ module _ (w : Bool) (b : List ℕ) (at : ℕ) where
   unfolding kept
   sent-length xs r b′ x = ap length (x .left) ∙ byTest w (λ t. rw t (written-length b at xs)) (λ f. rw f refl)
 
-  -- the room left after some bytes
-  pub room-after : (n k m : ℕ) (xs : List ℕ) (e : ℕ) (b₁ : List ℕ) → Sent w b at xs e b₁ → length xs ≡ m → m + k ≤ n → Room w b at n → Room w b₁ e k
-  room-after n k m xs e b₁ s h l r t = omega (arith, s .next, h, l, r t, sent-length xs e b₁ s)
-
 -- two stores at different places
 set-swap : (b : List ℕ) (i j x y : ℕ) → (i ≡ j → ⊥) → set (set b i x) j y ≡ set (set b j y) i x
 set-swap [] i j x y d = refl

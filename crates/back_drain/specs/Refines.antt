@@ -129,7 +129,7 @@ module _ (s : State) (ks ls cs os : List ℕ) (fk : Fit ks) (fl : Fit ls) (h : c
   -- a state with the places that stay and the new bottom
   module _ (t : State) (ec : t .count ≡ n - k) (eb : t .bottom .0 ≡ b) (holds : memoryHolds (t .memory) ≡ true) where
     -- the tables can still be read as a store
-    pub drained-regular : regular t ks2 ls2 cs2 os2 ≡ true
+    drained-regular : regular t ks2 ls2 cs2 os2 ≡ true
     drained-regular =
         regular-intro t ks2 ls2 cs2 os2 (omega (arith, size, places-says _ (had .places-ok))) (record {
           room = omega (arith, had .count-ok, size, ec);

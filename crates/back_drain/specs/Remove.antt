@@ -14,19 +14,14 @@ use Rattle.commit_state.specs.View.{confOf, progressOf, memoryOf}
 use Rattle.commit_state.specs.Back.{removedState}
 use Rattle.commit_state.specs.declared.state.Memory.{Memory}
 use Rattle.commit_state.specs.declared.state.State.{State}
-use Rattle.tables_test.specs.View.{view, regular}
+use Rattle.tables_test.specs.View.{view}
 use Rattle.back_drain.specs.Model.{below}
-use Rattle.back_drain.specs.Refines.{drained-regular, drained-view}
+use Rattle.back_drain.specs.Refines.{drained-view}
 
 module _ (s : State) (ks ls cs os : List ℕ) (fk : Fit ks) (fl : Fit ls) (h : countsAsStarted (view s ks ls cs os) ≡ true) (b : ℕ) (low : s .bottom .0 ≤ b) (m : Memory) (holds : memoryHolds m ≡ true) where
   -- how many places go
   abbrev k : ℕ
   k = below ks os (s .count) b
-
-  -- the tables can still be read as a store
-  pub remove-regular : regular (removedState s b (s .count - k) m) (emptied ks 8 os k) (emptied ls 328 os k) (emptied cs 1 os k) (drained os (s .count) k) ≡ true
-  unfolding removedState
-  remove-regular = drained-regular s ks ls cs os fk fl h b low (removedState s b (s .count - k) m) refl refl holds
 
   -- it is the store that 01 leaves, with the memory m
   pub remove-view : view (removedState s b (s .count - k) m) (emptied ks 8 os k) (emptied ls 328 os k) (emptied cs 1 os k) (drained os (s .count) k) ≡ withMemory (calls.drained (view s ks ls cs os) b) (memoryOf m)

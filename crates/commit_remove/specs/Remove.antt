@@ -24,12 +24,13 @@ use Rattle.dag_round_keys.specs.Zero.{emptied}
 use Rattle.dag_round_order.specs.Shift.{drained}
 use Rattle.commit_state.specs.declared.state.Memory.{Memory}
 use Rattle.commit_state.specs.declared.state.State.{State}
-use Rattle.commit_state.specs.Memory.{memoryHolds}
-use Rattle.commit_state.specs.View.{optionOf, confOf, progressOf, memoryOf}
+use Rattle.commit_state.specs.View.{optionOf, confOf, progressOf}
 use Rattle.commit_state.specs.Back.{removedState}
 use Rattle.tables_test.specs.View.{view}
 use Rattle.back_drain.specs.Model.{below, drainBottom}
 use Rattle.back_drain.specs.Remove.{remove-view}
+use Rattle.inspector_inspect.specs.After.{memoryLeft, memory-left}
+use Rattle.inspector_answer.specs.Answered.{Answered}
 use Rattle.commit_answer.specs.declared.answer.Answer.the-variants.{Done}
 use Rattle.commit_answer.specs.declared.answer.Outcome.{Outcome}
 use Rattle.commit_answer.specs.Answer.{answerOf, Tables, tables, viewOf, Left, left, outcomeOf, nothingDone, Did, refusal, unlessRefusedWith, tested, left-refused, left-passed, tested-no, tested-by, did-tested}
@@ -58,14 +59,9 @@ unfolding beyond optionOf
 beyond-some zero r n = absurd (n refl)
 beyond-some (suc a) r n = let e : suc a - 1 ≡ a = omega arith in ap (λ (x : ℕ). ltb x r) e
 
--- the memory m is 01's after the rounds of d below `low`, and tables may hold it
-abbrev pub IsMemoryAfter : Tables → ℕ → Memory → Type 0
-IsMemoryAfter d low m = (memoryOf m ≡ memoryAfter (viewOf d) (viewOf d .memory) (inspected (viewOf d) low)) × (memoryHolds m ≡ true)
-
--- what the answer leaves of the buffer b, and whether it has room there: else every byte is as it was
-pub record Answered (v : Store) (low : ℕ) (since : Option ℕ) (b : List ℕ) (fits : Bool) (b′ : List ℕ) : Type 0 where
-  pub whole : fits ≡ true → (length (removeBytes v low since) ≤ length b) × (b′ ≡ written b 0 (removeBytes v low since))
-  pub short : fits ≡ false → (length b < length (removeBytes v low since)) × (b′ ≡ b)
+-- the inspector's memory after the rounds of d below `low`
+abbrev pub memoryLeftOf : Tables → ℕ → Memory
+memoryLeftOf d low = memoryLeft (d .state) (d .keys) (d .links) (d .certs) (d .order) low
 
 -- ---- the model
 
@@ -87,13 +83,12 @@ module _ (s : State) (r : ℕ) (b : List ℕ) (n : ℕ) (x : Bool) (e : x ≡ be
   unfolding removeCheck
   check-fits f l = rw (sym e ∙ f, le-ltb (length b) n l) refl
 
--- memory: the inspector's memory after the rounds below a new bottom
-module _ (memory : Tables → ℕ → Memory) (since : Option ℕ) (r : ℕ) (b : List ℕ) (d : Tables) where
+module _ (since : Option ℕ) (r : ℕ) (b : List ℕ) (d : Tables) where
   -- what it leaves, if it isn't refused
   abbrev pub removedLeft : Left
   removedLeft = let low = removeBottom (d .state) r in record {
     answer = Done;
-    tables = drainedTables (λ x n. removedState (d .state) x n (memory d low)) low d;
+    tables = drainedTables (λ x n. removedState (d .state) x n (memoryLeftOf d low)) low d;
     buffer = written b 0 (removeBytes (viewOf d) low since);
   }
 
@@ -103,7 +98,7 @@ module _ (memory : Tables → ℕ → Memory) (since : Option ℕ) (r : ℕ) (b 
 
 -- ---- it is 01's
 
-module _ (memory : Tables → ℕ → Memory) (since : Option ℕ) (r : ℕ) (b : List ℕ) (d : Tables) where
+module _ (since : Option ℕ) (r : ℕ) (b : List ℕ) (d : Tables) where
   -- the store
   abbrev v : Store
   v = viewOf d
@@ -135,39 +130,39 @@ module _ (memory : Tables → ℕ → Memory) (since : Option ℕ) (r : ℕ) (b 
   unfolding doRemove
   tests-are = λ i. outcomeBy (low-is i) (removing v r b (removeBytes v (low-is i) since))
 
-  remove-is : viewOf (removedLeft memory since r b d .tables) ≡ withMemory (calls.drained v low) (memoryAfter v (v .memory) (inspected v low))
-      → outcomeOf (unlessRefusedWith (removeCheck (d .state) r b (length bytes)) d b (removedLeft memory since r b d)) ≡ doRemove v r since b
+  remove-is : viewOf (removedLeft since r b d .tables) ≡ withMemory (calls.drained v low) (memoryAfter v (v .memory) (inspected v low))
+      → outcomeOf (unlessRefusedWith (removeCheck (d .state) r b (length bytes)) d b (removedLeft since r b d)) ≡ doRemove v r since b
   unfolding removeCheck removing refuse outcomeOf answerOf refusalOf unlessRefusedWith
   remove-is e = by (beyond (optionOf (d .state .«last_anchor» .0)) r) (ltb (length b) (length bytes)) ∙ sym (tests-are ∙ ap (λ (o : Option ℕ). outcomeBy low (refuse (beyond o r) 23 (refuse (ltb (length b) (length bytes)) 21 (good bytes)))) last-is)
     where
-      by : (x y : Bool) → outcomeOf (unlessRefusedWith (cond x (failed 23) (cond y (failed 21) Passed)) d b (removedLeft memory since r b d)) ≡ outcomeBy low (refuse x 23 (refuse y 21 (good bytes)))
+      by : (x y : Bool) → outcomeOf (unlessRefusedWith (cond x (failed 23) (cond y (failed 21) Passed)) d b (removedLeft since r b d)) ≡ outcomeBy low (refuse x 23 (refuse y 21 (good bytes)))
       by true y = refl
       by false true = refl
       by false false = λ i. record { answer = done; store = e i; buffer = written b 0 bytes }
 
-  module _ (fk : Fit (d .keys)) (fl : Fit (d .links)) (is : countsAsStarted v ≡ true → IsMemoryAfter d low (memory d low)) where
+  module _ (fk : Fit (d .keys)) (fl : Fit (d .links)) where
     -- the tables are 01's store
-    store-is : countsAsStarted v ≡ true → viewOf (removedLeft memory since r b d .tables) ≡ withMemory (calls.drained v low) (memoryAfter v (v .memory) (inspected v low))
+    store-is : countsAsStarted v ≡ true → viewOf (removedLeft since r b d .tables) ≡ withMemory (calls.drained v low) (memoryAfter v (v .memory) (inspected v low))
     store-is h =
-        let (m, holds) = is h in
-        remove-view (d .state) (d .keys) (d .links) (d .certs) (d .order) fk fl h low (omega arith) (memory d low) holds ∙ ap (withMemory (calls.drained v low)) m
+        let (m, holds) = memory-left (d .state) (d .keys) (d .links) (d .certs) (d .order) fk fl h low in
+        remove-view (d .state) (d .keys) (d .links) (d .certs) (d .order) fk fl h low (omega arith) (memoryLeftOf d low) holds ∙ ap (withMemory (calls.drained v low)) m
 
     -- it does 01's call
-    pub remove-did : (x : Left) → x ≡ removeLeft memory since r b d → Did (calls.remove r since b) (removeLeft memory since r b) d x
+    pub remove-did : (x : Left) → x ≡ removeLeft since r b d → Did (calls.remove r since b) (removeLeft since r b) d x
     unfolding isStart bufferOf perform nothingDone
-    remove-did = did-tested (calls.remove r since b) (removeLeft memory since r b) d (removeCheck (d .state) r b (length bytes)) (removedLeft memory since r b d) refl refl refl (λ h. remove-is (store-is h))
+    remove-did = did-tested (calls.remove r since b) (removeLeft since r b) d (removeCheck (d .state) r b (length bytes)) (removedLeft since r b d) refl refl refl (λ h. remove-is (store-is h))
 
     -- ---- one law for each way out of the code; c: whether the tables count as started
 
     module _ (c : Bool) (e : c ≡ countsAsStarted v) where
       -- 2
-      pub says-unstarted : not c ≡ true → (o : Outcome) → o ≡ refusal (d .state) (Number 2) → Did (calls.remove r since b) (removeLeft memory since r b) d (left o (d .keys) (d .links) (d .certs) (d .order) b)
-      says-unstarted h o f = remove-did _ (left-refused _ d (removedLeft memory since r b d) _ (tested-no _ _ c e h) o f)
+      pub says-unstarted : not c ≡ true → (o : Outcome) → o ≡ refusal (d .state) (Number 2) → Did (calls.remove r since b) (removeLeft since r b) d (left o (d .keys) (d .links) (d .certs) (d .order) b)
+      says-unstarted h o f = remove-did _ (left-refused _ d (removedLeft since r b d) _ (tested-no _ _ c e h) o f)
 
       module _ (h : not c ≡ false) (x : Bool) (g : x ≡ beyond (optionOf (d .state .«last_anchor» .0)) r) where
         -- 23
-        pub says-beyond : x ≡ true → (o : Outcome) → o ≡ refusal (d .state) (Number 23) → Did (calls.remove r since b) (removeLeft memory since r b) d (left o (d .keys) (d .links) (d .certs) (d .order) b)
-        says-beyond t o f = remove-did _ (left-refused _ d (removedLeft memory since r b d) _ (tested-by _ _ c e h _ (check-beyond (d .state) r b (length bytes) x g t)) o f)
+        pub says-beyond : x ≡ true → (o : Outcome) → o ≡ refusal (d .state) (Number 23) → Did (calls.remove r since b) (removeLeft since r b) d (left o (d .keys) (d .links) (d .certs) (d .order) b)
+        says-beyond t o f = remove-did _ (left-refused _ d (removedLeft since r b d) _ (tested-by _ _ c e h _ (check-beyond (d .state) r b (length bytes) x g t)) o f)
 
         -- the answer, for the code's new bottom
         module _ (n : x ≡ false) (lowest : ℕ) (l : lowest ≡ low) (fits : Bool) (b′ : List ℕ) (a : Answered v lowest since b fits b′) where
@@ -176,17 +171,17 @@ module _ (memory : Tables → ℕ → Memory) (since : Option ℕ) (r : ℕ) (b 
           length-is = ap (λ (y : ℕ). length (removeBytes v y since)) l
 
           -- 21
-          pub says-short : not fits ≡ true → (o : Outcome) → o ≡ refusal (d .state) (Number 21) → Did (calls.remove r since b) (removeLeft memory since r b) d (left o (d .keys) (d .links) (d .certs) (d .order) b′)
+          pub says-short : not fits ≡ true → (o : Outcome) → o ≡ refusal (d .state) (Number 21) → Did (calls.remove r since b) (removeLeft since r b) d (left o (d .keys) (d .links) (d .certs) (d .order) b′)
           says-short t o f =
               let (k, same) = a .short (not-true fits t) in
-              remove-did _ (ap (λ (y : List ℕ). left o (d .keys) (d .links) (d .certs) (d .order) y) same ∙ left-refused _ d (removedLeft memory since r b d) _ (tested-by _ _ c e h _ (check-short (d .state) r b (length bytes) x g n (omega (arith, k, length-is)))) o f)
+              remove-did _ (ap (λ (y : List ℕ). left o (d .keys) (d .links) (d .certs) (d .order) y) same ∙ left-refused _ d (removedLeft since r b d) _ (tested-by _ _ c e h _ (check-short (d .state) r b (length bytes) x g n (omega (arith, k, length-is)))) o f)
 
           -- done
-          pub says-done : not fits ≡ false → (k : ℕ) → k ≡ below (d .keys) (d .order) (d .state .count) lowest → (m : Memory) → m ≡ memory d lowest → (t : State) → t ≡ removedState (d .state) lowest (d .state .count - k) m → {ks ls cs os : List ℕ}
+          pub says-done : not fits ≡ false → (k : ℕ) → k ≡ below (d .keys) (d .order) (d .state .count) lowest → (m : Memory) → m ≡ memoryLeftOf d lowest → (t : State) → t ≡ removedState (d .state) lowest (d .state .count - k) m → {ks ls cs os : List ℕ}
               → ks ≡ emptied (d .keys) 8 (d .order) k → ls ≡ emptied (d .links) 328 (d .order) k → cs ≡ emptied (d .certs) 1 (d .order) k → os ≡ drained (d .order) (d .state .count) k
-              → Did (calls.remove r since b) (removeLeft memory since r b) d (record { answer = Done; tables = tables t ks ls cs os; buffer = b′ })
+              → Did (calls.remove r since b) (removeLeft since r b) d (record { answer = Done; tables = tables t ks ls cs os; buffer = b′ })
           says-done t k below-is m memory-is u f w y z q =
               let (room, same) = a .whole (not-false fits t) in
               let whole : b′ ≡ written b 0 bytes = same ∙ ap (λ (i : ℕ). written b 0 (removeBytes v i since)) l in
-              let after = drained-is (λ i j. removedState (d .state) i j (memory d low)) low d lowest k l below-is u (f ∙ ap (removedState (d .state) lowest (d .state .count - k)) (memory-is ∙ ap (memory d) l)) w y z q in
-              remove-did _ (left-passed _ d (removedLeft memory since r b d) b (tested-by _ _ c e h _ (check-fits (d .state) r b (length bytes) x g n (omega (arith, room, length-is)))) _ (λ i. record { answer = Done; tables = after i; buffer = whole i }))
+              let after = drained-is (λ i j. removedState (d .state) i j (memoryLeftOf d low)) low d lowest k l below-is u (f ∙ ap (removedState (d .state) lowest (d .state .count - k)) (memory-is ∙ ap (memoryLeftOf d) l)) w y z q in
+              remove-did _ (left-passed _ d (removedLeft since r b d) b (tested-by _ _ c e h _ (check-fits (d .state) r b (length bytes) x g n (omega (arith, room, length-is)))) _ (λ i. record { answer = Done; tables = after i; buffer = whole i }))

@@ -1,5 +1,6 @@
 // Origin: none.
-// The C boundary: one function for each call, over the proved calls. Answers cross as numbers.
+// The C boundary: one function for each call, over the proved calls, and the sum of counters. Answers cross as numbers.
 pub mod commit;
+pub mod counters;
 pub mod points;
 pub mod rounds;

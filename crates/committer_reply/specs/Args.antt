@@ -2,6 +2,7 @@
 use Prim.Native.Nat.{ℕ, _/_, _%_}
 use mathlib.Core.Path.{_≡_, refl}
 use mathlib.Core.Bool.{not, cond}
+use mathlib.Core.Option.{Option, none, some}
 use lib.Dec.{eqb}
 use borrow.Author.Tests.{ne-eqb}
 use Rattle.models.specs.declared.info.PointInfo.{PointInfo}
@@ -25,6 +26,10 @@ startArgsIn w = record {
   used = usedIn (w .used);
 }
 
+-- `stats_since` of a remove: h is 0 for none
+unfoldable pub sinceIn : ℕ → ℕ → Option ℕ
+sinceIn h r = cond (eqb h 0) none (some r)
+
 unfoldable pub infoIn : Resolution → PointInfo
 infoIn t = record {
   status = t .status;
@@ -46,6 +51,14 @@ used-none n e = rw e refl
 pub used-some : (n : ℕ) → (n ≡ 4294967295 → ⊥) → Peer n ≡ usedIn n
 unfolding usedIn
 used-some n d = rw (ne-eqb _ _ d) refl
+
+pub since-none : (h r : ℕ) → h ≡ 0 → none ≡ sinceIn h r
+unfolding sinceIn
+since-none h r e = rw e refl
+
+pub since-some : (h r : ℕ) → (h ≡ 0 → ⊥) → some r ≡ sinceIn h r
+unfolding sinceIn
+since-some h r d = rw (ne-eqb _ _ d) refl
 
 pub begins-is : (w : Start) (u : UsedAuthor) → u ≡ usedIn (w .used) → _≡_ {A = StartArgs} (record {
   genesis = record { 0 = w .genesis };

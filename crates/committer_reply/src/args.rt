@@ -1,12 +1,14 @@
 // Origin: none.
 // Arguments of the C boundary as the calls' own.
 ghost use mathlib.Core.Path.{_≡_};
-ghost use Rattle.committer_reply.specs.Args.{startArgsIn, usedIn, infoIn};
+ghost use Rattle.stats.specs.Ranges.{sinceOf};
+ghost use Rattle.committer_reply.specs.Args.{startArgsIn, usedIn, sinceIn, infoIn};
 use commit_state::back::StartArgs;
 use commit_state::back::UsedAuthor;
 use models::info::PointInfo;
 use models::parts::PointId;
 use models::parts::Round;
+use stats::ranges::Since;
 
 // What a start takes. after_gap: 0 for no. used: the author of the bottom's used mark, 4294967295 for none.
 #[repr(C)]
@@ -43,6 +45,16 @@ pub fn start_args_in(with: Start) -> StartArgs
         after_gap: with.after_gap != 0,
         used,
     }
+}
+
+// `stats_since` of a remove, as its call takes it. has_since: 0 for none.
+pub fn since_in(has_since: u32, since: u32) -> Since
+    ensures { λ r. ⌜ sinceOf r ≡ sinceIn «has_since» since ⌝ }
+{
+    if has_since == 0 {
+        return Since::Nothing;
+    }
+    Since::From(Round(since))
 }
 
 // What a resolution gives. marks: bit 0 proof, 1 trigger, 2 cause; further bits aren't read. includes, witness: their numbers of links.

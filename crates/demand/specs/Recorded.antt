@@ -1,5 +1,5 @@
--- Demand 3 (01: 'Demand 3') of the code's loop over recorded calls: for all bytes, tables and buffers that it is given, with no premise about
--- their widths.
+-- Demand 3 (01: 'Demand 3') of the code's loop over recorded calls, the ten of 01's lists and resets: for all bytes, tables and buffers that it
+-- is given, with no premise about their widths.
 use Prim.Native.Nat.{ℕ, zero, suc, _+_, _<_, _^_}
 use mathlib.Core.Path.{_≡_, refl, sym, _∙_, subst, ap}
 use mathlib.Core.Bool.{Bool, true, false, cond}
@@ -21,11 +21,11 @@ use Rattle.models.specs.Digest.{words, words-length}
 use Rattle.commit_answer.specs.Answer.{Tables, viewOf, Left, outcomeOf, answerOf, Did, byTables, call-by}
 use Rattle.commit_answer.specs.declared.answer.Outcome.{Outcome}
 use Rattle.trace.specs.Numbers.{numberAt, idAt}
-use Rattle.trace.specs.Head.{part, headAt}
+use Rattle.trace.specs.Head.{known, part, headAt}
 use Rattle.trace.specs.Fields.{callBy}
 use Rattle.trace.specs.declared.head.Kind.{Kind}
 use Rattle.trace.specs.declared.head.Kind.the-variants as kind
-use Rattle.play_calls.specs.Calls.{isCall, takesBuffer, modelBy}
+use Rattle.play_calls.specs.Calls.{takesBuffer, modelBy}
 use Rattle.play.specs.Plays.{Plays, PlaysAt}
 use Rattle.play.specs.Runs.{Runs, none-yet, one-more}
 use Rattle.demand.specs.Code.{Made, Chained, lastTables, callsOf, historiesIn, resolutionsIn, AllSaid, demand-3-of-code}
@@ -43,7 +43,7 @@ madeIf false c m d x h = []
 
 -- that of a record which was played
 abbrev pub madeBy : (k : Kind) (f : List ℕ) (d : Tables) (w : List ℕ) (o : Outcome) (e : Tables) (v : List ℕ) → Plays k f d w o e v → List Made
-madeBy k f d w o e v q = madeIf (isCall k) (callBy k f w) (modelBy k f w) d (leftBy k o e v) (q .makes .made)
+madeBy k f d w o e v q = madeIf (known k) (callBy k f w) (modelBy k f w) d (leftBy k o e v) (q .makes .made)
 
 abbrev fieldsAt : List ℕ → ℕ → List ℕ
 fieldsAt bs p = part bs (headAt bs p .from) (headAt bs p .end)
@@ -98,7 +98,7 @@ unfolding madeIn lastTables
 run-chained bs b w p e v none-yet = (tt, refl)
 run-chained bs b w p e v (one-more {p = x} {c = c} {u = u} o d z r l q) =
     chain-more b c d (madeIn bs b w x c u r) (madeBy (headAt bs x .kind) (fieldsAt bs x) c u o d z q) (run-chained bs b w x c u r)
-    (if-chained (isCall (headAt bs x .kind)) _ _ c (leftBy (headAt bs x .kind) o d z) (q .makes .made) (λ n. q .makes .broken n .1))
+    (if-chained (known (headAt bs x .kind)) _ _ c (leftBy (headAt bs x .kind) o d z) (q .makes .made) (λ n. q .makes .broken n .1))
 
 -- ---- digests
 
@@ -156,7 +156,7 @@ unfolding madeIn
 run-fits bs b w p e v none-yet = tt
 run-fits bs b w p e v (one-more {p = x} {c = c} {u = u} o d z r l q) =
     fit-append (madeIn bs b w x c u r) (madeBy (headAt bs x .kind) (fieldsAt bs x) c u o d z q) (run-fits bs b w x c u r)
-    (if-fits (isCall (headAt bs x .kind)) _ _ c (leftBy (headAt bs x .kind) o d z) (q .makes .made) (bytes-fit (headAt bs x .kind) (fieldsAt bs x) u (q .bytes)))
+    (if-fits (known (headAt bs x .kind)) _ _ c (leftBy (headAt bs x .kind) o d z) (q .makes .made) (bytes-fit (headAt bs x .kind) (fieldsAt bs x) u (q .bytes)))
 
 in-list : (c : Call) → DigestFits c → isResetCall c ≡ false → InList c
 unfolding isResetCall
@@ -184,7 +184,7 @@ commit-did : (k : Kind) (f : List ℕ) (d : Tables) (w : List ℕ) (o : Outcome)
 unfolding callBy
 commit-did k f d w o e v i g h q =
     subst (λ (j : Id). Did (commit j w) (modelBy kind.Commit f w) d (record { answer = o .answer; tables = e; buffer = v })) h
-    (subst (λ (j : Kind). isCall j ≡ true → Did (callBy j f w) (modelBy j f w) d (leftBy j o e v)) g (q .makes .made) refl)
+    (subst (λ (j : Kind). known j ≡ true → Did (callBy j f w) (modelBy j f w) d (leftBy j o e v)) g (q .makes .made) refl)
 
 -- whether anchors are handed out
 handsOut : calls.Answer → Bool

@@ -18,7 +18,7 @@ upto-same zero f g h = refl
 upto-same (suc n) f g h = ap₂ _++_ (upto-same n f g (λ i l. h i (omega arith))) (h n (omega arith))
 
 -- the first list first
-upto-front : {A : Type 0} (n : ℕ) (f : ℕ → List A) → upTo (suc n) f ≡ f 0 ++ upTo n (λ i. f (suc i))
+pub upto-front : {A : Type 0} (n : ℕ) (f : ℕ → List A) → upTo (suc n) f ≡ f 0 ++ upTo n (λ i. f (suc i))
 unfolding upTo
 upto-front zero f = sym (append-nil (f 0))
 upto-front (suc n) f = ap (λ z. z ++ f (suc n)) (upto-front n f) ∙ append-assoc (f 0) (upTo n (λ i. f (suc i))) (f (suc n))

@@ -62,7 +62,7 @@ module _ (w : Bool) (b : List ℕ) (at : ℕ) where
 -- ---- things
 
 -- the lists of the numbers from k on
-upto-split : {A : Type 0} (f : ℕ → List A) (k n : ℕ) → k < n → (zs : List A) × (upTo n f ≡ upTo k f ++ (f k ++ zs))
+pub upto-split : {A : Type 0} (f : ℕ → List A) (k n : ℕ) → k < n → (zs : List A) × (upTo n f ≡ upTo k f ++ (f k ++ zs))
 unfolding upTo
 upto-split f k zero l = absurd (omega arith)
 upto-split f k (suc n) l =

@@ -18,6 +18,7 @@ use answer_bytes::emit_id;
 use answer_bytes::emit_number;
 use inspector_counters::round::passes;
 use inspector_counters::tests::PointTest;
+use models::parts::Round;
 
 // The event of this kind with the id at place q.
 pub fn emit_single(
@@ -112,19 +113,19 @@ pub fn emit_fork(
     e: Emitted,
     write: bool,
     author: u32,
-    round: u32,
+    round: Round,
     found: u16,
 ) -> Emitted
     requires { ⌜ Range (now certs) (now order) low high × (length (now keys) ≡ length (now order) * 8) ⌝ }
     requires { ⌜ found ≡ countOf (now keys) (now certs) (now order) low high author Found ⌝ }
-    requires { ⌜ Ready eventBytes write (now b) e (forkOf author round (digestsOf (now keys) (now certs) (now order) low (high - low) author)) ⌝ }
+    requires { ⌜ Ready eventBytes write (now b) e (forkOf author (round .0) (digestsOf (now keys) (now certs) (now order) low (high - low) author)) ⌝ }
     ensures { λ r. ⌜ Told eventBytes write (now (b .entry)) e
-        (forkOf author round (digestsOf (now (keys .entry)) (now (certs .entry)) (now (order .entry)) low (high - low) author)) r (now (b .exit)) ⌝ }
+        (forkOf author (round .0) (digestsOf (now (keys .entry)) (now (certs .entry)) (now (order .entry)) low (high - low) author)) r (now (b .exit)) ⌝ }
 {
     if 1 < found {
         let a1 = emit_number(b, e.at, write, 1, 4);
         let a2 = emit_number(b, a1, write, 1, author as u64);
-        let a3 = emit_number(b, a2, write, 4, round as u64);
+        let a3 = emit_number(b, a2, write, 4, round.0 as u64);
         let a4 = emit_number(b, a3, write, 4, found as u64);
         let from = Emitted { at: a4, count: 0 };
         let digests = emit_digests(keys, certs, order, low, high, b, from, write, author);

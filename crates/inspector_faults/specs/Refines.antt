@@ -2,9 +2,7 @@
 use Prim.Native.Nat.{ℕ, zero, suc, _+_, _-_}
 use mathlib.Core.Path.{_≡_, refl, sym, ap, ap₂, _∙_}
 use mathlib.Core.List.{List, _++_}
-use mathlib.Core.Bool.{cond}
 use native.Mathlib.Omega.{arith}
-use lib.Dec.{eqb}
 use Rattle.laws.specs.Test.{leOr}
 use Rattle.laws.specs.Lists.{upTo}
 use Rattle.spec.specs.Store.{Store}
@@ -18,12 +16,14 @@ use Rattle.inspector_counters.specs.Places.{lowOf, highOf}
 use Rattle.inspector_counters.specs.Tests.{testOf}
 use Rattle.inspector_counters.specs.Count.{spanOf}
 use Rattle.inspector_events.specs.Passing.{upto-same}
-use Rattle.inspector_faults.specs.Faults.{testFor, faultOf, roundFaults}
+use Rattle.inspector_faults.specs.Faults.{kindOf, testFor, bySingle, faultOf, roundFaults}
 use Rattle.inspector_events.specs.Refines.{singles-is, fork-is}
+use Rattle.inspector_faults.specs.declared.Fault.{Fault}
+use Rattle.inspector_faults.specs.declared.Fault.the-variants as fault
 
--- the events of this kind by the author a, of a round of 01
-unfoldable pub faults : ℕ → Store → InspectedRound → ℕ → List Event
-faults kind v x a = cond (eqb kind 4) (equivocations v x a) (singles kind (testOf (testFor kind)) v x a)
+-- the events of this fault by the author a, of a round of 01
+unfoldable pub faults : Fault → Store → InspectedRound → ℕ → List Event
+faults f v x a = bySingle f (singles (kindOf f) (testOf (testFor f)) v x a) (equivocations v x a)
 
 -- of all rounds shown, round by round
 pub over-rounds : (v : Store) (f : InspectedRound → ℕ → List Event) (b : ℕ) → over f (shown v b) ≡ upTo (b - firstShown v) (λ j. upTo 32 (f (inspectedRound v (firstShown v + j))))
@@ -58,35 +58,35 @@ module _ (s : State) (ks ls cs os : List ℕ) (fk : Fit ks) (fl : Fit ls) (t : S
     high = highOf s ks os r
 
     module _ (x : InspectedRound) (e : x .round ≡ r) (a : ℕ) where
-      fault-is : (kind : ℕ) → faultOf ks cs os low (high - low) r kind a ≡ faults kind v x a
+      fault-is : (f : Fault) → faultOf ks cs os low (high - low) r f a ≡ faults f v x a
       unfolding faultOf faults
-      fault-is kind = ap₂ (λ y z. cond (eqb kind 4) y z) (fork-is s ks ls cs os fk fl t r x e a) (singles-is s ks ls cs os fk fl t r x e a kind (testFor kind))
+      fault-is f = ap₂ (bySingle f) (singles-is s ks ls cs os fk fl t r x e a (kindOf f) (testFor f)) (fork-is s ks ls cs os fk fl t r x e a)
 
     -- of a round, by rising author
-    round-is : (kind : ℕ) → roundFaults ks cs os (s .count) kind r ≡ upTo 32 (faults kind v (inspectedRound v r))
+    round-is : (f : Fault) → roundFaults ks cs os (s .count) f r ≡ upTo 32 (faults f v (inspectedRound v r))
     unfolding roundFaults spanOf
-    round-is kind = upto-same 32 (faultOf ks cs os low (high - low) r kind) (faults kind v (inspectedRound v r)) (λ a l. fault-is (inspectedRound v r) refl a kind)
+    round-is f = upto-same 32 (faultOf ks cs os low (high - low) r f) (faults f v (inspectedRound v r)) (λ a l. fault-is (inspectedRound v r) refl a f)
 
   module _ (b : ℕ) where
     -- of all rounds shown
-    rounds-are : (kind : ℕ) → upTo (b - firstShown v) (λ j. roundFaults ks cs os (s .count) kind (firstShown v + j)) ≡ over (faults kind v) (shown v b)
-    rounds-are kind =
-        upto-same (b - firstShown v) (λ j. roundFaults ks cs os (s .count) kind (firstShown v + j)) (λ j. upTo 32 (faults kind v (inspectedRound v (firstShown v + j)))) (λ j l. round-is (firstShown v + j) kind)
-        ∙ sym (over-rounds v (faults kind v) b)
+    rounds-are : (f : Fault) → upTo (b - firstShown v) (λ j. roundFaults ks cs os (s .count) f (firstShown v + j)) ≡ over (faults f v) (shown v b)
+    rounds-are f =
+        upto-same (b - firstShown v) (λ j. roundFaults ks cs os (s .count) f (firstShown v + j)) (λ j. upTo 32 (faults f v (inspectedRound v (firstShown v + j)))) (λ j l. round-is (firstShown v + j) f)
+        ∙ sym (over-rounds v (faults f v) b)
 
-    -- the four kinds
-    pub trans-invalid-are : upTo (b - firstShown v) (λ j. roundFaults ks cs os (s .count) 1 (firstShown v + j)) ≡ over (singles 1 isTransInvalid v) (shown v b)
-    unfolding faults testFor testOf
-    trans-invalid-are = rounds-are 1
+    -- the four faults
+    pub trans-invalid-are : upTo (b - firstShown v) (λ j. roundFaults ks cs os (s .count) fault.TransInvalid (firstShown v + j)) ≡ over (singles 1 isTransInvalid v) (shown v b)
+    unfolding faults bySingle kindOf testFor testOf
+    trans-invalid-are = rounds-are fault.TransInvalid
 
-    pub invalid-are : upTo (b - firstShown v) (λ j. roundFaults ks cs os (s .count) 2 (firstShown v + j)) ≡ over (singles 2 isInvalid v) (shown v b)
-    unfolding faults testFor testOf
-    invalid-are = rounds-are 2
+    pub invalid-are : upTo (b - firstShown v) (λ j. roundFaults ks cs os (s .count) fault.Invalid (firstShown v + j)) ≡ over (singles 2 isInvalid v) (shown v b)
+    unfolding faults bySingle kindOf testFor testOf
+    invalid-are = rounds-are fault.Invalid
 
-    pub ill-formed-are : upTo (b - firstShown v) (λ j. roundFaults ks cs os (s .count) 3 (firstShown v + j)) ≡ over (singles 3 isIllFormed v) (shown v b)
-    unfolding faults testFor testOf
-    ill-formed-are = rounds-are 3
+    pub ill-formed-are : upTo (b - firstShown v) (λ j. roundFaults ks cs os (s .count) fault.IllFormed (firstShown v + j)) ≡ over (singles 3 isIllFormed v) (shown v b)
+    unfolding faults bySingle kindOf testFor testOf
+    ill-formed-are = rounds-are fault.IllFormed
 
-    pub equivocations-are : upTo (b - firstShown v) (λ j. roundFaults ks cs os (s .count) 4 (firstShown v + j)) ≡ over (equivocations v) (shown v b)
-    unfolding faults
-    equivocations-are = rounds-are 4
+    pub equivocations-are : upTo (b - firstShown v) (λ j. roundFaults ks cs os (s .count) fault.Equivocated (firstShown v + j)) ≡ over (equivocations v) (shown v b)
+    unfolding faults bySingle
+    equivocations-are = rounds-are fault.Equivocated

@@ -1,11 +1,12 @@
 -- The rows that a round leaves, and those that it meets (01: inspector.rs).
-use Prim.Native.Nat.{ℕ, zero, suc, _+_, _-_, _*_, _<_, _≤_}
+use Prim.Native.Nat.{ℕ, suc, _+_, _-_, _*_, _<_, _≤_}
 use mathlib.Core.Path.{_≡_, refl, sym, ap, subst, _∙_}
-use mathlib.Core.List.{List}
-use mathlib.Core.Bool.{Bool, true, false, cond}
+use mathlib.Core.List.{List, _++_}
+use mathlib.Core.Bool.{Bool, true, cond}
 use native.Mathlib.Omega.{arith}
-use lib.Dec.{eqb, ltb, leb}
-use lib.ListN.{length, getD}
+use lib.Dec.{ltb}
+use lib.ListN.{length, getD, replicate, length-append, length-replicate}
+use lib.Seq.{length-take-le, getD-take, take-append-seam}
 use borrow.Author.Tests.{eq-eqb, ne-eqb, ltb-true, leb-true}
 use Rattle.laws.specs.Test.{and-l}
 use Rattle.laws.specs.Lists.{keep}
@@ -14,7 +15,7 @@ use Rattle.spec.specs.Store as store
 use Rattle.spec.specs.Store.{Store}
 use Rattle.spec.specs.Rules.{countsAsStarted}
 use Rattle.spec.specs.Inspect.{isTrusted, placesIn, roundData}
-use Rattle.spec.specs.Inspection.{before}
+use Rattle.spec.specs.Inspection.{before, kept-few}
 use Rattle.models.specs.Digest.{Fit}
 use Rattle.models.specs.Tables.{Inside}
 use Rattle.dag_round_keys.specs.Sorted.{Sorted}
@@ -24,16 +25,27 @@ use Rattle.tables_test.specs.View.{view}
 use Rattle.tables_test.specs.Refines.{Started, counted}
 use Rattle.back_walk.specs.Words.{Placed}
 use Rattle.back_history.specs.Model.{Range}
+use Rattle.back_history.specs.Refines.{well}
 use Rattle.inspector_counters.specs.Count.{spanOf, span-ready, span-range}
 use Rattle.inspector_counters.specs.declared.round.Span.{Span}
 use Rattle.inspector_references.specs.Trusted.{Listed, trustedIn, trusted-is, span-few}
 use Rattle.inspector_references.specs.Referring.{rowAuthor, RowOf, Retained, trusted-placed}
 use Rattle.inspector_rows.specs.Rows.{entriesOf, RowsFit}
-use Rattle.inspector_rows.specs.Must.{mustRows, must-is, must-rows, must-fit}
+use Rattle.inspector_rows.specs.Must.{mustRows, must-same, must-is, must-rows, must-fit}
 use Rattle.inspector_rows.specs.Memory.{memoryRows, rows-is, rows-authors}
 
--- the first n rows hold 01's memory of round r
-pub record RoundRows (s : State) (ks ls cs os : List ℕ) (r : ℕ) (rs : List ℕ) (n : ℕ) : Type 0 where
+-- the trusted points of round r
+abbrev pub trustedOf : Store → ℕ → List ℕ
+trustedOf v r = keep (isTrusted v) (placesIn v r)
+
+-- the table t with their rows
+unfoldable pub roundRows : State → List ℕ → List ℕ → List ℕ → List ℕ → ℕ → List ℕ → List ℕ
+roundRows s ks ls cs os r t = let qs = trustedOf (view s ks ls cs os) r in mustRows ks ls qs (length qs) (ltb (s .bottom .0) r) t
+
+-- of the table t round r leaves rs: the first n rows hold 01's memory of it
+pub record RoundRows (s : State) (ks ls cs os : List ℕ) (r : ℕ) (t rs : List ℕ) (n : ℕ) : Type 0 where
+  pub count : n ≡ length (trustedOf (view s ks ls cs os) r)
+  pub words : rs ≡ roundRows s ks ls cs os r t
   pub few : n ≤ 128
   pub entries : entriesOf rs n ≡ roundData (view s ks ls cs os) r .entries
   pub fit : RowsFit rs n
@@ -75,18 +87,33 @@ module _ (s : State) (ks ls cs os : List ℕ) (fk : Fit ks) (fl : Fit ls) (h : c
     must-ready rs b = ((omega (arith, here .size, here .few), omega (arith, here .few)), trusted-placed s ks ls cs os fk fl h r l n here)
 
     -- their rows are those that the round leaves
-    pub round-rows : (rs r′ : List ℕ) → 1_408 ≤ length rs → r′ ≡ mustRows ks ls l n (ltb (s .bottom .0) r) rs → RoundRows s ks ls cs os r r′ n
+    pub round-rows : (rs r′ : List ℕ) → 1_408 ≤ length rs → r′ ≡ mustRows ks ls l n (ltb (s .bottom .0) r) rs → RoundRows s ks ls cs os r rs r′ n
+    unfolding roundRows
     round-rows rs r′ b e =
         let live : Bool = ltb (s .bottom .0) r in
         let up : live ≡ true → s .bottom .0 < r = λ y. ltb-true (s .bottom .0) r y in
         let room : n * 11 ≤ length rs = omega (arith, here .few) in
-        subst (λ (x : List ℕ). RoundRows s ks ls cs os r x n) (sym e)
+        let qs = trustedOf v r in
+        let many : n ≡ length qs = sym (length-take-le n l (omega (arith, here .size, here .few))) ∙ ap length (here .are) in
+        let same : (j : ℕ) → j < n → getD l j 0 ≡ getD qs j 0 = λ j m. sym (getD-take n l j 0 m) ∙ ap (λ (x : List ℕ). getD x j 0) (here .are) in
+        subst (λ (x : List ℕ). RoundRows s ks ls cs os r rs x n) (sym e)
         (record {
+          count = many;
+          words = must-same ks ls l qs n live rs same ∙ ap (λ (x : ℕ). mustRows ks ls qs x live rs) many;
           few = here .few;
           entries = must-is s ks ls cs os fk fl h r l n live here up rs room;
           fit = must-fit s ks ls cs os fk fl h r l n live here up rs room;
           rows = must-rows s ks ls cs os fk fl h r l n live here up rs room;
         })
+
+  -- such rows are there for all tables
+  pub round-left : (rs : List ℕ) → 1_408 ≤ length rs → RoundRows s ks ls cs os r rs (roundRows s ks ls cs os r rs) (length (trustedOf v r))
+  round-left rs b =
+      let qs = trustedOf v r in
+      let z : List ℕ = replicate (128 - length qs) 0 in
+      let few : length qs ≤ 128 = kept-few v (well s ks ls cs os fk fl t) r (isTrusted v) in
+      let y = round-rows (qs ++ z) (length qs) (record { size = length-append qs z ∙ omega (arith, length-replicate {A = ℕ} (128 - length qs) 0); few = few; are = take-append-seam qs z }) rs _ b refl in
+      subst (λ (x : List ℕ). RoundRows s ks ls cs os r rs x (length qs)) (y .words) y
 
   -- it has room
   pub memory-ready : (rs : List ℕ) → 1_408 ≤ length rs → (s .memory .count ≤ 128) × (s .memory .count * 11 ≤ length rs)
@@ -107,9 +134,9 @@ module _ (s : State) (ks ls cs os : List ℕ) (fk : Fit ks) (fl : Fit ls) (h : c
       })
 
   -- above it: those that the round below leaves
-  pub round-before : (x : ℕ) (rs : List ℕ) (n : ℕ) → x ≡ r - 1 → (r ≡ s .bottom .0 → ⊥) → RoundRows s ks ls cs os x rs n → RowsBefore s ks ls cs os r rs n
+  pub round-before : (x : ℕ) (w rs : List ℕ) (n : ℕ) → x ≡ r - 1 → (r ≡ s .bottom .0 → ⊥) → RoundRows s ks ls cs os x w rs n → RowsBefore s ks ls cs os r rs n
   unfolding before view
-  round-before x rs n e d y = record {
+  round-before x w rs n e d y = record {
     few = y .few;
     entries = y .entries ∙ (ap (λ z. roundData v z .entries) e ∙ ap (λ z. cond z (v .memory) (roundData v (prev r)) .entries) (sym (ne-eqb r (s .bottom .0) d)));
     authors = λ k m. y .fit k m .0;

@@ -1,8 +1,8 @@
 -- The signers that are reported at a round (01: inspector.rs).
-use Prim.Native.Nat.{ℕ, zero, suc, _+_, _-_, _*_, _<_, _≤_}
+use Prim.Native.Nat.{ℕ, _-_, _*_, _<_, _≤_}
 use mathlib.Core.Path.{_≡_, refl, sym, ap, subst, _∙_}
 use mathlib.Core.List.{List}
-use mathlib.Core.Bool.{Bool, true, false, _&&_, cond}
+use mathlib.Core.Bool.{Bool, true, _&&_, cond}
 use native.Mathlib.Omega.{arith}
 use lib.Dec.{eqb, ltb}
 use lib.ListN.{length, getD}
@@ -42,6 +42,11 @@ pub last-above : (s : State) (r x : ℕ) → (r ≡ s .bottom .0 → ⊥) → x 
 unfolding lastBefore
 last-above s r x d e = rw (ne-eqb r (s .bottom .0) d) e
 
+-- it is the round of the memory that round r meets
+pub last-is : (s : State) (ks ls cs os : List ℕ) (r : ℕ) → lastBefore s r ≡ before (view s ks ls cs os) r .last
+unfolding lastBefore before view memoryOf roundData
+last-is s ks ls cs os r = sameOr r (s .bottom .0) (λ e. rw (eq-eqb r (s .bottom .0) e) refl) (λ d. rw (ne-eqb r (s .bottom .0) d) refl)
+
 -- at round r, which meets the memory m: the signers reported by each of the n rows and by all, and how many rows report a signer
 pub record Owed (m : store.Memory) (v : Store) (r : ℕ) (rs : List ℕ) (n : ℕ) (sets : List ℕ) (sg : ℕ) : Type 0 where
   pub size : length sets ≡ 128
@@ -61,17 +66,13 @@ module _ (s : State) (ks ls cs os : List ℕ) (fk : Fit ks) (fl : Fit ls) (h : c
   pub owed-ready : 1_408 ≤ length rs → ((m ≤ length l) × (n ≤ 128) × (n * 11 ≤ length rs)) × (((j : ℕ) → j < m → Placed ks ls (getD l j 0)) × ((k : ℕ) → k < n → rowAuthor rs k < 32))
   owed-ready b = ((omega (arith, here .size, here .few), rows .few, omega (arith, rows .few)), (trusted-placed s ks ls cs os fk fl h r l m here, rows .authors))
 
-  last-is : lastBefore s r ≡ before v r .last
-  unfolding lastBefore before view memoryOf roundData
-  last-is = sameOr r (s .bottom .0) (λ e. rw (eq-eqb r (s .bottom .0) e) refl) (λ d. rw (ne-eqb r (s .bottom .0) d) refl)
-
   -- the rows are the memory that the round meets
   met : store.Memory
   met = record { last = lastBefore s r; entries = entriesOf rs n }
 
   met-is : met ≡ before v r
   unfolding met
-  met-is = λ i. record { last = last-is i; entries = rows .entries i }
+  met-is = λ i. record { last = last-is s ks ls cs os r i; entries = rows .entries i }
 
   rises : Ascending (entriesOf rs n)
   unfolding view

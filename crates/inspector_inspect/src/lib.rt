@@ -1,13 +1,14 @@
 // Origin: dag/commit/inspector.rs (inspect, last_round_data_map).
-// The rounds that a remove drains: the rows that each meets and leaves.
+// The rounds that a remove drains: the rows that each meets and leaves, what one reports (round), and all that is found at one (inspect).
 ghost use mathlib.Core.Path.{_≡_};
 ghost use mathlib.Core.Bool.{true};
 ghost use Prim.Native.Nat.{_≤_};
 ghost use lib.ListN.{length};
 ghost use Rattle.spec.specs.Rules.{countsAsStarted};
+ghost use Rattle.spec.specs.Inspection.{firstShown};
 ghost use Rattle.tables_test.specs.View.{view};
 ghost use Rattle.inspector_inspect.specs.Filled.{RoundRows, RowsBefore};
-ghost use Rattle.inspector_inspect.specs.After.{firstInspected, Left};
+ghost use Rattle.inspector_inspect.specs.After.{firstInspected, memoryLeft};
 use commit_state::state::Memory;
 use commit_state::state::State;
 use inspector_counters::round::span_at;
@@ -17,6 +18,7 @@ use inspector_rows::must_reference;
 use inspector_rows::rows_of;
 use models::parts::Round;
 
+pub mod inspect;
 pub mod round;
 
 // The rows of a round's trusted points, and their number.
@@ -31,7 +33,7 @@ pub fn fill_round(
 ) -> usize
     requires { ⌜ countsAsStarted (view s (now keys) (now links) (now certs) (now order)) ≡ true ⌝ }
     requires { ⌜ (round .0 ≤ 4000000000) × (1408 ≤ length (now rows)) ⌝ }
-    ensures { λ r. ⌜ RoundRows s (now (keys .entry)) (now (links .entry)) (now (certs .entry)) (now (order .entry)) (round .0) (now (rows .exit)) r ⌝ }
+    ensures { λ r. ⌜ RoundRows s (now (keys .entry)) (now (links .entry)) (now (certs .entry)) (now (order .entry)) (round .0) (now (rows .entry)) (now (rows .exit)) r ⌝ }
 {
     let bottom = s.bottom;
     let span = span_at(keys, order, s.count, round);
@@ -76,6 +78,17 @@ fn first_inspected(s: State) -> Round
     bottom.max(last.max(genesis))
 }
 
+// The lowest round that is reported: the first executable one above genesis, or the bottom if that is above it.
+pub fn first_shown(s: State, keys: &[u64], links: &[u64], certs: &[u64], order: &[u64]) -> Round
+    requires { ⌜ countsAsStarted (view s (now keys) (now links) (now certs) (now order)) ≡ true ⌝ }
+    ensures { λ r. ⌜ r .0 ≡ firstShown (view s (now (keys .entry)) (now (links .entry)) (now (certs .entry)) (now (order .entry))) ⌝ }
+{
+    let bottom = s.bottom;
+    let genesis = s.genesis;
+    let executable = s.first_executable;
+    bottom.max(executable.max(genesis.plus(1)))
+}
+
 // The memory after the rounds below `low` are drained: that of the last round inspected, else as it was.
 pub fn memory_after(
     s: State,
@@ -87,7 +100,7 @@ pub fn memory_after(
 ) -> Memory
     requires { ⌜ countsAsStarted (view s (now keys) (now links) (now certs) (now order)) ≡ true ⌝ }
     requires { ⌜ low .0 ≤ 4000000000 ⌝ }
-    ensures { λ r. ⌜ Left s (now (keys .entry)) (now (links .entry)) (now (certs .entry)) (now (order .entry)) (low .0) r ⌝ }
+    ensures { λ r. ⌜ r ≡ memoryLeft s (now (keys .entry)) (now (links .entry)) (now (certs .entry)) (now (order .entry)) (low .0) ⌝ }
 {
     let first = first_inspected(s);
     if low.0 <= first.0 {

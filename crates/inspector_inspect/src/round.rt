@@ -6,15 +6,22 @@ ghost use Prim.Native.Nat.{_≤_};
 ghost use lib.ListN.{length};
 ghost use Rattle.laws.specs.Lists.{keep};
 ghost use Rattle.spec.specs.Rules.{countsAsStarted};
-ghost use Rattle.spec.specs.Inspect.{isTrusted, placesIn};
+ghost use Rattle.spec.specs.Inspect.{isTrusted, placesIn, eventBytes};
 ghost use Rattle.spec.specs.Inspection.{before};
 ghost use Rattle.tables_test.specs.View.{view};
 ghost use Rattle.inspector_references.specs.Trusted.{Listed};
+ghost use Rattle.inspector_events.specs.Told.{Ready, Told};
 ghost use Rattle.inspector_inspect.specs.Filled.{RowsBefore};
 ghost use Rattle.inspector_inspect.specs.Owed.{lastBefore, Owed};
+ghost use Rattle.inspector_inspect.specs.Report.{IsReported, owedOf};
+use crate::fill_before;
 use commit_state::state::State;
+use inspector_counters::round::span_at;
+use inspector_events::emitted::Emitted;
 use inspector_not_referenced::NotReferenced;
 use inspector_not_referenced::not_referenced;
+use inspector_references::trusted_places;
+use inspector_signers::emit_signers;
 use models::parts::Round;
 
 // The round of the rows that a round meets.
@@ -62,4 +69,105 @@ pub fn signers_at(
         rows,
         n,
     )
+}
+
+// What a round reports: the rows that it meets are the first `rows`, its trusted points are at the first `count` of the places, `sets` are
+// the signers that are reported by each row, `signers` by all.
+pub struct Reported {
+    pub rows: usize,
+    pub count: usize,
+    pub places: [usize; 128],
+    pub sets: [u64; 128],
+    pub signers: u64,
+}
+
+// What this round reports; fills the rows that it meets.
+pub fn report(
+    s: State,
+    keys: &[u64],
+    links: &[u64],
+    certs: &[u64],
+    order: &[u64],
+    round: Round,
+    rows: &mut [u64],
+) -> Reported
+    requires { ⌜ countsAsStarted (view s (now keys) (now links) (now certs) (now order)) ≡ true ⌝ }
+    requires { ⌜ (round .0 ≤ 4000000000) × (1408 ≤ length (now rows)) ⌝ }
+    ensures { λ r. ⌜ IsReported s (now (keys .entry)) (now (links .entry)) (now (certs .entry)) (now (order .entry)) (round .0) (now (rows .exit)) r ⌝ }
+{
+    let n = fill_before(s, keys, links, certs, order, round, rows);
+    let span = span_at(keys, order, s.count, round);
+    let trusted = trusted_places(keys, certs, order, span.low, span.high);
+    let places = trusted.places;
+    let count = trusted.count;
+    let owed = signers_at(s, keys, links, certs, order, round, &places, count, rows, n);
+    let sets = owed.sets;
+    Reported {
+        rows: n,
+        count,
+        places,
+        sets,
+        signers: owed.signers,
+    }
+}
+
+// The events of kind 5 of what a round reports, written or only counted; the rows are those that it meets.
+pub fn emit_reported(
+    s: State,
+    keys: &[u64],
+    links: &[u64],
+    certs: &[u64],
+    order: &[u64],
+    round: Round,
+    rows: &[u64],
+    x: Reported,
+    b: &mut [u8],
+    e: Emitted,
+    write: bool,
+) -> Emitted
+    requires { ⌜ countsAsStarted (view s (now keys) (now links) (now certs) (now order)) ≡ true ⌝ }
+    requires { ⌜ IsReported s (now keys) (now links) (now certs) (now order) (round .0) (now rows) x ⌝ }
+    requires { ⌜ Ready eventBytes write (now b) e (owedOf s (now keys) (now links) (now certs) (now order) (round .0)) ⌝ }
+    ensures { λ r. ⌜ Told eventBytes write (now (b .entry)) e
+        (owedOf s (now (keys .entry)) (now (links .entry)) (now (certs .entry)) (now (order .entry)) (round .0)) r (now (b .exit)) ⌝ }
+{
+    let last = last_before(s, round);
+    let places = x.places;
+    let sets = x.sets;
+    emit_signers(
+        keys,
+        &places,
+        x.count,
+        rows,
+        &sets,
+        x.rows,
+        last,
+        b,
+        e,
+        write,
+        x.signers,
+    )
+}
+
+// The events of kind 5 of a round, written or only counted; fills the rows that it meets.
+pub fn emit_owed(
+    s: State,
+    keys: &[u64],
+    links: &[u64],
+    certs: &[u64],
+    order: &[u64],
+    round: Round,
+    rows: &mut [u64],
+    b: &mut [u8],
+    e: Emitted,
+    write: bool,
+) -> Emitted
+    requires { ⌜ countsAsStarted (view s (now keys) (now links) (now certs) (now order)) ≡ true ⌝ }
+    requires { ⌜ (round .0 ≤ 4000000000) × (1408 ≤ length (now rows)) ⌝ }
+    requires { ⌜ Ready eventBytes write (now b) e (owedOf s (now keys) (now links) (now certs) (now order) (round .0)) ⌝ }
+    ensures { λ r. ⌜ Told eventBytes write (now (b .entry)) e
+        (owedOf s (now (keys .entry)) (now (links .entry)) (now (certs .entry)) (now (order .entry)) (round .0)) r (now (b .exit)) ⌝ }
+{
+    let x = report(s, keys, links, certs, order, round, rows);
+    emit_reported(s, keys, links, certs, order, round, rows, x, b, e, write)
 }

@@ -30,7 +30,7 @@ use Rattle.tables_test.specs.View.{view}
 use Rattle.tables_test.specs.Refines.{Started, counted}
 use Rattle.back_walk.specs.Words.{Placed}
 use Rattle.back_history.specs.RefinesNeeded.{named-used, used-point, used-round}
-use Rattle.inspector_references.specs.Sets.{unionOf, union-member, one-member}
+use Rattle.inspector_references.specs.Sets.{unionOf, union-same, union-member, one-member}
 use Rattle.inspector_references.specs.Trusted.{Listed, listed-in, has-take, has-keep}
 use Rattle.inspector_references.specs.Refs.{refersAt, includes-refer, witness-refer}
 use Rattle.inspector_references.specs.Live.{author-low, refers-live}
@@ -65,6 +65,11 @@ refersRow ls q b live rs k = cond live (eqb (targetAt ls q (b + rowAuthor rs k))
 -- the authors of those of the first n places that do
 unfoldable pub referringBy : List ℕ → List ℕ → List ℕ → ℕ → ℕ → Bool → List ℕ → ℕ → ℕ
 referringBy ks ls l n b live rs k = unionOf (λ j. refersRow ls (getD l j 0) b live rs k) (λ j. 2 ^ authorAt ks (getD l j 0)) n
+
+-- the places beyond them don't count
+pub referring-same : (ks ls l m : List ℕ) (n b : ℕ) (live : Bool) (rs : List ℕ) (k : ℕ) → ((j : ℕ) → j < n → getD l j 0 ≡ getD m j 0) → referringBy ks ls l n b live rs k ≡ referringBy ks ls m n b live rs k
+unfolding referringBy
+referring-same ks ls l m n b live rs k h = union-same _ _ _ _ n (λ j i. ap (λ (q : ℕ). refersRow ls q b live rs k) (h j i)) (λ j i. ap (λ (q : ℕ). 2 ^ authorAt ks q) (h j i))
 
 module _ (ls : List ℕ) (q b : ℕ) (live : Bool) (rs : List ℕ) (k : ℕ) where
   pub row-live : (a : ℕ) → live ≡ true → a ≡ rowAuthor rs k → eqb (getD ls (q * 328 + 8 + b + a) 0) (rowPrevious rs k) ≡ refersRow ls q b live rs k

@@ -45,6 +45,14 @@ module _ (f : ℕ → Bool) (s : ℕ → ℕ) where
   pub union-end : (i g n : ℕ) → g ≡ unionOf f s i → i ≤ n → n ≤ i → g ≡ unionOf f s n
   union-end i g n e l m = let d : i ≡ n = omega arith in rw d at e
 
+-- tests and sets that are the same below n
+pub union-same : (f g : ℕ → Bool) (s t : ℕ → ℕ) (n : ℕ) → ((i : ℕ) → i < n → f i ≡ g i) → ((i : ℕ) → i < n → s i ≡ t i) → unionOf f s n ≡ unionOf g t n
+unfolding unionOf
+union-same f g s t zero a b = refl
+union-same f g s t (suc n) a b =
+    let e : unionOf f s n ≡ unionOf g t n = union-same f g s t n (λ i l. a i (omega arith)) (λ i l. b i (omega arith)) in
+    λ i. cond (a n (omega arith) i) (bitOr (e i) (b n (omega arith) i)) (e i)
+
 -- ---- who is in them
 
 -- a test and one that passes, or fails

@@ -30,8 +30,8 @@ use Rattle.back_walk.specs.Refines.{given-at, previous-at}
 use Rattle.inspector_references.specs.Sets.{without, and-false, none-member, without-member, without-lt}
 use Rattle.inspector_references.specs.Trusted.{Listed, listed-in}
 use Rattle.inspector_references.specs.Live.{author-low}
-use Rattle.inspector_references.specs.Referring.{rowAuthor, rowPrevious, rowSigned, rowPeers, referringBy, FromPlace, RowOf, Retained, trusted-used, included-is}
-use Rattle.inspector_rows.specs.Rows.{wordsFrom, from-digest, rowFrom, row-digest, row-signed, stacked, stacked-in, stacked-digest, stacked-entry, entryAt, entriesOf, entries-map, RowsFit}
+use Rattle.inspector_references.specs.Referring.{rowAuthor, rowPrevious, rowSigned, rowPeers, referringBy, referring-same, FromPlace, RowOf, Retained, trusted-used, included-is}
+use Rattle.inspector_rows.specs.Rows.{wordsFrom, from-digest, rowFrom, row-digest, row-signed, stacked, stacked-in, stacked-digest, stacked-same, stacked-entry, entryAt, entriesOf, entries-map, RowsFit}
 
 -- the row of the place q, with the peers that signed its previous point
 unfoldable pub pointRow : List ℕ → List ℕ → ℕ → List ℕ
@@ -73,6 +73,14 @@ must-by ks ls l n live q p r u e d h = rw (← e, ← d) h
 pub point-ready : (ks ls : List ℕ) (q : ℕ) (r : List ℕ) → r ≡ pointRow ks ls q → authorAt ks q < 32 → (11 ≤ length r) × (getD r 0 0 < 32)
 unfolding pointRow rowFrom
 point-ready ks ls q r e l = subst (λ (x : List ℕ). (11 ≤ length x) × (getD x 0 0 < 32)) (sym e) (omega arith, l)
+
+-- the places beyond the first n don't count
+pub must-same : (ks ls l m : List ℕ) (n : ℕ) (live : Bool) (t : List ℕ) → ((j : ℕ) → j < n → getD l j 0 ≡ getD m j 0) → mustRows ks ls l n live t ≡ mustRows ks ls m n live t
+unfolding mustRow unreferencedOf
+must-same ks ls l m n live t h =
+    stacked-same _ _ t n
+    (λ j i. ap (mustRow ks ls l n live) (h j i)
+    ∙ (let row = pointRow ks ls (getD m j 0) in λ z. set row 10 (cond (eqb (getD row 5 0) 0) 0 (without (getD row 10 0) (referring-same ks ls l m n 0 live row 0 h z)))))
 
 -- ---- 01's memory
 

@@ -113,6 +113,12 @@ module _ (row : ℕ → List ℕ) (t : List ℕ) where
       digest-alike (stacked row t n) (row k) (k * 11 + p) p
       (λ i o. let z : k * 11 + p + i ≡ k * 11 + (p + i) = omega arith in ap (λ x. getD (stacked row t n) x 0) z ∙ stacked-in n k (p + i) r l (omega arith))
 
+-- rows that are the same below n
+pub stacked-same : (row row2 : ℕ → List ℕ) (t : List ℕ) (n : ℕ) → ((i : ℕ) → i < n → row i ≡ row2 i) → stacked row t n ≡ stacked row2 t n
+unfolding stacked
+stacked-same row row2 t zero h = refl
+stacked-same row row2 t (suc n) h = let e : stacked row t n ≡ stacked row2 t n = stacked-same row row2 t n (λ i l. h i (omega arith)) in λ i. copied (e i) (n * 11) (h n (omega arith) i) 0 11
+
 -- ---- the entries
 
 -- the entry that row k holds

@@ -15,6 +15,7 @@ use answer_bytes::emit_digest;
 use answer_bytes::emit_id;
 use answer_bytes::emit_number;
 use inspector_events::emitted::Emitted;
+use models::parts::Round;
 
 // The id of row k, a point of this round.
 pub fn emit_row_id(
@@ -23,13 +24,13 @@ pub fn emit_row_id(
     write: bool,
     rows: &[u64],
     k: usize,
-    round: u32,
+    round: Round,
 ) -> usize
-    requires { ⌜ Open write (now b) at (idBytes (rowId (now rows) round k)) × (k * 11 + 11 ≤ length (now rows)) ⌝ }
-    ensures { λ r. ⌜ Sent write (now (b .entry)) at (idBytes (rowId (now (rows .entry)) round k)) r (now (b .exit)) ⌝ }
+    requires { ⌜ Open write (now b) at (idBytes (rowId (now rows) (round .0) k)) × (k * 11 + 11 ≤ length (now rows)) ⌝ }
+    ensures { λ r. ⌜ Sent write (now (b .entry)) at (idBytes (rowId (now (rows .entry)) (round .0) k)) r (now (b .exit)) ⌝ }
 {
     let author = rows[k * 11 + 0];
-    let a1 = emit_number(b, at, write, 4, round as u64);
+    let a1 = emit_number(b, at, write, 4, round.0 as u64);
     let a2 = emit_number(b, a1, write, 1, author);
     emit_digest(b, a2, write, rows, k * 11 + 1)
 }
@@ -52,7 +53,7 @@ fn emit_rows(
     rows: &[u64],
     sets: &[u64],
     n: usize,
-    round: u32,
+    round: Round,
     b: &mut [u8],
     e: Emitted,
     write: bool,
@@ -60,8 +61,8 @@ fn emit_rows(
     proofs: bool,
 ) -> Emitted
     requires { ⌜ (n * 11 ≤ length (now rows)) × (n ≤ length (now sets)) × (signer < 32) ⌝ }
-    requires { ⌜ Ready idBytes write (now b) e (rowIds (now rows) (now sets) n round signer proofs) ⌝ }
-    ensures { λ r. ⌜ Told idBytes write (now (b .entry)) e (rowIds (now (rows .entry)) (now (sets .entry)) n round signer proofs) r (now (b .exit)) ⌝ }
+    requires { ⌜ Ready idBytes write (now b) e (rowIds (now rows) (now sets) n (round .0) signer proofs) ⌝ }
+    ensures { λ r. ⌜ Told idBytes write (now (b .entry)) e (rowIds (now (rows .entry)) (now (sets .entry)) n (round .0) signer proofs) r (now (b .exit)) ⌝ }
 {
     let mut out = e;
     let mut k: usize = 0;
@@ -117,7 +118,7 @@ fn emit_blamed(
     rows: &[u64],
     sets: &[u64],
     n: usize,
-    last: u32,
+    last: Round,
     b: &mut [u8],
     at: usize,
     write: bool,
@@ -125,8 +126,8 @@ fn emit_blamed(
 ) -> usize
     requires { ⌜ (m ≤ length (now places)) × InKeys (now keys) (now places) m ⌝ }
     requires { ⌜ (n * 11 ≤ length (now rows)) × (n ≤ length (now sets)) × (signer < 32) ⌝ }
-    requires { ⌜ Open write (now b) at (idList (blamedIds (now keys) (now places) m (now rows) (now sets) n last signer)) ⌝ }
-    ensures { λ r. ⌜ Sent write (now (b .entry)) at (idList (blamedIds (now (keys .entry)) (now (places .entry)) m (now (rows .entry)) (now (sets .entry)) n last signer)) r (now (b .exit)) ⌝ }
+    requires { ⌜ Open write (now b) at (idList (blamedIds (now keys) (now places) m (now rows) (now sets) n (last .0) signer)) ⌝ }
+    ensures { λ r. ⌜ Sent write (now (b .entry)) at (idList (blamedIds (now (keys .entry)) (now (places .entry)) m (now (rows .entry)) (now (sets .entry)) n (last .0) signer)) r (now (b .exit)) ⌝ }
 {
     let none = Emitted { at: 0, count: 0 };
     let then = emit_rows(rows, sets, n, last, b, none, false, signer, false);
@@ -143,15 +144,15 @@ fn emit_proofs(
     rows: &[u64],
     sets: &[u64],
     n: usize,
-    last: u32,
+    last: Round,
     b: &mut [u8],
     at: usize,
     write: bool,
     signer: u32,
 ) -> usize
     requires { ⌜ (n * 11 ≤ length (now rows)) × (n ≤ length (now sets)) × (signer < 32) ⌝ }
-    requires { ⌜ Open write (now b) at (idList (rowIds (now rows) (now sets) n last signer true)) ⌝ }
-    ensures { λ r. ⌜ Sent write (now (b .entry)) at (idList (rowIds (now (rows .entry)) (now (sets .entry)) n last signer true)) r (now (b .exit)) ⌝ }
+    requires { ⌜ Open write (now b) at (idList (rowIds (now rows) (now sets) n (last .0) signer true)) ⌝ }
+    ensures { λ r. ⌜ Sent write (now (b .entry)) at (idList (rowIds (now (rows .entry)) (now (sets .entry)) n (last .0) signer true)) r (now (b .exit)) ⌝ }
 {
     let none = Emitted { at: 0, count: 0 };
     let counted = emit_rows(rows, sets, n, last, b, none, false, signer, true);
@@ -169,7 +170,7 @@ pub fn emit_signer(
     rows: &[u64],
     sets: &[u64],
     n: usize,
-    last: u32,
+    last: Round,
     b: &mut [u8],
     e: Emitted,
     write: bool,
@@ -177,8 +178,9 @@ pub fn emit_signer(
 ) -> Emitted
     requires { ⌜ (m ≤ length (now places)) × InKeys (now keys) (now places) m ⌝ }
     requires { ⌜ (n * 11 ≤ length (now rows)) × (n ≤ length (now sets)) × (signer < 32) ⌝ }
-    requires { ⌜ Ready eventBytes write (now b) e (signerOf (now keys) (now places) m (now rows) (now sets) n last signer ∷ []) ⌝ }
-    ensures { λ r. ⌜ Told eventBytes write (now (b .entry)) e (signerOf (now (keys .entry)) (now (places .entry)) m (now (rows .entry)) (now (sets .entry)) n last signer ∷ []) r (now (b .exit)) ⌝ }
+    requires { ⌜ Ready eventBytes write (now b) e (signerOf (now keys) (now places) m (now rows) (now sets) n (last .0) signer ∷ []) ⌝ }
+    ensures { λ r. ⌜ Told eventBytes write (now (b .entry)) e
+        (signerOf (now (keys .entry)) (now (places .entry)) m (now (rows .entry)) (now (sets .entry)) n (last .0) signer ∷ []) r (now (b .exit)) ⌝ }
 {
     let a1 = emit_number(b, e.at, write, 1, 5);
     let a2 = emit_number(b, a1, write, 1, signer as u64);
@@ -198,7 +200,7 @@ pub fn emit_signers(
     rows: &[u64],
     sets: &[u64],
     n: usize,
-    last: u32,
+    last: Round,
     b: &mut [u8],
     e: Emitted,
     write: bool,
@@ -206,8 +208,9 @@ pub fn emit_signers(
 ) -> Emitted
     requires { ⌜ (m ≤ length (now places)) × InKeys (now keys) (now places) m ⌝ }
     requires { ⌜ (n * 11 ≤ length (now rows)) × (n ≤ length (now sets)) ⌝ }
-    requires { ⌜ Ready eventBytes write (now b) e (signersOf (now keys) (now places) m (now rows) (now sets) n last signers 32) ⌝ }
-    ensures { λ r. ⌜ Told eventBytes write (now (b .entry)) e (signersOf (now (keys .entry)) (now (places .entry)) m (now (rows .entry)) (now (sets .entry)) n last signers 32) r (now (b .exit)) ⌝ }
+    requires { ⌜ Ready eventBytes write (now b) e (signersOf (now keys) (now places) m (now rows) (now sets) n (last .0) signers 32) ⌝ }
+    ensures { λ r. ⌜ Told eventBytes write (now (b .entry)) e
+        (signersOf (now (keys .entry)) (now (places .entry)) m (now (rows .entry)) (now (sets .entry)) n (last .0) signers 32) r (now (b .exit)) ⌝ }
 {
     let mut out = e;
     let mut signer: u32 = 0;

@@ -11,18 +11,18 @@ use Rattle.models.specs.Digest.{Fit}
 use Rattle.commit_answer.specs.Answer.{Tables, tables, left, Did}
 use Rattle.commit_answer.specs.declared.answer.Answer.the-variants.{Done}
 use Rattle.commit_answer.specs.declared.answer.Outcome.{Outcome}
-use Rattle.trace.specs.Head.{part, headAt}
+use Rattle.trace.specs.Head.{known, part, headAt}
 use Rattle.trace.specs.Fields.{callBy}
 use Rattle.trace.specs.declared.head.Kind.{Kind}
 use Rattle.trace.specs.declared.head.Record.{Record}
-use Rattle.play_calls.specs.Calls.{isCall, takesBuffer, modelBy}
+use Rattle.play_calls.specs.Calls.{takesBuffer, modelBy}
 
 -- What is done for a kind and its fields f. d, w: the tables and the buffer before it; o: the outcome; e, v: the tables and the buffer after it.
--- made: the record of its call. still: the buffer stays unless the call takes it. broken: all stays for a kind that isn't a call.
+-- made: the record of its call. still: the buffer stays unless the call takes it. broken: all stays for a broken record.
 pub record Makes (k : Kind) (f : List ℕ) (d : Tables) (w : List ℕ) (o : Outcome) (e : Tables) (v : List ℕ) : Type 0 where
-  pub made : isCall k ≡ true → Did (callBy k f w) (modelBy k f w) d (record { answer = o .answer; tables = e; buffer = cond (takesBuffer k) v [] })
+  pub made : known k ≡ true → Did (callBy k f w) (modelBy k f w) d (record { answer = o .answer; tables = e; buffer = cond (takesBuffer k) v [] })
   pub still : takesBuffer k ≡ false → v ≡ w
-  pub broken : isCall k ≡ false → (o .answer ≡ Done) × (e ≡ d) × (v ≡ w)
+  pub broken : known k ≡ false → (o .answer ≡ Done) × (e ≡ d) × (v ≡ w)
 
 -- What a record that is played does, and what the machine's types give, so that no theorem about a run has a premise about widths. words: those
 -- of the keys and the links fit 64 bits. bytes: the fields are bytes.
@@ -39,12 +39,12 @@ PlaysAt bs p d w o e v = Plays (headAt bs p .kind) (part bs (headAt bs p .from) 
 
 module _ (k j : Kind) (f : List ℕ) (d : Tables) (w v : List ℕ) (o : Outcome) (e : k ≡ j) where
   -- a call that is made
-  pub makes-call : (ks ls cs os : List ℕ) → isCall j ≡ true → (takesBuffer j ≡ false → v ≡ w) → Did (callBy j f w) (modelBy j f w) d (left o ks ls cs os (cond (takesBuffer j) v []))
+  pub makes-call : (ks ls cs os : List ℕ) → known j ≡ true → (takesBuffer j ≡ false → v ≡ w) → Did (callBy j f w) (modelBy j f w) d (left o ks ls cs os (cond (takesBuffer j) v []))
       → Makes k f d w o (tables (o .state) ks ls cs os) v
   makes-call ks ls cs os y s h = rw e (record { made = λ _. h; still = s; broken = λ n. absurd (clash y n) })
 
--- one that isn't
-pub makes-none : (k j : Kind) (f : List ℕ) (d : Tables) (w : List ℕ) (o : Outcome) → k ≡ j → isCall j ≡ false → o ≡ record { answer = Done; state = d .state }
+-- none, for a broken record
+pub makes-none : (k j : Kind) (f : List ℕ) (d : Tables) (w : List ℕ) (o : Outcome) → k ≡ j → known j ≡ false → o ≡ record { answer = Done; state = d .state }
     → Makes k f d w o (tables (o .state) (d .keys) (d .links) (d .certs) (d .order)) w
 makes-none k j f d w o e n g = rw (g, e) (record { made = λ y. absurd (clash y n); still = λ _. refl; broken = λ _. (refl, refl, refl) })
 

@@ -7,11 +7,10 @@ use native.Mathlib.Omega.{arith}
 use lib.ListN.{length}
 use Rattle.laws.specs.Test.{byTest, clash, cond-yes, cond-no}
 use Rattle.commit_answer.specs.Answer.{Tables}
-use Rattle.trace.specs.Head.{headOk, headAt, restAt, leastLeft}
+use Rattle.trace.specs.Head.{known, headOk, headAt, restAt, leastLeft}
 use Rattle.trace.specs.declared.head.Kind.the-variants.{Broken}
 use Rattle.trace.specs.declared.head.Record.{Record}
 use Rattle.commit_answer.specs.declared.answer.Outcome.{Outcome}
-use Rattle.play_calls.specs.Calls.{isCall}
 use Rattle.play.specs.Plays.{PlaysAt}
 
 -- the records of bs before p, one after another, make c of the tables b, and u of the buffer w
@@ -40,7 +39,7 @@ module _ (bs : List ℕ) (b c d : Tables) (w u v : List ℕ) (p e : ℕ) (o : Ou
 
   -- a broken one changes nothing
   pub runs-stays : e ≤ p → Runs bs b w p d v
-  runs-stays l = let (x, h, k) = q .makes .broken (ap isCall (stays bs p (rw g at l))) in rw (h, k) r
+  runs-stays l = let (x, h, k) = q .makes .broken (ap known (stays bs p (rw g at l))) in rw (h, k) r
 
   pub ends-broken : (last : Bool) → e ≤ p → Ends bs last p true
   ends-broken last l = (λ _. stays bs p (rw g at l), λ h. absurd (true≢false h))

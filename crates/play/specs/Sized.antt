@@ -8,7 +8,7 @@ use lib.ListN.{length}
 use Rattle.laws.specs.Test.{byTest, cond-yes, cond-no}
 use Rattle.trace.specs.Head.{known, fits, sizeOf, linksIn, part, headOk, headAt, restAt, whole-short, head-cut, head-known, fits-length, links-few}
 use Rattle.trace.specs.declared.head.Kind.{Kind}
-use Rattle.trace.specs.declared.head.Kind.the-variants.{Start, Round, Name, Resolve, Certify, Commit, Drop, Outlook, Broken}
+use Rattle.trace.specs.declared.head.Kind.the-variants.{Start, Round, Name, Resolve, Certify, Commit, Remove, Drop, Outlook, Broken}
 use Rattle.trace.specs.declared.head.Record.{Record}
 
 -- fields of a kind that is known have its length, at most 4,094
@@ -49,6 +49,10 @@ module _ (k : Kind) (f : List ℕ) (s : Sized k f) where
   pub outlook-long : k ≡ Outlook → 37 ≤ length f
   unfolding sizeOf
   outlook-long e = long k Outlook f s e refl
+
+  pub remove-long : k ≡ Remove → 9 ≤ length f
+  unfolding sizeOf
+  remove-long e = long k Remove f s e refl
 
   pub drop-long : k ≡ Drop → 4 ≤ length f
   unfolding sizeOf

@@ -20,6 +20,7 @@ use play_calls::points::play_name;
 use play_calls::points::play_outlook;
 use play_calls::points::play_resolve;
 use play_calls::rounds::play_drop;
+use play_calls::rounds::play_remove;
 use play_calls::rounds::play_round;
 use play_calls::rounds::play_start;
 use trace::head::Kind;
@@ -33,7 +34,7 @@ pub struct Played {
     pub end: usize,
 }
 
-// What a record leaves whose call isn't made: the state stays.
+// What a broken record leaves: the state stays.
 fn unmade(s: State) -> Outcome
     ensures { λ r. ⌜ r ≡ record { answer = answers.Done; state = s } ⌝ }
 {
@@ -43,7 +44,7 @@ fn unmade(s: State) -> Outcome
     }
 }
 
-// Makes the call of a kind and its fields; b: the buffer that is lent to a call that takes one. A remove is not made.
+// Makes the call of a kind and its fields; b: the buffer that is lent to a call that takes one.
 fn play_fields(
     kind: Kind,
     s: State,
@@ -65,7 +66,7 @@ fn play_fields(
         Kind::Resolve => play_resolve(s, keys, links, certs, order, f),
         Kind::Certify => play_certify(s, keys, links, certs, order, f),
         Kind::Commit => play_commit(s, keys, links, certs, order, b, f),
-        Kind::Remove => unmade(s),
+        Kind::Remove => play_remove(s, keys, links, certs, order, b, f),
         Kind::Drop => play_drop(s, keys, links, certs, order, f),
         Kind::Gap => is_once_after_gap(s, keys, links, certs, order),
         Kind::Reset => reset(s, keys, links, certs, order),

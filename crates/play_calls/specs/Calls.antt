@@ -3,6 +3,7 @@ use Prim.Native.Nat.{ℕ, _+_, _*_, _≤_}
 use mathlib.Core.Path.{_≡_, refl, sym, ap, ap₂, subst, _∙_}
 use mathlib.Core.List.{List}
 use mathlib.Core.Bool.{Bool, true, false}
+use mathlib.Core.Option.{Option}
 use native.Mathlib.Omega.{arith}
 use lib.ListN.{length, take}
 use lib.Seq.{length-take-le}
@@ -25,23 +26,20 @@ use Rattle.commit_points.specs.Resolve.{resolveLeft}
 use Rattle.commit_points.specs.Certify.{certifyLeft}
 use Rattle.commit_call.specs.Commit.{commitLeft}
 use Rattle.commit_outlook.specs.Outlook.{outlookLeft}
+use Rattle.commit_remove.specs.Remove.{removeLeft}
 use Rattle.trace.specs.Numbers.{numberAt, idAt, pointIdAt, id-read}
 use Rattle.trace.specs.Head.{linksIn}
-use Rattle.trace.specs.Fields.{callBy, startArgsIn, infoIn, start-read}
+use Rattle.trace.specs.Fields.{callBy, startArgsIn, infoIn, sinceIn, start-read}
 use Rattle.trace.specs.Links.{linksWords, info-read, links-are, links-taken}
 use Rattle.trace.specs.declared.head.Kind.{Kind}
 use Rattle.trace.specs.declared.head.Kind.the-variants as kind
 
--- the kinds whose calls are made
-abbrev pub isCall : Kind → Bool
-isCall k = elim k [ kind.Start ↦ true | kind.Round ↦ true | kind.Name ↦ true | kind.Resolve ↦ true | kind.Certify ↦ true | kind.Commit ↦ true | kind.Remove ↦ false | kind.Drop ↦ true | kind.Gap ↦ true | kind.Reset ↦ true | kind.Outlook ↦ true | kind.Broken ↦ false ]
-
--- those of them that take a buffer
+-- the kinds whose calls take a buffer
 abbrev pub takesBuffer : Kind → Bool
-takesBuffer k = elim k [ kind.Start ↦ false | kind.Round ↦ false | kind.Name ↦ false | kind.Resolve ↦ false | kind.Certify ↦ false | kind.Commit ↦ true | kind.Remove ↦ false | kind.Drop ↦ false | kind.Gap ↦ false | kind.Reset ↦ false | kind.Outlook ↦ true | kind.Broken ↦ false ]
+takesBuffer k = elim k [ kind.Start ↦ false | kind.Round ↦ false | kind.Name ↦ false | kind.Resolve ↦ false | kind.Certify ↦ false | kind.Commit ↦ true | kind.Remove ↦ true | kind.Drop ↦ false | kind.Gap ↦ false | kind.Reset ↦ false | kind.Outlook ↦ true | kind.Broken ↦ false ]
 
--- what the call of a kind, its fields and the buffer that it is lent leaves of the tables, to the word and the byte; nothing is done for a
--- kind that isn't a call
+-- what the call of a kind, its fields and the buffer that it is lent leaves of the tables, to the word and the byte; nothing is done for
+-- a broken record
 unfoldable pub modelBy : Kind → List ℕ → List ℕ → Tables → Left
 modelBy kind.Start f b = startLeft (startArgsIn f)
 modelBy kind.Round f b = roundLeft (numberAt f 0 4) (numberAt f 4 4)
@@ -49,7 +47,7 @@ modelBy kind.Name f b = nameLeft (pointIdAt f 0)
 modelBy kind.Resolve f b = resolveLeft (pointIdAt f 0) (infoIn f) (linksWords f (linksIn f))
 modelBy kind.Certify f b = certifyLeft (pointIdAt f 0)
 modelBy kind.Commit f b = commitLeft (idAt f 0) b
-modelBy kind.Remove f b = doneWith
+modelBy kind.Remove f b = removeLeft (sinceIn f) (numberAt f 0 4) b
 modelBy kind.Drop f b = dropLeft (numberAt f 0 4)
 modelBy kind.Gap f b = gapLeft
 modelBy kind.Reset f b = resetLeft
@@ -79,6 +77,10 @@ module _ (d : Tables) (o : Left) where
     pub drop-made : (r : ℕ) → r ≡ numberAt f 0 4 → Did (calls.drop r) (dropLeft r) d o → Did (callBy kind.Drop f w) (modelBy kind.Drop f w) d o
     unfolding callBy modelBy
     drop-made r e h = made calls.drop dropLeft r (numberAt f 0 4) _ e refl h
+
+    pub remove-made : (r : ℕ) (s : Option ℕ) → r ≡ numberAt f 0 4 → s ≡ sinceIn f → Did (calls.remove r s w) (removeLeft s r w) d o → Did (callBy kind.Remove f w) (modelBy kind.Remove f w) d o
+    unfolding callBy modelBy
+    remove-made r s e g h = made-two (λ (x : ℕ) (y : Option ℕ). calls.remove x y w) (λ (x : ℕ) (y : Option ℕ). removeLeft y x w) r (numberAt f 0 4) s (sinceIn f) _ e g refl h
 
     module _ (i : PointId) (e : i ≡ pointIdAt f 0) where
       pub name-made : Did (calls.name (idOf i)) (nameLeft i) d o → Did (callBy kind.Name f w) (modelBy kind.Name f w) d o

@@ -1,5 +1,5 @@
 // Origin: none.
-// A start, a round and a drop, from the fields of their records.
+// A start, a round, a remove and a drop, from the fields of their records.
 ghost use Prim.Native.Nat.{_≤_};
 ghost use mathlib.Core.List.{[]};
 ghost use lib.ListN.{length};
@@ -8,12 +8,14 @@ ghost use Rattle.trace.specs.Fields.{callBy};
 ghost use Rattle.trace.specs.declared.head.Kind.the-variants as kinds;
 ghost use Rattle.play_calls.specs.Calls.{modelBy};
 use commit_answer::answer::Outcome;
+use commit_remove::remove_committed;
 use commit_rounds::drop_upto;
 use commit_rounds::extend_from_ahead;
 use commit_start::init;
 use commit_state::state::State;
 use models::parts::Round;
 use trace::bytes::number_of;
+use trace::fields::remove_of;
 use trace::fields::round_of;
 use trace::fields::start_of;
 
@@ -53,6 +55,27 @@ pub fn play_round(
     let round = fields.round;
     let peers = fields.peers;
     extend_from_ahead(s, keys, links, certs, order, round, peers)
+}
+
+// Removes committed rounds, by the anchor's round that the fields say; b: the buffer for the counters and the events.
+pub fn play_remove(
+    s: State,
+    keys: &mut [u64],
+    links: &mut [u64],
+    certs: &mut [u64],
+    order: &mut [u64],
+    b: &mut [u8],
+    f: &[u8],
+) -> Outcome
+    requires { ⌜ 9 ≤ length (now f) ⌝ }
+    ensures { λ r. ⌜ Did (callBy kinds.Remove (now (f .entry)) (now (b .entry))) (modelBy kinds.Remove (now (f .entry)) (now (b .entry)))
+        (tables s (now (keys .entry)) (now (links .entry)) (now (certs .entry)) (now (order .entry)))
+        (left r (now (keys .exit)) (now (links .exit)) (now (certs .exit)) (now (order .exit)) (now (b .exit))) ⌝ }
+{
+    let fields = remove_of(f);
+    let round = fields.round;
+    let since = fields.since;
+    remove_committed(s, keys, links, certs, order, round, since, b)
 }
 
 // Drops the rounds below the one that the fields say.

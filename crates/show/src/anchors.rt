@@ -47,7 +47,7 @@ fn write_head(head: AnchorHead) {
 }
 
 // The n ids from the offset on.
-fn write_ids(b: &[u8], at: usize, n: usize)
+pub fn write_ids(b: &[u8], at: usize, n: usize)
     requires { ⌜ at + n * 37 ≤ length (now b) ⌝ }
 {
     let mut i: usize = 0;

@@ -4,4 +4,5 @@ pub mod anchors;
 pub mod lines;
 pub mod looks;
 pub mod part;
+pub mod removal;
 pub mod state;

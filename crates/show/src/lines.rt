@@ -63,15 +63,11 @@ fn write_answer(name: &[u8], answer: Answer) {
     }
 }
 
-// The line of the record at an offset, by its kind and what its call answered. Of the calls that are made only the gap question and a drop
-// are answered by yes or no.
+// The line of the record at an offset, by its kind and what its call answered. Only the gap question and a drop are answered by yes or no.
 pub fn write_line(kind: Kind, answer: Answer, at: u64) {
     match kind {
         Kind::Broken => {
             write_numbered(b"broken record ", at);
-        }
-        Kind::Remove => {
-            write(b"unsupported\n");
         }
         Kind::Drop => {
             write_answer(b"drop", answer);

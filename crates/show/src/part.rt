@@ -8,6 +8,8 @@ use crate::anchors::anchors_of;
 use crate::anchors::write_anchors;
 use crate::lines::write_line;
 use crate::looks::write_looks;
+use crate::removal::write_removal;
+use commit_answer::answer::Answer;
 use commit_state::state::State;
 use play::one::play_one;
 use trace::head::Kind;
@@ -20,14 +22,17 @@ pub struct Part {
     pub broken: bool,
 }
 
-// The lines of the n anchors that stand in the buffer: an outlook's, or the records of a commit.
-fn write_answered(kind: Kind, b: &[u8], n: u32) {
+// The lines of what stands in the buffer: an outlook's anchors, a remove's peers and events, or the records of a commit.
+fn write_answered(kind: Kind, b: &[u8], answer: Answer) {
     match kind {
         Kind::Outlook => {
-            write_looks(b, n);
+            write_looks(b, anchors_of(answer));
+        }
+        Kind::Remove => {
+            write_removal(b, answer);
         }
         _ => {
-            write_anchors(b, n);
+            write_anchors(b, anchors_of(answer));
         }
     }
 }
@@ -62,7 +67,7 @@ pub fn play_part(
         let next = outcome.state;
         let end = played.end;
         now = next;
-        write_answered(kind, b, anchors_of(answer));
+        write_answered(kind, b, answer);
         write_line(kind, answer, std::num::wrapping_add_u64(base, at as u64));
         if end <= at {
             broken = true;

@@ -111,10 +111,6 @@ module _ (x y : MempoolPeerCounters) where
   merge-is h = ap countersOf (merge-fits h) ∙ sum-is x y
 
   module _ (m n : ℕ) (a : Below m x) (b : Below n y) where
-    pub sum-below : Below (m + n) (sumOf x y)
-    unfolding sumOf countersOf
-    sum-below = omega arith
-
     pub sum-fits : m + n ≤ 65535 → Fitting x y
     unfolding sumOf countersOf
     sum-fits h = omega arith

@@ -9,6 +9,7 @@ ghost use Rattle.stats.specs.Counters.{countersOf, noCounters, mergeOf, 
 pub mod peer_stats;
 pub mod ranges;
 
+#[repr(C)]
 pub struct MempoolPeerCounters {
     pub was_leader: u16,
     pub skipped_rounds: u16,

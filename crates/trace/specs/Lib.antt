@@ -3,3 +3,5 @@ pub mod Head
 pub mod Fields
 pub mod Links
 pub mod Anchors
+pub mod PeerStats
+pub mod Events

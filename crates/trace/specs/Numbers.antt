@@ -35,6 +35,11 @@ unfolding words
 words-append f p zero n q e = rw (e, add-zero p, zero-add n) refl
 words-append f p (suc m) n q e = rw (suc-add m n) (ap (λ (xs : List ℕ). getD f p 0 ∷ xs) (words-append f (p + 1) m n q (omega arith)))
 
+-- the number in two bytes
+pub number-two : (f : List ℕ) (p a b : ℕ) → a ≡ getD f p 0 → b ≡ getD f (p + 1) 0 → a * 256 + b ≡ numberAt f p 2
+unfolding numberAt value number words
+number-two f p a b i j = rw (i, j, zero-add (getD f p 0)) refl
+
 -- the number in four bytes
 pub number-four : (f : List ℕ) (p a b c d : ℕ) → a ≡ getD f p 0 → b ≡ getD f (p + 1) 0 → c ≡ getD f (p + 2) 0 → d ≡ getD f (p + 3) 0
     → ((a * 256 + b) * 256 + c) * 256 + d ≡ numberAt f p 4

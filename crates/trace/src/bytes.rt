@@ -16,6 +16,16 @@ pub fn byte_of(f: &[u8], at: usize) -> u32
     f[at] as u32
 }
 
+// The number in two bytes.
+pub fn short_of(f: &[u8], at: usize) -> u16
+    requires { ⌜ at + 2 ≤ length (now f) ⌝ }
+    ensures { λ r. ⌜ r ≡ numberAt (now (f .entry)) at 2 ⌝ }
+{
+    let a = byte_of(f, at);
+    let b = byte_of(f, at + 1);
+    (a * 256 + b) as u16
+}
+
 // The number in four bytes.
 pub fn number_of(f: &[u8], at: usize) -> u32
     requires { ⌜ at + 4 ≤ length (now f) ⌝ }

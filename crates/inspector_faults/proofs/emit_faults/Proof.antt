@@ -10,10 +10,10 @@ use Rattle.inspector_faults.proofs.emit_faults.Statement.{statement}
 use Rattle.inspector_faults.proofs.emit_faults.Tie as tie
 
 abbrev Inv-loop : tie.InvT-loop
-Inv-loop keys certs order low high b₀ write round kind counts out₀ author₀ b out author = (author ≤ 32) × Told eventBytes write b₀ out₀ (upTo author (faultOf keys certs order low (high - low) round kind)) out b
+Inv-loop keys certs order low high b₀ write round fault counts out₀ author₀ b out author = (author ≤ 32) × Told eventBytes write b₀ out₀ (upTo author (faultOf keys certs order low (high - low) (round .0) fault)) out b
 
 abbrev μ-loop : tie.MeasureT-loop
-μ-loop keys certs order low high b₀ write round kind counts out₀ author₀ b out author = 32 - author
+μ-loop keys certs order low high b₀ write round fault counts out₀ author₀ b out author = 32 - author
 
 loop-holds : tie.Need-loop-holds Inv-loop μ-loop
 loop-holds c = (search needs, upto-none _ _ _ _ _)
@@ -23,7 +23,7 @@ emit-fault-requires c κs =
     let p = c .before .before .before .before .before .before .before .before .before .before .pre in
     let l = c .before .before .before .before .loop in
     let h = c .before .before .before .loop-test .taken in
-    (p .0, (cell-counts _ _ _ _ _ _ (l .author) _ _ h (c .before .before .before .before .before .round-counts .ensures) (c .before .count-for .ensures), upto-ready _ _ _ _ _ (l .author) _ _ (l .inv .1) _ h (p .1)))
+    (p .0, (cell-counts _ _ _ _ _ _ (l .author) _ _ h (c .before .before .before .before .before .round-counts .ensures) (c .before .count .ensures), upto-ready _ _ _ _ _ (l .author) _ _ (l .inv .1) _ h (p .1)))
 
 loop-again : tie.Need-loop-again Inv-loop μ-loop
 loop-again c = (search needs, upto-more _ _ _ _ _ _ _ _ (c .before .before .before .before .before .before .before .loop .inv .1) _ _ _ _ (c .before .before .emit-fault .ensures) refl refl)

@@ -32,7 +32,7 @@ returns-2 c =
     let p = c .before .before .before .before .before .before .before .before .before .before .before .before .before .before .pre in
     let fk : Fit (a .keys .now) = λ i. c .before .before .before .before .before .before .before .before .before .before .before .before .before .shared-slice-known .given i .fits in
     let fl : Fit (a .links .now) = λ i. c .before .before .before .before .before .before .before .before .before .before .before .before .shared-slice-known2 .given i .fits in
-    round-before (a .s) (a .keys .now) (a .links .now) (a .certs .now) (a .order .now) fk fl (p .0) (a .round .0) _ _ _ (c .before .before .before .before .prev .ensures) (c .before .before .before .before .before .if1 .left) (c .before .before .fill-round .ensures)
+    round-before (a .s) (a .keys .now) (a .links .now) (a .certs .now) (a .order .now) fk fl (p .0) (a .round .0) _ _ _ _ (c .before .before .before .before .prev .ensures) (c .before .before .before .before .before .if1 .left) (c .before .before .fill-round .ensures)
 
 pub fill-before-spec : {M : Type 1} → statement M
 fill-before-spec =

@@ -10,7 +10,7 @@ use Rattle.inspector_signers.proofs.emit_rows.Statement.{statement}
 use Rattle.inspector_signers.proofs.emit_rows.Tie as tie
 
 abbrev Inv-loop : tie.InvT-loop
-Inv-loop rows sets n round b₀ write signer proofs out₀ k₀ b out k = (k ≤ n) × Told idBytes write b₀ out₀ (rowIds rows sets k round signer proofs) out b
+Inv-loop rows sets n round b₀ write signer proofs out₀ k₀ b out k = (k ≤ n) × Told idBytes write b₀ out₀ (rowIds rows sets k (round .0) signer proofs) out b
 
 abbrev μ-loop : tie.MeasureT-loop
 μ-loop rows sets n round b₀ write signer proofs out₀ k₀ b out k = n - k

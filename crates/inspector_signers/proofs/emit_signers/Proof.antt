@@ -12,7 +12,7 @@ use Rattle.inspector_signers.proofs.emit_signers.Statement.{statement}
 use Rattle.inspector_signers.proofs.emit_signers.Tie as tie
 
 abbrev Inv-loop : tie.InvT-loop
-Inv-loop keys places m rows sets n last b₀ write signers out₀ signer₀ b out signer = (signer ≤ 32) × Told eventBytes write b₀ out₀ (signersOf keys places m rows sets n last signers signer) out b
+Inv-loop keys places m rows sets n last b₀ write signers out₀ signer₀ b out signer = (signer ≤ 32) × Told eventBytes write b₀ out₀ (signersOf keys places m rows sets n (last .0) signers signer) out b
 
 abbrev μ-loop : tie.MeasureT-loop
 μ-loop keys places m rows sets n last b₀ write signers out₀ signer₀ b out signer = 32 - signer

@@ -4,7 +4,7 @@ use Rattle.trace.specs.Fields.{callBy}
 use Rattle.trace.specs.declared.head.Kind.the-variants as kind
 use Rattle.play_calls.specs.Calls.{modelBy}
 use Rattle.play.specs.Plays.{makes-call, makes-none}
-use Rattle.play.specs.Sized.{start-long, round-long, name-long, resolve-long, resolve-few, certify-long, commit-long, drop-long, outlook-long}
+use Rattle.play.specs.Sized.{start-long, round-long, name-long, resolve-long, resolve-few, certify-long, commit-long, remove-long, drop-long, outlook-long}
 use borrow.Author.Needs.{needs}
 use Rattle.play.proofs.one.play_fields.Statement.{statement}
 use Rattle.play.proofs.one.play_fields.Tie as tie
@@ -26,6 +26,9 @@ play-certify-requires c κs = certify-long _ _ (c .before .before .before .befor
 
 play-commit-requires : tie.Need-play-commit-requires
 play-commit-requires c κs = commit-long _ _ (c .before .before .before .before .before .before .before .before .before .before .before .before .before .pre) (c .before .before .before .before .before .enum-told6 .given .1)
+
+play-remove-requires : tie.Need-play-remove-requires
+play-remove-requires c κs = remove-long _ _ (c .before .before .before .before .before .before .before .before .before .before .before .before .before .pre) (c .before .before .before .before .before .enum-told7 .given .1)
 
 play-drop-requires : tie.Need-play-drop-requires
 play-drop-requires c κs = drop-long _ _ (c .before .before .before .before .before .before .before .before .before .before .before .before .pre) (c .before .before .before .before .enum-told8 .given .1)
@@ -58,7 +61,8 @@ unfolding callBy modelBy
 returns-6 c = makes-call _ kind.Commit _ _ _ _ _ (c .before .before .before .before .before .before .before .before .before .before .enum-told6 .given .1) _ _ _ _ refl (λ h. absurd (true≢false h)) (c .before .before .before .before .play-commit .ensures)
 
 returns-7 : tie.Need-returns-7
-returns-7 c = makes-none _ kind.Remove _ _ _ (c .unmade .result) (c .before .enum-told7 .given .1) refl (c .unmade .ensures)
+unfolding callBy modelBy
+returns-7 c = makes-call _ kind.Remove _ _ _ _ _ (c .before .before .before .before .before .before .before .before .before .before .before .before .before .before .before .before .enum-told7 .given .1) _ _ _ _ refl (λ h. absurd (true≢false h)) (c .before .before .before .before .before .before .before .before .before .before .play-remove .ensures)
 
 returns-8 : tie.Need-returns-8
 unfolding callBy modelBy
@@ -77,7 +81,7 @@ unfolding callBy modelBy
 returns-11 c = makes-call _ kind.Outlook _ _ _ _ _ (c .before .before .before .before .before .before .before .before .enum-told11 .given .1) _ _ _ _ refl (λ h. absurd (true≢false h)) (c .before .before .play-outlook .ensures)
 
 returns-12 : tie.Need-returns-12
-returns-12 c = makes-none _ kind.Broken _ _ _ (c .unmade2 .result) (c .before .enum-told12 .given .1) refl (c .unmade2 .ensures)
+returns-12 c = makes-none _ kind.Broken _ _ _ (c .unmade .result) (c .before .enum-told12 .given .1) refl (c .unmade .ensures)
 
 pub play-fields-spec : {M : Type 1} → statement M
 play-fields-spec =
@@ -96,7 +100,7 @@ play-fields-spec =
     (λ c. search needs)
     play-commit-requires
     (λ c. search needs)
-    (λ c κs. search needs)
+    play-remove-requires
     (λ c. search needs)
     play-drop-requires
     (λ c. search needs)
@@ -138,6 +142,11 @@ play-fields-spec =
     (λ c. search needs)
     (λ c. search needs)
     returns-6
+    (λ c. search needs)
+    (λ c. search needs)
+    (λ c. search needs)
+    (λ c. search needs)
+    (λ c. search needs)
     returns-7
     (λ c. search needs)
     (λ c. search needs)

@@ -1,0 +1,4 @@
+pub mod AllFaults
+pub mod Answer
+pub mod Answered
+pub mod Peers
