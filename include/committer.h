@@ -13,7 +13,7 @@
  *
  * A call answers with a number in `refused`, 0 if it isn't refused. A refused call changes nothing: the tables stay as they are, and the
  * state returned is the one given. Only a commit may have finished anchors before it is refused, as many as `anchors` says; what these
- * changed stays. An outlook changes nothing at all but its buffer, and that only if it isn't refused.
+ * changed stays. An outlook changes nothing at all but its buffer, and that only if it isn't refused; a refused remove writes no byte.
  *
  * The host's fault, with undefined behaviour as in all C, is only what a callee can't see:
  *   - a null pointer with a length above 0, or a pointer that isn't aligned for uint64_t;
@@ -104,6 +104,62 @@ extern "C" {
 /* A buffer of so many bytes has room for any outlook. */
 #define COMMITTER_OUTLOOK_MAX (511u * COMMITTER_OUTLOOK_BYTES)
 
+/* ---- what a remove answers */
+
+/*
+ * The stats of the peers, by rising number, then the events by kind, round, author (or signer) and digest.
+ *   0         number of peers p (1)
+ *   1         of each peer COMMITTER_PEER_BYTES bytes:
+ *     +0      number of the peer (1)
+ *     +1      first round (4)
+ *     +5      last round (4)
+ *     +9      the nine counters in the order of committer_counters (2 each)
+ *     +27     score (4)
+ *   1 + 31p   number of events (4)
+ *   5 + 31p   the events, each after its kind (1):
+ *     1 trans-invalid, 2 invalid, 3 ill-formed: COMMITTER_FAULT_BYTES bytes
+ *       +1    id of the point
+ *     4 equivocation: COMMITTER_FORK_BYTES(n) bytes
+ *       +1    author (1)
+ *       +2    round (4)
+ *       +6    number of digests n (4)
+ *       +10   the digests (32 each)
+ *     5 evidence without inclusion: COMMITTER_EVIDENCE_BYTES(x + y) bytes
+ *       +1    signer (1)
+ *       +2    number of blamed points x (4)
+ *       +6    their ids, all by the signer, the earlier round first
+ *       +6 + 37x    number of proofs y (4)
+ *       +10 + 37x   their ids
+ * Inside a round all lists rise by digest.
+ */
+#define COMMITTER_PEER_BYTES 31u
+#define COMMITTER_FAULT_BYTES (1u + COMMITTER_ID_BYTES)
+#define COMMITTER_FORK_BYTES(digests) (10u + (size_t)(digests) * 32u)
+#define COMMITTER_EVIDENCE_BYTES(ids) (10u + (size_t)(ids) * COMMITTER_ID_BYTES)
+
+/* Where the number of events stands. */
+#define COMMITTER_EVENTS_AT(peers) (1u + (size_t)(peers) * COMMITTER_PEER_BYTES)
+
+#define COMMITTER_TRANS_INVALID_EVENT 1u
+#define COMMITTER_INVALID_EVENT 2u
+#define COMMITTER_ILL_FORMED_EVENT 3u
+#define COMMITTER_EQUIVOCATED_EVENT 4u
+#define COMMITTER_NO_INCLUSION_EVENT 5u
+
+/*
+ * A buffer of so many bytes has room for the answer of any remove: 5,785,509.
+ *   - 32 peers and the two numbers: 5 + 32 * 31;
+ *   - a point is in one event of kind 1 to 3 at most, and is one digest of an event of kind 4, which has at least two: 38 + 32 + 10 / 2;
+ *   - at most 511 rounds are drained, each with an event of kind 5 for each of 32 signers: 10 bytes beside its ids;
+ *   - a point, or an entry of the memory, is blamed at most twice (at its own round and at the one above it) and is a proof for each signer
+ *     once at most: 2 + 32 ids of it.
+ */
+#define COMMITTER_REMOVE_MAX \
+    (COMMITTER_EVENTS_AT(COMMITTER_PEERS_MAX) + 4u \
+        + (size_t)COMMITTER_PLACES_MAX * (COMMITTER_FAULT_BYTES + 32u + COMMITTER_FORK_BYTES(0) / 2u) \
+        + 511u * COMMITTER_PEERS_MAX * COMMITTER_EVIDENCE_BYTES(0) \
+        + (size_t)(COMMITTER_PLACES_MAX + COMMITTER_MEMORY_MAX) * (2u + COMMITTER_PEERS_MAX) * COMMITTER_ID_BYTES)
+
 /* ---- numbers */
 
 /* Statuses of a resolved point. 4 and 5 come without links and evidence. */
@@ -121,7 +177,7 @@ extern "C" {
 /* `used` of a start whose bottom has no used mark. */
 #define COMMITTER_NOBODY UINT32_MAX
 
-/* The numbers of refusals. 23 is of a call that this header doesn't have yet. */
+/* The numbers of refusals. */
 enum committer_refusal {
     COMMITTER_DONE = 0,
     COMMITTER_BAD_START = 1, /* what a start takes, or the tables' lengths, out of range */
@@ -238,6 +294,19 @@ typedef struct committer_resolution {
     size_t witness; /* number of links two rounds down */
 } committer_resolution;
 
+/* The counters of a peer over the rounds that a remove reports. */
+typedef struct committer_counters {
+    uint16_t was_leader; /* rounds with its used mark */
+    uint16_t skipped_rounds; /* without a point of status 1 to 4 */
+    uint16_t valid_points; /* rounds with a valid point */
+    uint16_t points_proved;
+    uint16_t equivocated; /* points of status 1 to 4 beyond the first of a round */
+    uint16_t trans_invalid_points; /* not proved, with a cause that has a DAG round */
+    uint16_t invalid_points; /* not certified, with a cause that has a DAG round */
+    uint16_t ill_formed_points; /* not certified */
+    uint16_t references_skipped; /* proofs of points that it signed and didn't reference */
+} committer_counters;
+
 /* Words of a link that a resolution is lent: peer and digest. */
 #define COMMITTER_REF_WORDS 5u
 
@@ -262,6 +331,8 @@ COMMITTER_ASSERT(state_of_a_reply, offsetof(committer_reply, state) == 16);
 COMMITTER_ASSERT(size_of_a_reply, sizeof(committer_reply) == 15448);
 COMMITTER_ASSERT(size_of_start_args, sizeof(committer_start_args) == 28);
 COMMITTER_ASSERT(size_of_a_resolution, sizeof(committer_resolution) == 72);
+COMMITTER_ASSERT(size_of_counters, sizeof(committer_counters) == 18);
+COMMITTER_ASSERT(bytes_of_a_remove, COMMITTER_REMOVE_MAX == 5785509u);
 
 #undef COMMITTER_ASSERT
 
@@ -312,6 +383,8 @@ static inline void committer_digest_bytes(committer_digest digest, unsigned char
 #define COMMITTER_STACK_DROP 37000u
 #define COMMITTER_STACK_COMMIT 184000u
 #define COMMITTER_STACK_OUTLOOK 92000u
+#define COMMITTER_STACK_REMOVE 122000u
+#define COMMITTER_STACK_MERGE 100u
 
 /* ---- calls. The numbers named are those that the call is refused with, in the order of the tests. */
 
@@ -425,6 +498,27 @@ committer_reply committer_outlook(committer_state state,
     const uint64_t *keys, size_t keys_len, const uint64_t *links, size_t links_len,
     const uint64_t *certs, size_t certs_len, const uint64_t *order, size_t order_len,
     committer_point_id id, uint8_t *buffer, size_t buffer_len);
+
+/*
+ * Removes the rounds that the history of the given anchor doesn't reach, those more than H rounds below it, but never the top; their places
+ * are zeroed and free again. What the inspector finds in them stands in the buffer (see 'what a remove answers'), the bytes beyond it stay
+ * as they are; where nothing is drained, five zero bytes. Drained rounds are reported from the first executable round on, and above genesis.
+ * Counters are of the peers of a reported round, from the round `since` on if has_since isn't 0, else none are counted; events don't go by
+ * it. An event of kind 5 needs points of the signer at a round and at the one below it, of which the state's memory tells if it was drained
+ * by an earlier call. The last anchor, the last proof, the full-history bottom and the gap flag stay.
+ * The buffer may have any length, and may be null with the length 0.
+ * Refused: 2 not started; 23 round above the last anchor handed out since the start, or none was; 21 answer larger than the buffer.
+ */
+committer_reply committer_remove(committer_state state,
+    uint64_t *keys, size_t keys_len, uint64_t *links, size_t links_len,
+    uint64_t *certs, size_t certs_len, uint64_t *order, size_t order_len,
+    uint32_t round, uint32_t has_since, uint32_t since, uint8_t *buffer, size_t buffer_len);
+
+/*
+ * Adds the counters of another answer to those of a peer, each up to 65,535 at most, for hosts that sum several answers. `counters` is not
+ * null.
+ */
+void committer_merge(committer_counters *counters, committer_counters other);
 
 #ifdef __cplusplus
 }

@@ -221,6 +221,17 @@ static answer commit(board *b, committer_point_id id, uint8_t *buffer, size_t le
     return a;
 }
 
+static answer remove_upto(board *b, uint32_t round, uint32_t has_since, uint32_t since, uint8_t *buffer, size_t length)
+{
+    committer_reply reply = committer_remove(b->state, TABLES(b), round, has_since, since, buffer, length);
+    answer a = {reply.refused, reply.said};
+    CHECK(reply.said == 0 && reply.anchors == 0 && reply.conflict == 0);
+    CHECK(reply.refused == 0 || reply.refused == COMMITTER_WRONG_PHASE || reply.refused == COMMITTER_REMOVE_AHEAD
+        || reply.refused == COMMITTER_NO_ROOM);
+    b->state = reply.state;
+    return a;
+}
+
 /* The call is refused with the number, and the board stays as it is; `spare` is a board of the same size to compare with. */
 #define REFUSED(b, spare, number, call) \
     do { \
@@ -386,6 +397,8 @@ static void check_not_started(board *b, board *spare)
     REFUSED(b, spare, COMMITTER_WRONG_PHASE, commit(b, point(11, 0), NULL, 0));
     REFUSED(b, spare, COMMITTER_WRONG_PHASE, outlook(b, point(11, 0), bytes, 4));
     REFUSED(b, spare, COMMITTER_WRONG_PHASE, outlook(b, point(11, 0), NULL, 0));
+    REFUSED(b, spare, COMMITTER_WRONG_PHASE, remove_upto(b, 11, 1, 0, bytes, 4));
+    REFUSED(b, spare, COMMITTER_WRONG_PHASE, remove_upto(b, 11, 0, 0, NULL, 0));
     CHECK(bytes[0] == 1 && bytes[3] == 4 && last_commit.anchors == 0);
 }
 
@@ -950,6 +963,161 @@ static void check_outlooks(void)
     free_board(&spare);
 }
 
+/* ---- removes */
+
+static void put_evidence(board *b, committer_point_id id, uint32_t evidence, committer_point_id below)
+{
+    uint64_t refs[COMMITTER_REF_WORDS];
+    committer_resolution resolution = valid(1, 0);
+    resolution.evidence = evidence;
+    put_link(refs, 0, below);
+    DONE(name(b, id));
+    DONE(resolve(b, id, resolution, refs, COMMITTER_REF_WORDS));
+}
+
+/* Two proofs of one previous point in round 2, signed by 1, which has a point in 2 and in 3 and references neither; an anchor in 5. */
+static board to_remove(void)
+{
+    committer_point_id low = point(1, 0);
+    committer_start_args with = beginning(2);
+    with.genesis = 1;
+    with.commit_history_rounds = 1;
+    with.peers = 3;
+    board b = new_board(8);
+    DONE(start(&b, with));
+    for (uint32_t round = 3; round <= 7; round++) {
+        DONE(add_round(&b, round, 3));
+    }
+    put_evidence(&b, version(2, 0, 1), 2, low);
+    put_evidence(&b, version(2, 0, 2), 2, low);
+    put(&b, point(2, 1), COMMITTER_VALID, 0, low, 0, low, low);
+    put(&b, point(3, 1), COMMITTER_VALID, 0, low, 0, low, low);
+    put(&b, point(5, 0), COMMITTER_VALID, 0, low, 0, low, low);
+    put_one(&b, point(6, 0), COMMITTER_PROOF, point(6, 0), point(5, 0));
+    put_one(&b, point(7, 0), COMMITTER_TRIGGER, low, point(6, 0));
+    DONE(certify(&b, point(5, 0)));
+    return b;
+}
+
+static size_t put_peer(uint8_t *bytes, uint8_t peer, uint8_t first, uint8_t last, committer_counters counters, uint8_t score)
+{
+    const uint16_t counts[9] = {counters.was_leader, counters.skipped_rounds, counters.valid_points, counters.points_proved,
+        counters.equivocated, counters.trans_invalid_points, counters.invalid_points, counters.ill_formed_points, counters.references_skipped};
+    memset(bytes, 0, COMMITTER_PEER_BYTES);
+    bytes[0] = peer;
+    bytes[4] = first;
+    bytes[8] = last;
+    for (int i = 0; i < 9; i++) {
+        bytes[9 + 2 * i] = (uint8_t)(counts[i] >> 8);
+        bytes[10 + 2 * i] = (uint8_t)counts[i];
+    }
+    bytes[30] = score;
+    return COMMITTER_PEER_BYTES;
+}
+
+static size_t put_event(uint8_t *bytes, uint8_t kind, uint8_t peer)
+{
+    bytes[0] = kind;
+    bytes[1] = peer;
+    return 2;
+}
+
+static size_t put_number(uint8_t *bytes, uint8_t number)
+{
+    const uint8_t whole[4] = {0, 0, 0, number};
+    memcpy(bytes, whole, sizeof whole);
+    return sizeof whole;
+}
+
+/* What the remove of round 5, counted from 0 on, writes: both peers, one event of kind 4 and one of kind 5. */
+static size_t put_answer(uint8_t *bytes)
+{
+    const committer_counters zero = {.skipped_rounds = 1, .valid_points = 1, .equivocated = 1};
+    const committer_counters one = {.valid_points = 2, .references_skipped = 1};
+    size_t at = 0;
+    bytes[at++] = 2;
+    at += put_peer(bytes + at, 0, 2, 3, zero, 22);
+    at += put_peer(bytes + at, 1, 2, 3, one, 1);
+    CHECK(at == COMMITTER_EVENTS_AT(2));
+    at += put_number(bytes + at, 2);
+    size_t event = at;
+    at += put_event(bytes + at, COMMITTER_EQUIVOCATED_EVENT, 0);
+    at += put_number(bytes + at, 2);
+    at += put_number(bytes + at, 2);
+    for (uint32_t n = 1; n <= 2; n++) {
+        committer_digest_bytes(version(2, 0, n).digest, bytes + at);
+        at += 32;
+    }
+    CHECK(at - event == COMMITTER_FORK_BYTES(2));
+    event = at;
+    at += put_event(bytes + at, COMMITTER_NO_INCLUSION_EVENT, 1);
+    at += put_number(bytes + at, 2);
+    at += put_id(bytes + at, point(2, 1));
+    at += put_id(bytes + at, point(3, 1));
+    at += put_number(bytes + at, 1);
+    at += put_id(bytes + at, version(2, 0, 2));
+    CHECK(at - event == COMMITTER_EVIDENCE_BYTES(3));
+    return at;
+}
+
+static void check_removes(void)
+{
+    CHECK(COMMITTER_REMOVE_MAX == 997 + 75 * 4096 + 320 * 511 + 37 * 34 * 4224);
+    uint8_t expected[300], bytes[300];
+    size_t length = put_answer(expected);
+    CHECK(length == 262);
+    board b = to_remove(), spare = new_board(8), after = new_board(8);
+    REFUSED(&b, &spare, COMMITTER_REMOVE_AHEAD, remove_upto(&b, 5, 1, 0, bytes, sizeof bytes));
+    REFUSED(&b, &spare, COMMITTER_REMOVE_AHEAD, remove_upto(&b, 0, 0, 0, NULL, 0));
+    uint8_t record[120];
+    DONE(commit(&b, point(7, 0), record, sizeof record));
+    REFUSED(&b, &spare, COMMITTER_REMOVE_AHEAD, remove_upto(&b, 6, 1, 0, bytes, sizeof bytes));
+    REFUSED(&b, &spare, COMMITTER_REMOVE_AHEAD, remove_upto(&b, UINT32_MAX, 1, 0, NULL, 0));
+    REFUSED(&b, &spare, COMMITTER_NO_ROOM, remove_upto(&b, 5, 1, 0, NULL, 0));
+    /* every length up to one byte more than is needed: 21 and no byte, or the answer and no byte beyond */
+    for (size_t room = 0; room <= length + 1; room++) {
+        memset(bytes, 0xa5, sizeof bytes);
+        if (room < length) {
+            REFUSED(&b, &spare, COMMITTER_NO_ROOM, remove_upto(&b, 5, 1, 0, bytes, room));
+        } else {
+            copy_board(&after, &b);
+            DONE(remove_upto(&after, 5, 1, 0, bytes, room));
+            CHECK(memcmp(bytes, expected, length) == 0);
+        }
+        for (size_t i = room < length ? 0 : length; i < sizeof bytes; i++) {
+            CHECK(bytes[i] == 0xa5);
+        }
+    }
+    CHECK(after.state.bottom == 4 && after.state.top == 7 && after.state.count == 3 && after.state.last_anchor == 6);
+    CHECK(after.state.memory.last == 3 && after.state.memory.count == 1 && after.state.memory.entries[0].author == 1);
+    /* without a round to count from there are events alone; has_since is no only at 0 */
+    copy_board(&after, &b);
+    DONE(remove_upto(&after, 5, 0, 2, bytes, 200));
+    CHECK(bytes[0] == 0 && memcmp(bytes + 1, expected + 63, 199) == 0);
+    copy_board(&after, &b);
+    DONE(remove_upto(&after, 5, UINT32_MAX, 4, bytes, 200));
+    CHECK(bytes[0] == 0 && bytes[4] == 2);
+    /* nothing to drain: five zero bytes, and all stays */
+    copy_board(&spare, &after);
+    memset(bytes, 0xa5, sizeof bytes);
+    DONE(remove_upto(&after, 5, 1, 0, bytes, 5));
+    CHECK(bytes[0] == 0 && bytes[1] == 0 && bytes[4] == 0 && bytes[5] == 0xa5 && same_board(&after, &spare));
+    REFUSED(&after, &spare, COMMITTER_NO_ROOM, remove_upto(&after, 0, 1, 0, bytes, 4));
+    free_board(&b);
+    free_board(&spare);
+    free_board(&after);
+}
+
+static void check_merge(void)
+{
+    committer_counters counters = {1, 2, 3, 4, 65535, 65530, 40000, 0, 9};
+    const committer_counters other = {0, 1, 2, 3, 1, 5, 40000, 0, 65535};
+    committer_merge(&counters, other);
+    CHECK(counters.was_leader == 1 && counters.skipped_rounds == 3 && counters.valid_points == 5 && counters.points_proved == 7);
+    CHECK(counters.equivocated == 65535 && counters.trans_invalid_points == 65535 && counters.invalid_points == 65535);
+    CHECK(counters.ill_formed_points == 0 && counters.references_skipped == 65535);
+}
+
 /* Refusals of the walk and of the first anchor. */
 static void check_walk_refusals(void)
 {
@@ -1087,6 +1255,8 @@ int main(void)
     check_k13();
     check_commit_refusals();
     check_outlooks();
+    check_removes();
+    check_merge();
     check_walk_refusals();
     for (size_t places = 1; places <= 9; places++) {
         check_noise(places, 500);

@@ -49,8 +49,7 @@ pub fn anchors(bytes: &[u8], count: u32) -> Vec<Anchor> {
 fn anchor(rest: &mut &[u8]) -> Option<Anchor> {
     let (anchor, proof) = (id(rest)?, id(rest)?);
     let [executable] = taken(rest)?;
-    let previous = u32::from_be_bytes(taken(rest)?);
-    let count = u32::from_be_bytes(taken(rest)?);
+    let (previous, count) = (number(rest)?, number(rest)?);
     let points = (0..count).map(|_| id(rest)).collect::<Option<_>>()?;
     Some(Anchor { anchor, proof, executable: executable != 0, previous, points })
 }
@@ -77,17 +76,22 @@ pub fn looks(bytes: &[u8], count: u32) -> Vec<Look> {
 }
 
 fn look(rest: &mut &[u8]) -> Option<Look> {
-    Some(Look { anchor: id(rest)?, points: u32::from_be_bytes(taken(rest)?) })
+    Some(Look { anchor: id(rest)?, points: number(rest)? })
 }
 
-fn id(rest: &mut &[u8]) -> Option<PointId> {
-    let round = u32::from_be_bytes(taken(rest)?);
+pub(crate) fn id(rest: &mut &[u8]) -> Option<PointId> {
+    let round = number(rest)?;
     let [author] = taken(rest)?;
     Some(PointId { round, author: author.into(), digest: taken(rest)? })
 }
 
+/// The number in the next four bytes.
+pub(crate) fn number(rest: &mut &[u8]) -> Option<u32> {
+    taken(rest).map(u32::from_be_bytes)
+}
+
 /// The next bytes.
-fn taken<const N: usize>(rest: &mut &[u8]) -> Option<[u8; N]> {
+pub(crate) fn taken<const N: usize>(rest: &mut &[u8]) -> Option<[u8; N]> {
     let (first, after) = rest.split_first_chunk()?;
     *rest = after;
     Some(*first)

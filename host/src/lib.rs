@@ -2,11 +2,12 @@
 //!
 //! [`Committer`] owns the tables and the state. Every call on every input has an answer: a call that can't be done is
 //! refused with a number ([`Refusal`]) and changes nothing, but for the anchors that a commit finished before. What a
-//! commit would hand out, an outlook tells without a change.
+//! commit would hand out, an outlook tells without a change; what a remove drains, it reports.
 
 mod anchor;
 pub mod record;
 mod refusal;
+mod removal;
 mod state;
 pub mod sys;
 mod types;
@@ -14,9 +15,12 @@ mod types;
 pub use anchor::{Anchor, Look, OUTLOOK_BYTES, RECORD_BYTES, anchors, looks};
 pub use record::Call;
 pub use refusal::{Refusal, Refused};
+pub use removal::{JournalDagEvent, MempoolPeerCounters, MempoolPeerStats, PEER_BYTES, Removal, removal};
 pub use state::STATE_BYTES;
 pub use sys::State;
-pub use types::{Link, Point, PointId, PointInfo, RetainedRound, Start, Status, Summary, digest_bytes, digest_words};
+pub use types::{
+    Entry, Link, Memory, Point, PointId, PointInfo, RetainedRound, Start, Status, Summary, digest_bytes, digest_words,
+};
 
 use std::fmt;
 
@@ -32,6 +36,9 @@ pub const ROUND_MAX: u32 = 4_000_000_000;
 pub const COMMIT_BYTES_MAX: usize = (ROUNDS_MAX - 1) * RECORD_BYTES + PLACES_MAX * anchor::ID_BYTES;
 /// A buffer of so many bytes has room for any outlook.
 pub const OUTLOOK_BYTES_MAX: usize = (ROUNDS_MAX - 1) * OUTLOOK_BYTES;
+
+/// A buffer of so many bytes has room for the answer of any remove; `include/committer.h` derives it.
+pub const REMOVE_BYTES_MAX: usize = 5_785_509;
 
 /// Words of a place in each table.
 pub const KEY_WORDS: usize = 8;
@@ -76,10 +83,10 @@ pub enum Answer {
     Handed(Vec<Anchor>),
     /// the anchors that an outlook tells, oldest first
     Looked(Vec<Look>),
+    /// what a remove reports
+    Removed(Removal),
     /// with the anchors that were finished before; only a commit has any
     Refused(Refused, Vec<Anchor>),
-    /// the library doesn't have this call yet: remove
-    Unsupported,
 }
 
 impl fmt::Display for Answer {
@@ -90,8 +97,8 @@ impl fmt::Display for Answer {
             Answer::Said(false) => write!(f, "no"),
             Answer::Handed(anchors) => write!(f, "{} anchors", anchors.len()),
             Answer::Looked(looks) => write!(f, "an outlook of {} anchors", looks.len()),
+            Answer::Removed(told) => write!(f, "{} peers, {} events", told.peers.len(), told.events.len()),
             Answer::Refused(why, _) => why.fmt(f),
-            Answer::Unsupported => write!(f, "unsupported"),
         }
     }
 }
@@ -223,7 +230,15 @@ impl Committer {
         ask!(self, committer_outlook, trigger.into(), buffer.as_mut_ptr(), buffer.len()).map(|kept| kept.anchors)
     }
 
-    /// Runs a recorded call. A commit or an outlook gets a buffer that is large enough.
+    /// Removes the rounds more than H below an anchor's, but for the top, and reports what the inspector finds in them:
+    /// the answer stands at the beginning of the buffer ([`removal`] reads it). Counters are of the rounds from `since`
+    /// on; none are counted without it. Refused with 2, 23, 21; then the buffer stays as it is.
+    pub fn remove(&mut self, round: u32, since: Option<u32>, buffer: &mut [u8]) -> Result<(), Refused> {
+        let (has_since, since) = (since.is_some().into(), since.unwrap_or(0));
+        run!(self, committer_remove, round, has_since, since, buffer.as_mut_ptr(), buffer.len()).map(drop)
+    }
+
+    /// Runs a recorded call. A commit, an outlook or a remove gets a buffer that is large enough.
     pub fn call(&mut self, call: &Call) -> Answer {
         match call {
             Call::Start(with) => done(self.start(with)),
@@ -236,7 +251,7 @@ impl Committer {
             Call::Reset => done(self.reset()),
             Call::Commit(trigger) => self.handed(trigger),
             Call::Outlook(trigger) => self.looked(trigger),
-            Call::Remove { .. } => Answer::Unsupported,
+            Call::Remove { round, since } => self.removed(*round, *since),
         }
     }
 
@@ -251,6 +266,14 @@ impl Committer {
     fn looked(&self, trigger: &PointId) -> Answer {
         let mut buffer = vec![0; OUTLOOK_BYTES_MAX];
         self.outlook(trigger, &mut buffer).map_or_else(refused, |count| Answer::Looked(looks(&buffer, count)))
+    }
+
+    fn removed(&mut self, round: u32, since: Option<u32>) -> Answer {
+        let mut buffer = vec![0; REMOVE_BYTES_MAX];
+        match self.remove(round, since, &mut buffer) {
+            Ok(()) => Answer::Removed(removal(&buffer).expect("a remove writes a whole answer")),
+            Err(why) => refused(why),
+        }
     }
 
     /// Whether state and tables count as started.
@@ -283,6 +306,12 @@ impl Committer {
             emit_first_after_gap: (s.emit_first_after_gap != 0).then_some(s.emit_first_after_gap != 1),
             rounds: (s.bottom..=s.top).map(|round| self.retained(round)).collect(),
         })
+    }
+
+    /// The inspector's memory as it stands in the state; a reset leaves it there.
+    pub fn memory(&self) -> Memory {
+        let memory = &self.state.memory;
+        Memory { last: memory.last, entries: memory.entries.iter().take(memory.count).map(Entry::from).collect() }
     }
 
     fn retained(&self, round: u32) -> RetainedRound {

@@ -2,8 +2,8 @@
 
 use std::fmt;
 
-/// One case for each number of document 01's table. 13 to 22 are of commits and, but for 20, of outlooks; 23 is of a
-/// call that the library doesn't have yet.
+/// One case for each number of document 01's table. 13 to 22 are of commits and, but for 20, of outlooks; 21 and 23 of
+/// remove.
 #[derive(Clone, Copy, Debug, PartialEq, Eq, Hash)]
 pub enum Refusal {
     BadStart,

@@ -111,6 +111,29 @@ pub struct Resolution {
     pub witness: usize,
 }
 
+/// The counters of a peer over the rounds that a remove reports.
+#[repr(C)]
+#[derive(Clone, Copy, Debug, Default, PartialEq, Eq, Hash)]
+pub struct Counters {
+    /// rounds with its used mark
+    pub was_leader: u16,
+    /// rounds without a point of status 1 to 4
+    pub skipped_rounds: u16,
+    /// rounds with a valid point
+    pub valid_points: u16,
+    pub points_proved: u16,
+    /// points of status 1 to 4 beyond the first of a round
+    pub equivocated: u16,
+    /// not proved, with a cause that has a DAG round
+    pub trans_invalid_points: u16,
+    /// not certified, with a cause that has a DAG round
+    pub invalid_points: u16,
+    /// not certified
+    pub ill_formed_points: u16,
+    /// proofs of points that it signed and didn't reference
+    pub references_skipped: u16,
+}
+
 // the layout that the library was built with
 const _: () = assert!(size_of::<usize>() == 8);
 const _: () = assert!(size_of::<PointId>() == 40);
@@ -123,6 +146,7 @@ const _: () = assert!(offset_of!(Reply, state) == 16);
 const _: () = assert!(size_of::<Reply>() == 15448);
 const _: () = assert!(size_of::<Start>() == 28);
 const _: () = assert!(size_of::<Resolution>() == 72);
+const _: () = assert!(size_of::<Counters>() == 18);
 
 // Safety, of all of them: each pointer is to as many words (or bytes, of the buffer) as its length says, and no two of
 // what is lent overlap.
@@ -262,4 +286,23 @@ unsafe extern "C" {
         buffer: *mut u8,
         buffer_len: usize,
     ) -> Reply;
+
+    pub fn committer_remove(
+        state: State,
+        keys: *mut u64,
+        keys_len: usize,
+        links: *mut u64,
+        links_len: usize,
+        certs: *mut u64,
+        certs_len: usize,
+        order: *mut u64,
+        order_len: usize,
+        round: u32,
+        has_since: u32,
+        since: u32,
+        buffer: *mut u8,
+        buffer_len: usize,
+    ) -> Reply;
+
+    pub fn committer_merge(counters: *mut Counters, other: Counters);
 }

@@ -12,9 +12,13 @@ pub struct PointId {
 impl PointId {
     /// Round, author and the digest's 64 hexadecimal digits, with a mark between them.
     pub fn text(&self, mark: &str) -> String {
-        let digest: String = self.digest.iter().map(|byte| format!("{byte:02x}")).collect();
-        format!("{}{mark}{}{mark}{digest}", self.round, self.author)
+        format!("{}{mark}{}{mark}{}", self.round, self.author, hex(&self.digest))
     }
+}
+
+/// The 64 hexadecimal digits of a digest.
+pub(crate) fn hex(digest: &[u8; 32]) -> String {
+    digest.iter().map(|byte| format!("{byte:02x}")).collect()
 }
 
 /// A link one round down (includes) or two (witness).
@@ -153,6 +157,36 @@ pub struct Summary {
     pub emit_first_after_gap: Option<bool>,
     /// from bottom to top
     pub rounds: Vec<RetainedRound>,
+}
+
+/// The inspector's memory of the last round that it inspected.
+#[derive(Clone, Debug, PartialEq, Eq, Hash)]
+pub struct Memory {
+    pub last: u32,
+    /// by rising digest
+    pub entries: Vec<Entry>,
+}
+
+/// A trusted point of that round.
+#[derive(Clone, Copy, Debug, PartialEq, Eq, Hash)]
+pub struct Entry {
+    pub author: u32,
+    pub digest: [u8; 32],
+    /// the digest of its previous point
+    pub previous: Option<[u8; 32]>,
+    /// the peers that signed the previous point and have no trusted point of that round that includes it, as a set
+    pub unreferenced_by: u32,
+}
+
+impl From<&sys::Entry> for Entry {
+    fn from(entry: &sys::Entry) -> Entry {
+        Entry {
+            author: entry.author,
+            digest: digest_bytes(&entry.digest),
+            previous: (entry.has_previous != 0).then(|| digest_bytes(&entry.previous)),
+            unreferenced_by: entry.unreferenced_by,
+        }
+    }
 }
 
 /// The four words of a digest, the most significant first.

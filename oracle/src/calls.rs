@@ -3,6 +3,8 @@
 use std::num::{NonZeroU8, NonZeroU16};
 
 use tokio::sync::mpsc::{UnboundedSender, unbounded_channel};
+use tycho_network::PeerId;
+use tycho_util::FastHashMap;
 
 use crate::convert;
 use crate::dag::dag_point_future::{DagPointFuture, WeakDagPointFuture};
@@ -11,7 +13,8 @@ use crate::effects::RoundCtx;
 use crate::engine::{ConsensusConfig, EngineError, MempoolConfig};
 use crate::intercom::peer_schedule::stats_ranges;
 use crate::intercom::{Downloader, PeerSchedule};
-use crate::models::{Cert, DagPoint, Round};
+use crate::models::{Cert, DagPoint, MempoolPeerStats, Round};
+use crate::moderator::JournalDagEvent;
 use crate::outcome::{Outcome, caught};
 use crate::storage::MempoolStore;
 use crate::types::{CommitAnswer, Id, Info, RemoveAnswer, Start};
@@ -32,6 +35,9 @@ pub(crate) struct Board {
 
 /// Why the Rust has no such call.
 type NoCall = &'static str;
+
+/// What `remove_committed` returns.
+type Removed = (FastHashMap<PeerId, MempoolPeerStats>, Vec<JournalDagEvent>);
 
 impl Default for Oracle {
     fn default() -> Self {
@@ -139,6 +145,14 @@ impl Oracle {
         self.call(|board| Ok(board.remove(anchor, stats_since)))
     }
 
+    /// Likewise, and only the numbers of peers and of events: what is timed has no sorting in it.
+    pub fn remove_counts(&mut self, anchor: u32, stats_since: Option<u32>) -> Outcome<(usize, usize)> {
+        self.call(|board| {
+            let (stats, events) = board.removed(anchor, stats_since);
+            Ok((stats.len(), events.len()))
+        })
+    }
+
     fn call<T>(&mut self, call: impl FnOnce(&mut Board) -> Result<T, NoCall>) -> Outcome<T> {
         if let Some(message) = &self.panicked {
             return Outcome::Panicked(message.clone());
@@ -224,10 +238,13 @@ impl Board {
         self.point(id)?.resolved().cloned().ok_or("the trigger isn't resolved")
     }
 
-    fn remove(&mut self, anchor: u32, stats_since: Option<u32>) -> RemoveAnswer {
+    fn removed(&mut self, anchor: u32, stats_since: Option<u32>) -> Removed {
         let ranges = stats_ranges(stats_since.map(Round));
-        let (stats, events) =
-            (self.committer).remove_committed(Round(anchor), &ranges, &self.conf).expect("no stand-in cancels");
+        (self.committer).remove_committed(Round(anchor), &ranges, &self.conf).expect("no stand-in cancels")
+    }
+
+    fn remove(&mut self, anchor: u32, stats_since: Option<u32>) -> RemoveAnswer {
+        let (stats, events) = self.removed(anchor, stats_since);
         let mut peers: Vec<_> = stats.iter().filter_map(|(peer, stats)| convert::peer_stats(peer, stats)).collect();
         peers.sort_unstable_by_key(|stats| stats.peer);
         let mut events: Vec<_> = events.iter().map(convert::event).collect();

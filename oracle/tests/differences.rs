@@ -106,6 +106,12 @@ fn entry_7_rounds_below_0() {
     assert_eq!(word(&oracle, p(1, 0, 'a')) & COMMITTED, COMMITTED);
 
     panics(started(&start, 3).remove(1, None), underflow);
+
+    // round 0 is inspected
+    let mut oracle = started(&start, 2);
+    oracle.drop_upto(0).done();
+    assert_eq!(oracle.state().first_executable, 1);
+    panics(oracle.remove(2, Some(0)), underflow);
 }
 
 fn reported_proof(seed: u64) -> [u8; 32] {

@@ -2,12 +2,13 @@
 
 use std::fmt;
 
-use committer::{Call, PointId};
+use committer::{Call, PointId, Start};
 
 use crate::counts::Counts;
 use crate::known::{self, Known, Strict, Tried};
 use crate::library::Side;
 use crate::outlook;
+use crate::removes;
 use crate::rules::{Due, due};
 use crate::rust::Rust;
 use crate::view::{Answer, Point, Refused, State, Told, View};
@@ -47,8 +48,10 @@ pub enum Kind {
     Strict,
     /// the records of a commit aren't the points that it marked
     Records,
-    /// a commit into a smaller buffer
+    /// a commit or a remove into a smaller buffer
     Buffer,
+    /// the inspector's memory
+    Memory,
     /// an outlook tells other anchors than the commit hands out, or isn't refused as it is
     Outlook,
 }
@@ -87,6 +90,8 @@ struct Pair<'a, S> {
     rust: Rust,
     /// the calls that both took
     taken: Vec<&'a Call>,
+    /// the round of the last anchor handed out since the start
+    last_anchor: Option<u32>,
     /// ours after the last call
     view: View,
     fingerprint: u64,
@@ -96,12 +101,17 @@ impl<'a, S: Side> Pair<'a, S> {
     fn new(list: &List) -> Self {
         let ours = S::new(list.places);
         let (view, fingerprint) = (ours.view(), ours.fingerprint());
-        Pair { places: list.places, ours, rust: Rust::default(), taken: Vec::new(), view, fingerprint }
+        let (rust, taken) = (Rust::default(), Vec::new());
+        Pair { places: list.places, ours, rust, taken, last_anchor: None, view, fingerprint }
     }
 
     fn step(&mut self, call: &'a Call, counts: &mut Counts) -> Result<Next, Found> {
         if let Call::Commit(trigger) | Call::Outlook(trigger) = call {
             self.outlook(trigger, counts)?;
+        }
+        if let Call::Remove { round, since } = call {
+            let tried = removes::smaller_buffers(&self.ours, *round, *since, &self.view);
+            counts.removes_cut(tried.map_err(|text| (Kind::Buffer, format!("remove: {text}")))?);
         }
         let answer = self.ours.call(call);
         self.by_rule(call, &answer)?;
@@ -123,8 +133,23 @@ impl<'a, S: Side> Pair<'a, S> {
             self.strictly(call, counts)?;
         }
         self.fingerprint = fingerprint;
+        self.follow(call, &answer);
         let before = std::mem::replace(&mut self.view, view);
         self.both(call, &answer, &before, counts)
+    }
+
+    /// Which anchor was handed out last.
+    fn follow(&mut self, call: &Call, answer: &Answer) {
+        let anchors = match answer {
+            Answer::Anchors(anchors) => anchors,
+            Answer::Refused(why) => &why.finished,
+            _ => {
+                return if matches!(call, Call::Start(_) | Call::Reset) {
+                    self.last_anchor = None
+                };
+            }
+        };
+        self.last_anchor = anchors.last().map(|last| last.anchor.round).or(self.last_anchor);
     }
 
     /// The outlook of a trigger tells what its commit does, on a copy.
@@ -134,14 +159,13 @@ impl<'a, S: Side> Pair<'a, S> {
         Ok(())
     }
 
-    /// 1 to 12 are given where document 01 asks for them and nowhere else.
+    /// 1 to 12 and 23 are given where document 01 asks for them and nowhere else.
     fn by_rule(&self, call: &Call, answer: &Answer) -> Result<(), Found> {
         let given = match answer {
-            Answer::Refused(why) if why.number <= 12 => Due::Number(why.number),
-            Answer::Unsupported => return Ok(()),
+            Answer::Refused(why) if why.number <= 12 || why.number == 23 => Due::Number(why.number),
             _ => Due::None,
         };
-        let due = due(call, &self.view, self.places);
+        let due = due(call, &self.view, self.places, self.last_anchor);
         if given == due {
             return Ok(());
         }
@@ -186,8 +210,10 @@ impl<'a, S: Side> Pair<'a, S> {
         let mut second = Rust::after(self.taken.iter().copied());
         let held = self.view.points.len();
         let told = second.call(call);
-        let added = second.view().points.len().saturating_sub(held);
-        let tried = Tried { refused: why, call, before: &self.view, told: &told, added, places: self.places };
+        let after = second.view();
+        let added = after.points.len().saturating_sub(held);
+        let bottom = after.state.map(|state| state.bottom);
+        let tried = Tried { added, bottom, ..self.at(why, call, &self.view, &told) };
         let conflict = Told::Answer(Answer::Refused(why.clone()));
         self.in_another_order(call, why, &told, counts)?;
         match tried.known() {
@@ -205,6 +231,16 @@ impl<'a, S: Side> Pair<'a, S> {
         }
     }
 
+    /// What is known of a refused call, but for what the Rust holds after it.
+    fn at<'b>(&self, refused: &'b Refused, call: &'b Call, before: &'b View, told: &'b Told) -> Tried<'b> {
+        let start = self.taken.iter().rev().find_map(|call| match call {
+            Call::Start(with) => Some(*with),
+            _ => None,
+        });
+        let start = start.unwrap_or(Start::default());
+        Tried { refused, call, before, told, start, added: 0, bottom: None, places: self.places }
+    }
+
     /// Entry 5: a commit refused with 13 to 15, by an oracle that tests the points of a round in another order. It may meet another faulty
     /// point, of the same round or of one that the first order doesn't come to; it doesn't commit.
     fn in_another_order(&self, call: &Call, why: &Refused, told: &Told, counts: &mut Counts) -> Result<(), Found> {
@@ -220,16 +256,7 @@ impl<'a, S: Side> Pair<'a, S> {
         }
         let faulty = [13, 14, 15].into_iter().any(|number| match &other {
             Told::Answer(Answer::Refused(other)) => other.number == number,
-            _ => Tried {
-                refused: &Refused { number, ..why.clone() },
-                call,
-                before: &self.view,
-                told: &other,
-                added: 0,
-                places: self.places,
-            }
-            .known()
-            .is_some(),
+            _ => self.at(&Refused { number, ..why.clone() }, call, &self.view, &other).known().is_some(),
         });
         if !faulty {
             return Err((Kind::Refused(why.number), format!("commit, in another order: {}", told_text(&other))));
@@ -256,14 +283,18 @@ impl<'a, S: Side> Pair<'a, S> {
 
     /// A call that changed something, on the Rust, and what both then hold.
     fn both(&mut self, call: &'a Call, answer: &Answer, before: &View, counts: &mut Counts) -> Result<Next, Found> {
-        if matches!(answer, Answer::Unsupported | Answer::Looked(_)) {
+        if matches!(answer, Answer::Looked(_)) {
             return Ok(Next::On);
         }
         let told = self.rust.call(call);
         if let Answer::Refused(why) = answer {
             return self.finished_before(call, why, before, &told, counts);
         }
-        if told != Told::Answer(answer.clone()) {
+        if let (Answer::Removed(ours), Told::Answer(Answer::Removed(rust))) = (answer, &told)
+            && let Some(lesser) = removes::same(ours, rust, &self.taken, before)
+        {
+            counts.removed(ours, lesser, before, &self.view);
+        } else if told != Told::Answer(answer.clone()) {
             return match (known::taken(call, &told), &told) {
                 (Some(known), _) => {
                     counts.met(known);
@@ -298,7 +329,7 @@ impl<'a, S: Side> Pair<'a, S> {
             self.taken.push(call);
             return self.same(call, counts);
         }
-        match (Tried { refused: why, call, before, told, added: 0, places: self.places }).known() {
+        match self.at(why, call, before, told).known() {
             Some(known) => {
                 counts.tried(why.number, known);
                 Ok(Next::Ends)
@@ -319,6 +350,13 @@ impl<'a, S: Side> Pair<'a, S> {
         if self.view.state != rust.state {
             let text = format!("after {}: {:?}; the Rust: {:?}", name(call), self.view.state, rust.state);
             return Err((Kind::State, text));
+        }
+        let Some(lesser) = removes::same_memory(&self.view.memory, &rust.memory) else {
+            let text = format!("after {}: {:?}; the Rust: {:?}", name(call), self.view.memory, rust.memory);
+            return Err((Kind::Memory, text));
+        };
+        if matches!(call, Call::Remove { .. }) {
+            counts.remembered(&self.view.memory, lesser);
         }
         counts.states += 1;
         counts.points += self.view.points.len() as u64;

@@ -3,10 +3,11 @@
 use std::collections::BTreeMap;
 use std::fmt;
 
-use committer::Call;
+use committer::{Call, Removal};
 
 use crate::known::{ENTRIES, Known, ROWS, row_is_entry};
 use crate::outlook::Compared;
+use crate::view::{Memory, View};
 
 #[derive(Clone, Debug, Default)]
 pub struct Counts {
@@ -32,6 +33,17 @@ pub struct Counts {
     pub outlooks_refused: BTreeMap<u32, u64>,
     /// outlooks into smaller buffers
     pub outlook_buffers: u64,
+    /// removes that both took, by rounds drained
+    pub removes: BTreeMap<usize, u64>,
+    /// removes into smaller buffers
+    pub remove_buffers: u64,
+    /// stats of peers and events that both reported, these by kind
+    pub peer_stats: u64,
+    pub events: BTreeMap<u32, u64>,
+    /// memories that weren't empty after a remove
+    pub memories: u64,
+    /// proofs in them of which the Rust keeps a lesser one
+    pub memory_lesser: u64,
 }
 
 impl Counts {
@@ -62,7 +74,9 @@ impl Counts {
     }
 
     pub fn times_met(&mut self, known: Known, times: u64) {
-        *self.known.entry(known).or_default() += times;
+        if times > 0 {
+            *self.known.entry(known).or_default() += times;
+        }
     }
 
     pub fn handed(&mut self, anchors: usize, refused: bool) {
@@ -77,6 +91,32 @@ impl Counts {
             }
             Compared::Refused(number) => *self.outlooks_refused.entry(*number).or_default() += 1,
         }
+    }
+
+    pub fn removes_cut(&mut self, buffers: u64) {
+        self.remove_buffers += buffers;
+        self.times_met(Known::Entry(14), buffers);
+    }
+
+    /// What both reported, so many events with another proof in the Rust.
+    pub fn removed(&mut self, told: &Removal, lesser: u64, before: &View, after: &View) {
+        let rounds = |view: &View| view.state.as_ref().map_or(0, |state| state.rounds.len());
+        *self.removes.entry(rounds(before) - rounds(after)).or_default() += 1;
+        self.peer_stats += told.peers.len() as u64;
+        for event in &told.events {
+            *self.events.entry(event.kind()).or_default() += 1;
+        }
+        self.times_met(Known::Entry(8), lesser);
+    }
+
+    pub fn remembered(&mut self, memory: &Memory, lesser: u64) {
+        self.memories += u64::from(!memory.peers.is_empty());
+        self.memory_lesser += lesser;
+    }
+
+    /// Removes that both took.
+    pub fn removes_taken(&self) -> u64 {
+        self.removes.values().sum()
     }
 
     /// Outlooks that told anchors.
@@ -117,9 +157,19 @@ impl Counts {
             *self.outlooks_refused.entry(*number).or_default() += times;
         }
         self.outlook_buffers += other.outlook_buffers;
+        for (rounds, times) in &other.removes {
+            *self.removes.entry(*rounds).or_default() += times;
+        }
+        self.remove_buffers += other.remove_buffers;
+        self.peer_stats += other.peer_stats;
+        for (kind, times) in &other.events {
+            *self.events.entry(*kind).or_default() += times;
+        }
+        self.memories += other.memories;
+        self.memory_lesser += other.memory_lesser;
     }
 
-    fn times(&self, known: Known) -> u64 {
+    pub fn times(&self, known: Known) -> u64 {
         let tried = self.tried.iter().filter(|((_, named), _)| *named == known).map(|(_, times)| times);
         tried.chain(self.known.get(&known)).sum()
     }
@@ -163,6 +213,14 @@ impl fmt::Display for Counts {
         writeln!(f, "outlooks by anchors: {}", listed(&self.outlooks))?;
         writeln!(f, "outlooks refused as the commit is, by number: {}", listed(&self.outlooks_refused))?;
         writeln!(f, "outlooks into buffers that are too small: {}", self.outlook_buffers)?;
+        writeln!(f, "removes by rounds drained: {}", listed(&self.removes))?;
+        writeln!(f, "of removes: {} stats of peers; events by kind: {}", self.peer_stats, listed(&self.events))?;
+        writeln!(
+            f,
+            "memories with entries after a remove: {}, lesser proofs in the Rust's: {}",
+            self.memories, self.memory_lesser
+        )?;
+        writeln!(f, "removes into buffers that are too small: {}", self.remove_buffers)?;
         writeln!(f, "refusals:")?;
         for (number, times) in &self.refusals {
             write!(f, "  {number}: {times}, given to the Rust {}", self.tried_of(*number))?;

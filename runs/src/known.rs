@@ -87,8 +87,11 @@ pub struct Tried<'a> {
     /// both sides before the call
     pub before: &'a View,
     pub told: &'a Told,
-    /// how many more points the Rust holds after it
+    /// the last start
+    pub start: Start,
+    /// how many more points the Rust holds after it, and its bottom then, if it holds a round
     pub added: usize,
+    pub bottom: Option<u32>,
     pub places: usize,
 }
 
@@ -109,6 +112,7 @@ impl Tried<'_> {
             10 => no_call(self.told).then_some(Known::Row(10)),
             11 => self.bad_info(),
             12 => self.link_not_named(),
+            23 => self.remove_ahead(),
             number => self.commit_refused(number),
         }
     }
@@ -240,6 +244,25 @@ impl Tried<'_> {
         };
         let added = missing(self.before, id, info);
         self.when(done(self.told) && added > 0 && self.added == added, Known::Entry(11))
+    }
+
+    /// The Rust drains up to H rounds below the given one, all of its rounds too; further up it panics. It also panics where it looks for
+    /// the round before the first executable one or before one that it inspects, and that is round 0.
+    fn remove_ahead(&self) -> Option<Known> {
+        let (Call::Remove { round, .. }, Some(state)) = (self.call, &self.before.state) else {
+            return None;
+        };
+        let low = round.saturating_sub(self.start.commit_history_rounds);
+        if low > state.top + 1 {
+            return self.when(panics(self.told, "drained not contiguous dag part"), Known::Entry(9));
+        }
+        let last_non_executable = state.first_executable.saturating_sub(1).max(self.start.genesis);
+        if state.first_executable == 0 || last_non_executable == 0 && state.bottom == 0 && low > 0 {
+            return self.when(panics(self.told, UNDERFLOW), Known::Entry(7));
+        }
+        let bottom = (low <= state.top).then(|| low.max(state.bottom));
+        let drained = matches!(self.told, Told::Answer(Answer::Removed(_))) && self.bottom == bottom;
+        self.when(drained, Known::Entry(9))
     }
 
     /// 14 and up, of a commit.

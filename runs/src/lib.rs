@@ -8,6 +8,7 @@ pub mod lists;
 pub mod notation;
 pub mod outlook;
 pub mod random;
+pub mod removes;
 pub mod rules;
 pub mod rust;
 pub mod sample;

@@ -2,7 +2,7 @@
 
 use committer::{Anchor, Call, Committer, PointId, Status, anchors};
 
-use crate::view::{Answer, Point, Refused, Round, State, View};
+use crate::view::{Answer, Memory, Point, Refused, Round, State, View};
 
 /// The side that is tested.
 pub trait Side {
@@ -21,6 +21,9 @@ pub trait Side {
 
     /// What a commit of the trigger hands out, or why it is refused, on a copy where the gap question is put.
     fn would_commit(&self, trigger: &PointId) -> Result<Vec<Anchor>, committer::Refused>;
+
+    /// A remove into this buffer, on a copy: what it answers, and the copy's fingerprint after it.
+    fn would_remove(&self, round: u32, since: Option<u32>, buffer: &mut [u8]) -> (Result<(), committer::Refused>, u64);
 
     /// The last call, if it was a commit that wrote records, once more with buffers that are too small: how many, or what is wrong.
     fn smaller_buffers(&self) -> Result<u64, String> {
@@ -52,8 +55,9 @@ impl Side for Library {
     }
 
     fn view(&self) -> View {
+        let memory = memory(&self.committer.memory());
         let Some(summary) = self.committer.summary() else {
-            return View::default();
+            return View { memory, ..View::default() };
         };
         let state = State {
             bottom: summary.bottom,
@@ -66,17 +70,11 @@ impl Side for Library {
                 .map(|round| Round { round: round.round, peers: round.peers, used: round.used })
                 .collect(),
         };
-        View { state: Some(state), points: self.committer.points().iter().map(point).collect() }
+        View { state: Some(state), points: self.committer.points().iter().map(point).collect(), memory }
     }
 
     fn fingerprint(&self) -> u64 {
-        let (tables, state) = self.committer.parts();
-        let mut sum = Sum::new();
-        for table in [&tables.keys, &tables.links, &tables.certs, &tables.order] {
-            sum.words(table);
-        }
-        sum.bytes(&state.to_bytes());
-        sum.total()
+        fingerprint(&self.committer)
     }
 
     fn outlook(&self, trigger: &PointId, buffer: &mut [u8]) -> Result<u32, committer::Refused> {
@@ -90,6 +88,12 @@ impl Side for Library {
         let mut buffer = vec![UNTOUCHED; LARGE];
         let count = copy.commit(trigger, &mut buffer)?;
         Ok(anchors(&buffer, count))
+    }
+
+    fn would_remove(&self, round: u32, since: Option<u32>, buffer: &mut [u8]) -> (Result<(), committer::Refused>, u64) {
+        let mut copy = self.committer.clone();
+        let given = copy.remove(round, since, buffer);
+        (given, fingerprint(&copy))
     }
 
     fn smaller_buffers(&self) -> Result<u64, String> {
@@ -165,9 +169,30 @@ fn exact_buffer(
     Ok(())
 }
 
-/// Whether the library has this call.
-pub fn supports(call: &Call) -> bool {
-    Library::new(1).call(call) != Answer::Unsupported
+fn fingerprint(committer: &Committer) -> u64 {
+    let (tables, state) = committer.parts();
+    let mut sum = Sum::new();
+    for table in [&tables.keys, &tables.links, &tables.certs, &tables.order] {
+        sum.words(table);
+    }
+    sum.bytes(&state.to_bytes());
+    sum.total()
+}
+
+/// By peer: its points, and of the entries with its bit those of each previous digest, which rise.
+fn memory(memory: &committer::Memory) -> Memory {
+    let mut read = Memory { last: memory.last, ..Memory::default() };
+    for entry in &memory.entries {
+        let id = PointId { round: memory.last, author: entry.author, digest: entry.digest };
+        read.peers.entry(entry.author).or_default().authored.push(id);
+        let signers = (0..32).filter(|signer| entry.unreferenced_by >> signer & 1 == 1);
+        if let Some(signed) = entry.previous {
+            signers.for_each(|signer| {
+                read.peers.entry(signer).or_default().signed.entry(signed).or_default().push(id);
+            });
+        }
+    }
+    read
 }
 
 fn answer(answer: committer::Answer) -> Answer {
@@ -177,7 +202,7 @@ fn answer(answer: committer::Answer) -> Answer {
         committer::Answer::Handed(anchors) => Answer::Anchors(anchors),
         committer::Answer::Looked(looks) => Answer::Looked(looks),
         committer::Answer::Refused(why, finished) => Answer::Refused(refused(why, finished)),
-        committer::Answer::Unsupported => Answer::Unsupported,
+        committer::Answer::Removed(told) => Answer::Removed(told),
     }
 }
 

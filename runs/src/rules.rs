@@ -1,4 +1,4 @@
-//! Document 01's conditions of the refusals 1 to 12, in its order of test, over what a side holds. The Rust has no numbers, so that a call
+//! Document 01's conditions of the refusals 1 to 12 and 23, in its order of test, over what a side holds. The Rust has no numbers, so that a call
 //! is rightly refused, or rightly not, is tested by these.
 
 use committer::{Call, LINKS_MAX, Link, PLACES_MAX, PointId, PointInfo, ROUND_MAX, ROUNDS_MAX, Start, VERSIONS_MAX};
@@ -9,12 +9,13 @@ use crate::view::{State, View};
 #[derive(Clone, Copy, Debug, PartialEq, Eq)]
 pub enum Due {
     Number(u32),
-    /// by none of 1 to 12; a commit may be refused by a higher number
+    /// by none of these; a commit, an outlook or a remove may be refused by another number
     None,
 }
 
-/// Which of the numbers 1 to 12 a call on tables of so many places is to be refused with.
-pub fn due(call: &Call, before: &View, places: usize) -> Due {
+/// Which of the numbers 1 to 12 and 23 a call on tables of so many places is to be refused with. The last anchor is that handed out since
+/// the start.
+pub fn due(call: &Call, before: &View, places: usize, last_anchor: Option<u32>) -> Due {
     let number = match (call, &before.state) {
         (Call::Start(with), state) => start(with, state.is_some(), places),
         (_, None) => Some(2),
@@ -25,7 +26,8 @@ pub fn due(call: &Call, before: &View, places: usize) -> Due {
         (Call::Resolve(id, info), Some(state)) => place(id, state).or_else(|| resolve(id, info, before)),
         (Call::Certify(id), Some(state)) => place(id, state).or((!before.holds_point(id)).then_some(9)),
         (Call::Commit(id) | Call::Outlook(id), Some(state)) => trigger(id, state, before),
-        (Call::Drop(_) | Call::Gap | Call::Reset | Call::Remove { .. }, Some(_)) => None,
+        (Call::Remove { round, .. }, Some(_)) => last_anchor.is_none_or(|last| last < *round).then_some(23),
+        (Call::Drop(_) | Call::Gap | Call::Reset, Some(_)) => None,
     };
     number.map_or(Due::None, Due::Number)
 }

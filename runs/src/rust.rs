@@ -1,9 +1,12 @@
 //! The Rust's side: the oracle, driven by the same calls.
 
-use committer::{Anchor, Call, Link, PointId, PointInfo, Start};
-use oracle::{CommitAnswer, Id, Info, Oracle, Outcome};
+use committer::{
+    Anchor, Call, JournalDagEvent, Link, MempoolPeerCounters, MempoolPeerStats, PointId, PointInfo, Removal, Start,
+};
+use oracle::{CommitAnswer, Event, Id, Info, Oracle, Outcome, PeerStats, RemoveAnswer};
 
-use crate::view::{Answer, Point, Refused, Round, State, Told, View};
+use crate::removes::score;
+use crate::view::{Answer, Memory, PeerMemory, Point, Refused, Round, State, Told, View};
 
 pub struct Rust(Oracle);
 
@@ -47,8 +50,14 @@ impl Rust {
             Call::Gap => said(oracle.gap_question()),
             Call::Reset => done(oracle.reset()),
             Call::Commit(id) => committed(oracle.commit(&plain(id)?)),
-            Call::Remove { .. } | Call::Outlook(_) => Told::Answer(Answer::Unsupported),
+            Call::Remove { round, since } => removed(oracle.remove(*round, *since)),
+            Call::Outlook(_) => return Err("the Rust has no outlook"),
         })
+    }
+
+    /// A remove as it is timed: its answer is counted and not read.
+    pub fn remove_counts(&mut self, round: u32, since: Option<u32>) -> Outcome<(usize, usize)> {
+        self.0.remove_counts(round, since)
     }
 
     pub fn view(&self) -> View {
@@ -64,10 +73,21 @@ impl Rust {
                 .map(|round| Round { round: round.round, peers: round.authors, used: round.used.map(u32::from) })
                 .collect(),
         });
-        let mut view = View { state, points: self.0.points().iter().map(point).collect() };
+        let mut view =
+            View { state, points: self.0.points().iter().map(point).collect(), memory: memory(&self.0.memory()) };
         view.sort();
         view
     }
+}
+
+/// Peers whose proofs were all included have nothing left here.
+fn memory(memory: &oracle::Memory) -> Memory {
+    let peers = memory.peers.iter().map(|peer| {
+        let signed = peer.signed_proofs.iter().map(|(digest, proof)| (*digest, vec![id(proof)])).collect();
+        (peer.peer.into(), PeerMemory { authored: peer.authored.iter().map(id).collect(), signed })
+    });
+    let holds = |peer: &PeerMemory| !peer.authored.is_empty() || !peer.signed.is_empty();
+    Memory { last: memory.last_round, peers: peers.filter(|(_, peer)| holds(peer)).collect() }
 }
 
 fn point(point: &oracle::PointState) -> Point {
@@ -150,5 +170,38 @@ fn anchor(anchor: &oracle::Anchor) -> Anchor {
         executable: anchor.executable,
         previous: anchor.prev_anchor.unwrap_or(0),
         points: anchor.points.iter().map(id).collect(),
+    }
+}
+
+/// The score isn't in the Rust: it is document 01's of the Rust's counters.
+fn removed(outcome: Outcome<RemoveAnswer>) -> Told {
+    told(outcome, |answer| {
+        let peers = answer.peers.iter().map(peer_stats).collect();
+        Answer::Removed(Removal { peers, events: answer.events.iter().map(event).collect() })
+    })
+}
+
+fn peer_stats(stats: &PeerStats) -> MempoolPeerStats {
+    MempoolPeerStats {
+        peer: stats.peer.into(),
+        first_round: stats.first_round,
+        last_round: stats.last_round,
+        counters: MempoolPeerCounters::of(stats.counters),
+        score: score(&stats.counters),
+    }
+}
+
+fn event(event: &Event) -> JournalDagEvent {
+    let ids = |ids: &[Id]| ids.iter().map(id).collect();
+    match event {
+        Event::TransInvalid(point) => JournalDagEvent::TransInvalid(id(point)),
+        Event::Invalid(point) => JournalDagEvent::Invalid(id(point)),
+        Event::IllFormed(point) => JournalDagEvent::IllFormed(id(point)),
+        Event::Equivocated { author, round, digests } => {
+            JournalDagEvent::Equivocated { author: (*author).into(), round: *round, digests: digests.clone() }
+        }
+        Event::EvidenceNoInclusion { signer, blamed, proofs } => {
+            JournalDagEvent::EvidenceNoInclusion { signer: (*signer).into(), blamed: ids(blamed), proofs: ids(proofs) }
+        }
     }
 }

@@ -7,14 +7,16 @@ use committer::{Anchor, Call, record};
 use crate::compare::{List, compare};
 use crate::counts::{Counts, kind};
 use crate::known::Known;
-use crate::library::Library;
-use crate::lists::{Growth, Taste, chained};
+use crate::library::{Library, Side};
+use crate::lists::{Growth, Taste, chained, removing};
 use crate::random::Random;
 use crate::rust::Rust;
 use crate::view::{Answer, Told, View};
 
 /// `replay` lends tables of so many places.
 const PLACES: usize = 20;
+/// And a buffer of so many bytes.
+const BUFFER: usize = 4096;
 /// It reads 65,536 bytes at most.
 const BYTES_MAX: usize = 59_000;
 /// So many points at least are left at the end.
@@ -26,13 +28,18 @@ pub struct Sample {
     pub text: String,
 }
 
-/// Lists of random growth and chains in turn, with a reset between any two, the last with points left.
+/// Lists of random growth, chains and lists that remove in turn, with a reset between any two, the last with points left.
 pub fn sample() -> Sample {
     let last = (1000..1200).map(list).max_by_key(|calls| words_left(calls)).expect("there are lists");
     let mut calls = Vec::new();
     let mut chains = (0..1000).filter_map(chain);
+    let mut removes = (0..10_000).filter_map(remove);
     for n in 0.. {
-        let next = if n % 2 == 0 { list(n) } else { chains.next().expect("there are chains") };
+        let next = match n % 4 {
+            0 => list(n),
+            1 => chains.next().expect("there are chains"),
+            _ => removes.next().expect("there are lists that remove"),
+        };
         if encoded(&calls).len() + encoded(&next).len() + encoded(&last).len() > BYTES_MAX {
             break;
         }
@@ -70,12 +77,38 @@ fn list(n: u64) -> Vec<Call> {
 
 /// A list that commits, small enough for the tables, that the Rust takes whole and answers as document 01.
 fn chain(n: u64) -> Option<Vec<Call>> {
-    let list = List { places: PLACES, ..chained(Random::of(2026, 5, n)) };
+    let (list, counts) = alike(chained(Random::of(2026, 5, n)))?;
+    (counts.anchors > 0).then_some(list.calls)
+}
+
+/// Likewise a list whose removes report events of several kinds, a fork or evidence without inclusion among them.
+fn remove(n: u64) -> Option<Vec<Call>> {
+    let (list, counts) = alike(removing(Random::of(2026, 8, n)))?;
+    let kinds: Vec<u32> = counts.events.keys().copied().collect();
+    (kinds.len() > 1 && kinds.last() >= Some(&4)).then_some(list.calls)
+}
+
+/// The list on tables of `replay`, if no call is refused and the Rust answers as document 01.
+fn alike(list: List) -> Option<(List, Counts)> {
+    let list = List { places: PLACES, ..list };
+    if !taken(&list.calls) {
+        return None;
+    }
     let mut counts = Counts::default();
     compare::<Library>(&list, &mut counts).unwrap_or_else(|why| panic!("{why}"));
-    // commits are also made with smaller buffers there, which the Rust doesn't have
-    let alike = counts.known.keys().all(|known| *known == Known::Entry(14));
-    (alike && counts.refusals.is_empty() && counts.anchors > 0).then_some(list.calls)
+    // commits and removes are also made with smaller buffers there, which the Rust doesn't have
+    let alike = counts.known.keys().all(|known| *known == Known::Entry(14)) && counts.memory_lesser == 0;
+    (alike && counts.refusals.is_empty()).then_some((list, counts))
+}
+
+/// Whether the library takes all calls, each with an answer that has room in the buffer of `replay`.
+fn taken(calls: &[Call]) -> bool {
+    let mut library = Library::new(PLACES);
+    calls.iter().all(|call| match library.call(call) {
+        Answer::Refused(_) => false,
+        Answer::Removed(told) => told.bytes() <= BUFFER,
+        _ => true,
+    })
 }
 
 /// How many different certificate words a list leaves, if it leaves enough points.
@@ -107,6 +140,7 @@ pub fn line(call: &Call, answer: &Answer) -> String {
         (Call::Drop(_), Answer::Said(yes)) => format!("drop {}", yes_or_no(*yes)),
         (_, Answer::Done) => "ok".into(),
         (Call::Commit(_), Answer::Anchors(anchors)) => anchor_lines(anchors) + "ok",
+        (Call::Remove { .. }, Answer::Removed(told)) => told.to_string() + "ok",
         (_, Answer::Refused(why)) if why.number == 13 => {
             anchor_lines(&why.finished) + &format!("refused 13 {}", why.round)
         }

@@ -203,6 +203,7 @@ fn simpler(call: &Call) -> Vec<Call> {
             fewer_peers(*peers).into_iter().map(|peers| Call::Round { round: *round, peers }).collect()
         }
         Call::Resolve(id, info) => simpler_infos(id, info).into_iter().map(|info| Call::Resolve(*id, info)).collect(),
+        Call::Remove { round, .. } => [None, Some(0)].map(|since| Call::Remove { round: *round, since }).into(),
         _ => Vec::new(),
     }
     .into_iter()

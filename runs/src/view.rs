@@ -1,6 +1,8 @@
 //! What both sides are read as, and what they answer.
 
-use committer::{Anchor, Look, PointId};
+use std::collections::BTreeMap;
+
+use committer::{Anchor, Look, PointId, Removal};
 
 /// What a side holds.
 #[derive(Clone, Debug, Default, PartialEq, Eq)]
@@ -9,6 +11,23 @@ pub struct View {
     pub state: Option<State>,
     /// by rising round, then digest, then author
     pub points: Vec<Point>,
+    pub memory: Memory,
+}
+
+/// The inspector's memory of its last round, as the Rust has it: by peer.
+#[derive(Clone, Debug, Default, PartialEq, Eq)]
+pub struct Memory {
+    pub last: u32,
+    /// peers with a point or a proof
+    pub peers: BTreeMap<u32, PeerMemory>,
+}
+
+#[derive(Clone, Debug, Default, PartialEq, Eq)]
+pub struct PeerMemory {
+    /// its trusted points of that round, by digest
+    pub authored: Vec<PointId>,
+    /// the digests that it signed and didn't include, each with the proof that tells; ours have the greatest last, the Rust has one
+    pub signed: BTreeMap<[u8; 32], Vec<PointId>>,
 }
 
 #[derive(Clone, Debug, PartialEq, Eq)]
@@ -71,9 +90,8 @@ pub enum Answer {
     Anchors(Vec<Anchor>),
     /// of an outlook
     Looked(Vec<Look>),
+    Removed(Removal),
     Refused(Refused),
-    /// the side doesn't have this call
-    Unsupported,
 }
 
 #[derive(Clone, Debug, PartialEq, Eq)]

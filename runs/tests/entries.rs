@@ -1,7 +1,7 @@
-//! The lists of docs/DIFFERENCES.md that commit, on both sides: the library answers as document 01 asks, and the harness names what the
+//! The lists of docs/DIFFERENCES.md that commit or remove, on both sides: the library answers as document 01 asks, and the harness names what the
 //! Rust does by the entry or row.
 
-use committer::{Call, PointId, PointInfo, Start};
+use committer::{Call, JournalDagEvent, PointId, PointInfo, Start};
 use runs::compare::{List, compare};
 use runs::counts::Counts;
 use runs::known::Known;
@@ -146,6 +146,77 @@ fn entry_7() {
     let (given, counts) = played(calls);
     assert_eq!(given, (16, 0, 0));
     assert_eq!(counts.tried.get(&(16, Known::Entry(7))), Some(&1), "{counts}");
+}
+
+/// A first executable round of 0, and round 0 inspected; 01 refuses both removes.
+#[test]
+fn entry_7_of_removes() {
+    let mut calls = begun(start(0, 1, 1, Some(0)), 3);
+    calls.push(Call::Remove { round: 1, since: None });
+    meets(calls, (23, 0, 0), Known::Entry(7));
+    let mut calls = begun(start(0, 1, 1, None), 2);
+    calls.extend([Call::Drop(0), Call::Remove { round: 2, since: Some(0) }]);
+    meets(calls, (23, 0, 0), Known::Entry(7));
+}
+
+/// Two proofs of one previous point; the Rust reports one or the other, by its hash seed.
+#[test]
+fn entry_8() {
+    let mut calls = begun(Start { bottom: 2, ..start(1, 1, 3, None) }, 7);
+    let signed = PointInfo { evidence: 0b10, ..includes(&[(0, 'a')]) };
+    for (id, info) in [
+        (id(2, 0, 'b'), signed.clone()),
+        (id(2, 0, 'c'), signed),
+        (id(2, 1, 'd'), includes(&[])),
+        (id(3, 1, 'e'), includes(&[])),
+        (id(5, 0, 'f'), top(id(1, 0, 'z'), &[])),
+        (id(6, 0, 'g'), proof(id(6, 0, 'g'), &[(0, 'f')])),
+        (id(7, 0, 'h'), trigger(&[(0, 'g')])),
+    ] {
+        put(&mut calls, id, info);
+    }
+    calls.extend([Call::Certify(id(5, 0, 'f')), Call::Commit(id(7, 0, 'h'))]);
+    calls.push(Call::Remove { round: 5, since: Some(0) });
+    let mut met = [false; 2];
+    for seed in 0..32 {
+        oracle::set_hash_seed(seed);
+        let (given, counts) = played(calls.clone());
+        assert_eq!(given, (0, 0, 0));
+        assert_eq!(counts.events.iter().collect::<Vec<_>>(), [(&4, &1), (&5, &1)]);
+        met[usize::from(counts.known.contains_key(&Known::Entry(8)))] = true;
+    }
+    assert_eq!(met, [true, true]);
+    let list = List { places: 12, calls };
+    let mut library = Library::new(12);
+    let Some(Answer::Removed(told)) = list.calls.iter().map(|call| library.call(call)).last() else {
+        panic!("a remove");
+    };
+    let (blamed, proofs) = (vec![id(2, 1, 'd'), id(3, 1, 'e')], vec![id(2, 0, 'c')]);
+    let digests = vec![digest('b' as u32), digest('c' as u32)];
+    let events = [
+        JournalDagEvent::Equivocated { author: 0, round: 2, digests },
+        JournalDagEvent::EvidenceNoInclusion { signer: 1, blamed, proofs },
+    ];
+    assert_eq!(told.events, events);
+    assert_eq!(told.peers.iter().map(|peer| peer.score).collect::<Vec<_>>(), [22, 1]);
+}
+
+#[test]
+fn entries_9_and_14_of_removes() {
+    let mut calls = begun(start(10, 1, 1, None), 10);
+    calls.push(Call::Remove { round: 10, since: None });
+    meets(calls, (23, 0, 0), Known::Entry(9));
+    // the Rust drains a round, all rounds, or panics
+    for round in [12, 15, 16] {
+        let mut calls = list_a(false, true);
+        calls.push(Call::Remove { round, since: None });
+        meets(calls, (23, 0, 0), Known::Entry(9));
+    }
+    let mut calls = list_a(false, true);
+    calls.push(Call::Remove { round: 11, since: None });
+    let (given, counts) = played(calls);
+    assert_eq!(given, (0, 0, 0));
+    assert_eq!(counts.remove_buffers, 4, "{counts}");
 }
 
 /// 10.0.a as told, 11.0.b a trigger that includes it.

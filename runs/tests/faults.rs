@@ -1,12 +1,13 @@
-//! The harness finds faults: a side with one wrong height, flag, answer, refusal or word is caught, and the list that shows it is short.
+//! The harness finds faults: a side with one wrong height, flag, answer, refusal, word, counter, event or entry of the memory is caught, and
+//! the list that shows it is short.
 
 use std::marker::PhantomData;
 
-use committer::{Anchor, Call, OUTLOOK_BYTES, PointId};
+use committer::{Anchor, Call, JournalDagEvent, OUTLOOK_BYTES, PointId, Removal};
 use runs::compare::{Kind, List, compare};
 use runs::counts::Counts;
 use runs::library::{Library, Side};
-use runs::lists::{chained, grown};
+use runs::lists::{chained, grown, removing};
 use runs::notation;
 use runs::random::Random;
 use runs::shrink::shrink;
@@ -28,6 +29,11 @@ trait Fault {
     /// added to the fingerprint after a call with this answer
     fn written(_answer: &Answer) -> u64 {
         0
+    }
+
+    /// what a remove into a buffer of so many bytes answers on a copy
+    fn cut(_length: usize, given: Result<(), committer::Refused>) -> Result<(), committer::Refused> {
+        given
     }
 }
 
@@ -67,6 +73,11 @@ impl<F: Fault> Side for Wrong<F> {
 
     fn would_commit(&self, trigger: &PointId) -> Result<Vec<Anchor>, committer::Refused> {
         self.library.would_commit(trigger)
+    }
+
+    fn would_remove(&self, round: u32, since: Option<u32>, buffer: &mut [u8]) -> (Result<(), committer::Refused>, u64) {
+        let (given, fingerprint) = self.library.would_remove(round, since, buffer);
+        (F::cut(buffer.len(), given), fingerprint ^ self.written)
     }
 }
 
@@ -326,6 +337,177 @@ fn faults_of_commits_are_caught() {
     assert_eq!(found_in_chains::<History>(), Kind::Records);
     assert_eq!(found_in_chains::<ConflictRound>(), Kind::Refused(13));
     assert_eq!(found_in_chains::<Number>(), Kind::Refused(14));
+}
+
+/// Changes what a remove reports.
+fn reported(mut answer: Answer, change: impl Fn(&mut Removal)) -> Answer {
+    if let Answer::Removed(told) = &mut answer {
+        change(told);
+    }
+    answer
+}
+
+/// A counter is one too high.
+struct Counter;
+
+impl Fault for Counter {
+    fn answer(_: &Call, _: &View, answer: Answer) -> Answer {
+        reported(answer, |told| told.peers.iter_mut().for_each(|peer| peer.counters.references_skipped += 1))
+    }
+}
+
+/// The score of a peer with two forks is that of one.
+struct Score;
+
+impl Fault for Score {
+    fn answer(_: &Call, _: &View, answer: Answer) -> Answer {
+        let lower = |told: &mut Removal| {
+            told.peers.iter_mut().filter(|peer| peer.counters.equivocated > 1).for_each(|peer| peer.score -= 20);
+        };
+        reported(answer, lower)
+    }
+}
+
+/// A peer's first round is the one above.
+struct FirstRound;
+
+impl Fault for FirstRound {
+    fn answer(_: &Call, _: &View, answer: Answer) -> Answer {
+        reported(answer, |told| told.peers.iter_mut().for_each(|peer| peer.first_round += 1))
+    }
+}
+
+/// An event is left out.
+struct LostEvent;
+
+impl Fault for LostEvent {
+    fn answer(_: &Call, _: &View, answer: Answer) -> Answer {
+        reported(answer, |told| told.events.retain(|event| event.kind() != 3))
+    }
+}
+
+/// Another digest than the fork's.
+struct ForkDigest;
+
+impl Fault for ForkDigest {
+    fn answer(_: &Call, _: &View, answer: Answer) -> Answer {
+        let change = |told: &mut Removal| {
+            for event in &mut told.events {
+                if let JournalDagEvent::Equivocated { digests, .. } = event {
+                    digests[1][31] ^= 1;
+                }
+            }
+        };
+        reported(answer, change)
+    }
+}
+
+/// Of two proofs of one previous point a lesser one is reported: what entry 8 lets the Rust do.
+struct LesserProof;
+
+impl Fault for LesserProof {
+    fn answer(_: &Call, before: &View, answer: Answer) -> Answer {
+        let change = |told: &mut Removal| {
+            for event in &mut told.events {
+                if let JournalDagEvent::EvidenceNoInclusion { signer, proofs, .. } = event {
+                    let first = proofs.first().copied();
+                    let mut signed = before.memory.peers.get(signer).into_iter().flat_map(|peer| peer.signed.values());
+                    if let Some(others) = signed.find(|others| others.len() > 1 && others.last().copied() == first) {
+                        proofs[0] = others[0];
+                    }
+                }
+            }
+        };
+        reported(answer, change)
+    }
+}
+
+/// Blamed are the points of the upper round alone.
+struct Blamed;
+
+impl Fault for Blamed {
+    fn answer(_: &Call, _: &View, answer: Answer) -> Answer {
+        let change = |told: &mut Removal| {
+            for event in &mut told.events {
+                if let JournalDagEvent::EvidenceNoInclusion { blamed, .. } = event {
+                    blamed.remove(0);
+                }
+            }
+        };
+        reported(answer, change)
+    }
+}
+
+/// The memory is of the round above.
+struct LastRound;
+
+impl Fault for LastRound {
+    fn view(view: &mut View) {
+        if view.memory.last > 0 {
+            view.memory.last += 1;
+        }
+    }
+}
+
+/// A digest that a peer owes isn't remembered.
+struct Owed;
+
+impl Fault for Owed {
+    fn view(view: &mut View) {
+        for peer in view.memory.peers.values_mut() {
+            peer.signed.pop_first();
+        }
+        view.memory.peers.retain(|_, peer| !peer.authored.is_empty() || !peer.signed.is_empty());
+    }
+}
+
+/// 23 isn't given for the round above the last anchor.
+struct Ahead;
+
+impl Fault for Ahead {
+    fn answer(_: &Call, _: &View, answer: Answer) -> Answer {
+        if answer == refused(23) { Answer::Removed(Removal::default()) } else { answer }
+    }
+}
+
+/// A buffer of 4 bytes is taken.
+struct Cut;
+
+impl Fault for Cut {
+    fn cut(length: usize, given: Result<(), committer::Refused>) -> Result<(), committer::Refused> {
+        if length == 4 { Ok(()) } else { given }
+    }
+}
+
+/// The kind of the first difference in lists that remove.
+fn found_in_removes<F: Fault>() -> Kind {
+    let lists = (0..400).map(|n| removing(Random::of(7, 8, n)));
+    let found = lists.into_iter().find_map(|list| compare::<Wrong<F>>(&list, &mut Counts::default()).err());
+    found.expect("the fault is caught").kind
+}
+
+#[test]
+fn faults_of_removes_are_caught() {
+    assert_eq!(found_in_removes::<Counter>(), Kind::Answer);
+    assert_eq!(found_in_removes::<Score>(), Kind::Answer);
+    assert_eq!(found_in_removes::<FirstRound>(), Kind::Answer);
+    assert_eq!(found_in_removes::<LostEvent>(), Kind::Answer);
+    assert_eq!(found_in_removes::<ForkDigest>(), Kind::Answer);
+    assert_eq!(found_in_removes::<LesserProof>(), Kind::Answer);
+    assert_eq!(found_in_removes::<Blamed>(), Kind::Answer);
+    assert_eq!(found_in_removes::<LastRound>(), Kind::Memory);
+    assert_eq!(found_in_removes::<Owed>(), Kind::Memory);
+    assert_eq!(found_in_removes::<Ahead>(), Kind::Rule);
+    assert_eq!(found_in_removes::<Cut>(), Kind::Buffer);
+}
+
+#[test]
+fn the_library_passes_removes() {
+    let mut counts = Counts::default();
+    for list in (0..100).map(|n| removing(Random::of(7, 8, n))) {
+        compare::<Library>(&list, &mut counts).unwrap_or_else(|found| panic!("{found}\n{}", notation::written(&list)));
+    }
+    assert!(counts.removes_taken() > 200 && counts.events.values().sum::<u64>() > 1000, "{counts}");
 }
 
 #[test]

@@ -65,5 +65,5 @@ fn the_sample_is_what_the_library_answers() {
 
 #[test]
 fn short_lists_are_as_many_as_the_readme_says() {
-    assert_eq!(shorts().count(), 30_000 + 28_561 + 2_197);
+    assert_eq!(shorts().count(), 30_000 + 28_561 + 2_197 + 10_000);
 }

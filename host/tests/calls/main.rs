@@ -10,4 +10,5 @@ mod outlooks;
 mod random_runs;
 mod records;
 mod refusals;
+mod removes;
 mod tables;

@@ -1,17 +1,18 @@
-//! Document 01 once more, as plainly as it can be said: maps, and heights by following every path. Only remove and the
-//! inspector's memory aren't here.
+//! Document 01 once more, as plainly as it can be said: maps, and heights by following every path.
 
 use std::cmp::Reverse;
 use std::collections::{BTreeMap, BTreeSet};
 
 use committer::{
-    Anchor, Answer, Call, Link, Look, Point, PointId, PointInfo, ROUND_MAX, Refusal, Refused, RetainedRound, Start,
-    Status, Summary,
+    Anchor, Answer, Call, Entry, JournalDagEvent, Link, Look, Memory, MempoolPeerCounters, MempoolPeerStats, Point,
+    PointId, PointInfo, ROUND_MAX, Refusal, Refused, Removal, RetainedRound, Start, Status, Summary,
 };
 
 pub struct Model {
     places: usize,
     store: Option<Store>,
+    /// a reset keeps it
+    memory: Memory,
 }
 
 struct Store {
@@ -54,7 +55,7 @@ struct Heights(BTreeMap<Key, u32>);
 
 impl Model {
     pub fn new(places: usize) -> Model {
-        Model { places, store: None }
+        Model { places, store: None, memory: Memory { last: 0, entries: Vec::new() } }
     }
 
     pub fn call(&mut self, call: &Call) -> Answer {
@@ -80,7 +81,8 @@ impl Model {
                 self.store = None;
                 Ok(Answer::Done)
             }
-            Call::Start(_) | Call::Remove { .. } => Ok(Answer::Unsupported),
+            Call::Remove { round, since } => store.remove(*round, *since, &mut self.memory),
+            Call::Start(_) => unreachable!("made above"),
         }
     }
 
@@ -99,6 +101,10 @@ impl Model {
         }
         self.store = Some(Store::new(with));
         Ok(Answer::Done)
+    }
+
+    pub fn memory(&self) -> &Memory {
+        &self.memory
     }
 
     pub fn summary(&self) -> Option<Summary> {
@@ -456,6 +462,196 @@ impl Store {
         }
         Ok(Anchor { anchor: e.anchor, proof: e.proof, executable, previous, points })
     }
+}
+
+/// A point of a drained round.
+struct Drained<'a> {
+    id: PointId,
+    held: &'a Held,
+    certified: bool,
+}
+
+impl<'a> Drained<'a> {
+    /// 0 if it isn't resolved.
+    fn status(&self) -> u32 {
+        self.held.info.as_ref().map_or(0, |info| info.status)
+    }
+
+    fn proved(&self) -> bool {
+        self.certified && self.held.top
+    }
+
+    /// `DagPoint::trusted`
+    fn trusted(&self) -> Option<&'a PointInfo> {
+        let status = self.status();
+        self.held.info.as_ref().filter(|_| status == 1 || (status == 2 || status == 3) && self.certified)
+    }
+
+    fn found(&self) -> bool {
+        (1..5).contains(&self.status())
+    }
+
+    /// The event of kind 1 to 3, if there is one.
+    fn fault(&self) -> Option<JournalDagEvent> {
+        let caused = self.held.info.as_ref().is_some_and(|info| info.cause);
+        match self.status() {
+            2 if !self.proved() && caused => Some(JournalDagEvent::TransInvalid(self.id)),
+            3 if !self.certified && caused => Some(JournalDagEvent::Invalid(self.id)),
+            4 if !self.certified => Some(JournalDagEvent::IllFormed(self.id)),
+            _ => None,
+        }
+    }
+}
+
+/// Whether a trusted point of the author has a link to the digest.
+fn referenced(points: &[Drained], author: u32, digest: &[u8; 32], links: fn(&PointInfo) -> &Vec<Link>) -> bool {
+    (points.iter().filter(|point| point.id.author == author))
+        .filter_map(Drained::trusted)
+        .any(|info| links(info).iter().any(|link| link.digest == *digest))
+}
+
+/// Removes. Buffers are large.
+impl Store {
+    fn remove(&mut self, round: u32, since: Option<u32>, memory: &mut Memory) -> Result<Answer, Number> {
+        if self.last_anchor.is_none_or(|last| last < round) {
+            return Err(23);
+        }
+        let bottom = round.saturating_sub(self.with.commit_history_rounds).min(self.top).max(self.bottom);
+        let last_non_executable = self.first_executable.saturating_sub(1).max(self.with.genesis);
+        let heights = Heights(self.heights());
+        let mut stats: BTreeMap<u32, MempoolPeerStats> = BTreeMap::new();
+        let mut events = Vec::new();
+        for round in self.bottom.max(last_non_executable)..bottom {
+            let points = self.drained_points(round, &heights);
+            if round > last_non_executable {
+                let counted = self.inspected(round, &points, memory, &mut events);
+                for (peer, counters) in counted.into_iter().filter(|_| since.is_some_and(|since| since <= round)) {
+                    let new = MempoolPeerStats { peer, first_round: round, last_round: round, counters, score: 0 };
+                    let of = stats.entry(peer).or_insert(MempoolPeerStats { counters: Default::default(), ..new });
+                    of.last_round = round;
+                    of.counters = sum(of.counters, counters);
+                }
+            }
+            *memory = remembered(round, &points);
+        }
+        self.bottom = bottom;
+        self.rounds.retain(|round, _| *round >= bottom);
+        self.points.retain(|key, _| key.0 >= bottom);
+        // by kind; of a kind they stand by round, author and digest
+        events.sort_by_key(JournalDagEvent::kind);
+        let peers = stats.into_values().map(|of| MempoolPeerStats { score: score(&of.counters), ..of }).collect();
+        Ok(Answer::Removed(Removal { peers, events }))
+    }
+
+    fn drained_points(&self, round: u32, heights: &Heights) -> Vec<Drained<'_>> {
+        let of_round = self.points.range((round, [0; 32])..=(round, [255; 32]));
+        of_round
+            .map(|(key, held)| Drained {
+                id: PointId { round, author: held.author, digest: key.1 },
+                held,
+                certified: heights.of(key) > 0,
+            })
+            .collect()
+    }
+
+    /// The counters of the round's peers; events are added.
+    fn inspected(
+        &self,
+        round: u32,
+        points: &[Drained],
+        memory: &Memory,
+        events: &mut Vec<JournalDagEvent>,
+    ) -> BTreeMap<u32, MempoolPeerCounters> {
+        let mut counted = BTreeMap::new();
+        for author in 0..32 {
+            let own: Vec<&Drained> = points.iter().filter(|point| point.id.author == author).collect();
+            let faults: Vec<JournalDagEvent> = own.iter().filter_map(|point| point.fault()).collect();
+            let digests: Vec<[u8; 32]> =
+                own.iter().filter(|point| point.found()).map(|point| point.id.digest).collect();
+            let kinds = |kind| faults.iter().filter(|event| event.kind() == kind).count() as u16;
+            let mut counters = MempoolPeerCounters {
+                was_leader: (self.rounds[&round].used == Some(author)).into(),
+                skipped_rounds: digests.is_empty().into(),
+                valid_points: own.iter().any(|point| point.status() == 1).into(),
+                points_proved: own.iter().filter(|point| point.status() > 0 && point.proved()).count() as u16,
+                equivocated: digests.len().saturating_sub(1) as u16,
+                trans_invalid_points: kinds(1),
+                invalid_points: kinds(2),
+                ill_formed_points: kinds(3),
+                references_skipped: 0,
+            };
+            events.extend(faults);
+            if digests.len() > 1 {
+                events.push(JournalDagEvent::Equivocated { author, round, digests });
+            }
+            if let Some(event) = not_referenced(round, author, points, memory) {
+                let JournalDagEvent::EvidenceNoInclusion { proofs, .. } = &event else { unreachable!() };
+                counters.references_skipped = proofs.len() as u16;
+                events.push(event);
+            }
+            if self.rounds[&round].peers >> author & 1 == 1 {
+                counted.insert(author, counters);
+            }
+        }
+        counted
+    }
+}
+
+/// What a signer signed and references neither in the memory's round nor in this one, if it has points in both.
+fn not_referenced(round: u32, signer: u32, points: &[Drained], memory: &Memory) -> Option<JournalDagEvent> {
+    let mut proofs: BTreeMap<[u8; 32], &Entry> = BTreeMap::new();
+    for entry in memory.entries.iter().filter(|entry| entry.unreferenced_by >> signer & 1 == 1) {
+        if let Some(signed) = entry.previous
+            && !referenced(points, signer, &signed, |info| &info.witness)
+        {
+            // entries rise by digest: the greatest stays
+            proofs.insert(signed, entry);
+        }
+    }
+    let then: Vec<PointId> = (memory.entries.iter().filter(|entry| entry.author == signer))
+        .map(|entry| PointId { round: memory.last, author: signer, digest: entry.digest })
+        .collect();
+    let now: Vec<PointId> = (points.iter().filter(|point| point.id.author == signer && point.trusted().is_some()))
+        .map(|point| point.id)
+        .collect();
+    let due = memory.last + 1 == round && !proofs.is_empty() && !then.is_empty() && !now.is_empty();
+    let mut proofs: Vec<PointId> =
+        proofs.values().map(|e| PointId { round: memory.last, author: e.author, digest: e.digest }).collect();
+    proofs.sort_by_key(|id| id.digest);
+    due.then(|| JournalDagEvent::EvidenceNoInclusion { signer, blamed: [then, now].concat(), proofs })
+}
+
+/// What is kept of a round.
+fn remembered(round: u32, points: &[Drained]) -> Memory {
+    let entry = |point: &Drained| {
+        let info = point.trusted()?;
+        let previous = previous(&point.id, info).map(|id| id.digest);
+        let owes =
+            |signer: &u32| previous.is_some_and(|signed| !referenced(points, *signer, &signed, |info| &info.includes));
+        let signers = (0..32).filter(|signer| info.evidence >> signer & 1 == 1).filter(owes);
+        let unreferenced_by = signers.map(|signer| 1 << signer).sum();
+        Some(Entry { author: point.id.author, digest: point.id.digest, previous, unreferenced_by })
+    };
+    Memory { last: round, entries: points.iter().filter_map(entry).collect() }
+}
+
+fn sum(a: MempoolPeerCounters, b: MempoolPeerCounters) -> MempoolPeerCounters {
+    let (a, b) = (a.list(), b.list());
+    MempoolPeerCounters::of(std::array::from_fn(|n| a[n] + b[n]))
+}
+
+/// Count times weight, by bands from 1, 10 and 100 on.
+fn score(counters: &MempoolPeerCounters) -> u32 {
+    let weight = |counter: usize, band: usize| match counter {
+        1 => [2, 3, 4][band],
+        4 => [20, 40, 60][band],
+        5 => [5, 8, 12][band],
+        6 | 7 => [10, 15, 20][band],
+        8 => [1, 2, 3][band],
+        _ => 0,
+    };
+    let band = |count: u16| usize::from(count >= 10) + usize::from(count >= 100);
+    (counters.list().iter().enumerate()).map(|(n, count)| u32::from(*count) * weight(n, band(*count))).sum()
 }
 
 impl Heights {

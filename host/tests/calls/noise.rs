@@ -3,8 +3,11 @@
 use committer::sys::Memory;
 use committer::{Answer, Call, Committer, PLACES_MAX, PointId, PointInfo, STATE_BYTES, Start, State, Tables};
 
-use crate::common::{Noise, add, assert_outlook, assert_unchanged, beginning, fill_memory, point, started, valid};
+use crate::common::{
+    Noise, add, assert_outlook, assert_unchanged, beginning, buffer, fill_memory, point, started, valid,
+};
 use crate::outlooks::two_anchors;
+use crate::removes::{board, two_proofs_committed};
 
 /// One call of each kind but start, with arguments made up.
 fn calls(noise: &mut Noise) -> Vec<Call> {
@@ -21,6 +24,7 @@ fn calls(noise: &mut Noise) -> Vec<Call> {
         Call::Commit(id),
         Call::Outlook(id),
         Call::Drop(round),
+        Call::Remove { round: noise.below(40), since: noise.one_in(2).then(|| noise.below(40)) },
         Call::Gap,
         Call::Reset,
     ]
@@ -278,6 +282,29 @@ fn one_changed_bit_before_an_outlook() {
         refused[number(&committer.call(&Call::Outlook(point(16, 0)))) as usize] += 1;
     }
     assert!(refused[0] > 100 && refused[2] > 100 && refused[3..].iter().sum::<u32>() > 20, "{refused:?}");
+}
+
+/// One changed bit on a board with rounds to drain and entries in the memory: what is done leaves tables that count as
+/// started, and says the same once more.
+#[test]
+fn one_changed_bit_before_a_remove() {
+    let mut board = board(&two_proofs_committed());
+    board.remove(4, Some(0), &mut buffer(141)).unwrap();
+    let mut answered = [0; 24];
+    for seed in 0..3000 {
+        let mut committer = board.clone();
+        flip(&mut committer, &mut Noise::new(seed));
+        let before = committer.clone();
+        let answer = committer.call(&Call::Remove { round: 5, since: Some(0) });
+        assert_eq!(number(&answer) == 2, !before.is_started());
+        match number(&answer) {
+            0 => assert!(committer.is_started()),
+            _ => assert_unchanged(&committer, &before),
+        }
+        assert!(before.clone().call(&Call::Remove { round: 5, since: Some(0) }) == answer);
+        answered[number(&answer) as usize] += 1;
+    }
+    assert!(answered[0] > 100 && answered[2] > 100, "{answered:?}");
 }
 
 /// Changes one bit of the state or of a table. Of the tables only words of used places are changed, of the links mostly

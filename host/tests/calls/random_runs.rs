@@ -16,8 +16,13 @@ struct Run {
     answers: BTreeMap<(&'static str, u32), u32>,
     /// how many anchors commits handed out, and outlooks told
     anchors: [u32; 2],
+    /// how many events of a kind, and stats of peers, removes reported
+    events: [u32; 6],
+    peers: u32,
     /// authors that have points, at most 32
     authors: u32,
+    /// of so many points of a row one has something wrong
+    fault_in: u32,
 }
 
 impl Run {
@@ -28,7 +33,10 @@ impl Run {
             model: Model::new(places),
             answers: BTreeMap::new(),
             anchors: [0; 2],
+            events: [0; 6],
+            peers: 0,
             authors,
+            fault_in: 60,
         }
     }
 
@@ -41,6 +49,10 @@ impl Run {
             Answer::Refused(why, _) if why.finished == 0 => assert_unchanged(&self.committer, &before),
             Answer::Handed(anchors) => self.anchors[0] += anchors.len() as u32,
             Answer::Looked(looks) => self.anchors[1] += looks.len() as u32,
+            Answer::Removed(told) => {
+                told.events.iter().for_each(|event| self.events[event.kind() as usize] += 1);
+                self.peers += told.peers.len() as u32;
+            }
             _ => {}
         }
         if let Call::Outlook(trigger) | Call::Commit(trigger) = call {
@@ -51,6 +63,7 @@ impl Run {
 
     fn compare(&self) {
         assert_eq!(self.committer.summary(), self.model.summary());
+        assert_eq!(self.committer.memory(), *self.model.memory());
         assert_eq!(self.committer.points(), self.model.points());
     }
 
@@ -68,7 +81,8 @@ impl Run {
             45..75 => self.any_resolve(),
             75..90 => Call::Certify(self.any_known()),
             90..95 => Call::Drop(self.any_drop()),
-            95..99 => Call::Gap,
+            95..98 => Call::Gap,
+            98 => self.any_remove(),
             _ if self.noise.one_in(6) => Call::Reset,
             _ => Call::Gap,
         }
@@ -136,46 +150,91 @@ impl Run {
         triggers[self.noise.below(triggers.len() as u32) as usize]
     }
 
-    /// A row more: a point of each author that includes all of the row below, anchors and proofs in turn. Now and then
+    /// A round that mostly isn't above the last anchor.
+    fn any_remove(&mut self) -> Call {
+        let (bottom, top) = self.rounds();
+        let last = self.model.summary().and_then(|summary| summary.last_anchor).unwrap_or(top);
+        let round = match self.noise.below(8) {
+            0 => last + self.noise.below(3),
+            1 => self.noise.below(top + 2),
+            _ => last - self.noise.below(3).min(last),
+        };
+        let since = match self.noise.below(4) {
+            0 => None,
+            1 => Some(bottom + self.noise.below(top - bottom + 1)),
+            _ => Some(0),
+        };
+        Call::Remove { round, since }
+    }
+
+    /// A row more: a point of each author that includes most of the row below, anchors and proofs in turn. Now and then
     /// something is wrong with it, or other calls come between.
     fn add_row(&mut self) {
         let round = self.rounds().1 + 1;
         self.make(&Call::Round { round, peers: u32::MAX });
-        let below: Vec<PointId> =
-            self.model.ids().iter().map(|(id, _)| *id).filter(|id| id.round + 1 == round).collect();
+        let first = |id: &PointId| id.round + 1 == round && *id == version(id.round, id.author, 0);
+        let below: Vec<PointId> = self.model.ids().iter().map(|(id, _)| *id).filter(first).collect();
         let links: BTreeMap<u32, Link> =
             below.iter().map(|id| (id.author, Link { peer: id.author, digest: id.digest })).collect();
         for author in 0..self.authors {
             let id = version(round, author, 0);
             self.make(&Call::Name(id));
-            let status = if self.noise.one_in(60) { 1 + self.noise.below(5) } else { 1 };
-            let linked = status <= 3 && !self.noise.one_in(40);
+            let status = if self.noise.one_in(self.fault_in) { 1 + self.noise.below(5) } else { 1 };
+            let linked = status <= 3 && !self.noise.one_in(self.fault_in);
+            let evidence = if linked && self.noise.one_in(2) { self.noise.below(8) } else { 0 };
             let info = PointInfo {
                 status,
                 proof: round % 2 == 0,
                 trigger: round % 2 == 1 && (author == 0 || self.noise.one_in(10)),
                 top_proof: version(round.saturating_sub(1), author, 0),
-                includes: if linked { links.values().copied().collect() } else { Vec::new() },
+                cause: self.noise.one_in(2),
+                evidence,
+                includes: if linked { self.most(author, &links) } else { Vec::new() },
                 witness: if linked && self.noise.one_in(4) { self.any_links(round, 2) } else { Vec::new() },
-                ..PointInfo::default()
             };
-            if !self.noise.one_in(60) {
+            if !self.noise.one_in(self.fault_in) {
                 self.make(&Call::Resolve(id, info));
             }
             if self.noise.one_in(2) {
                 self.make(&Call::Certify(id));
             }
+            if self.noise.one_in(6) {
+                self.add_fork(author, round, &links);
+            }
         }
     }
 
-    /// What follows a row: an outlook, a commit, the gap question, a drop, or any call.
+    /// Its own, and most of the others.
+    fn most(&mut self, author: u32, links: &BTreeMap<u32, Link>) -> Vec<Link> {
+        let all = self.noise.one_in(2);
+        links.values().copied().filter(|link| all || link.peer == author || !self.noise.one_in(3)).collect()
+    }
+
+    /// A second version that no point links to, of any status.
+    fn add_fork(&mut self, author: u32, round: u32, links: &BTreeMap<u32, Link>) {
+        let id = version(round, author, 1 + self.noise.below(3));
+        self.make(&Call::Name(id));
+        let status = 1 + self.noise.below(5);
+        let linked = status <= 3;
+        let info = PointInfo {
+            status,
+            cause: self.noise.one_in(2),
+            evidence: if linked { self.noise.below(8) } else { 0 },
+            includes: if linked { self.most(author, links) } else { Vec::new() },
+            ..PointInfo::default()
+        };
+        self.make(&Call::Resolve(id, info));
+    }
+
+    /// What follows a row: an outlook, a commit, the gap question, a remove, a drop, or any call.
     fn after_row(&mut self) {
-        let call = match self.noise.below(24) {
+        let call = match self.noise.below(28) {
             0..9 => Call::Outlook(self.any_trigger()),
-            9..13 => Call::Commit(self.any_trigger()),
-            13..15 => Call::Gap,
-            15 => Call::Drop(self.any_drop()),
-            16 => self.any_call(),
+            9..15 => Call::Commit(self.any_trigger()),
+            15..17 => Call::Gap,
+            17..19 => Call::Drop(self.any_drop()),
+            19 => self.any_call(),
+            20..25 => self.any_remove(),
             _ => return,
         };
         self.make(&call);
@@ -297,7 +356,7 @@ fn assert_met(answers: &Answers, least: u32, expected: &[(&'static str, &[u32])]
 
 #[test]
 fn small_boards() {
-    let expected: [(&str, &[u32]); 10] = [
+    let expected: [(&str, &[u32]); 11] = [
         ("start", &[0, 1, 2]),
         ("round", &[0, 2, 3]),
         ("name", &[0, 2, 4, 5, 6, 7, 8]),
@@ -308,16 +367,17 @@ fn small_boards() {
         ("reset", &[0]),
         ("commit", &[0, 9, 13, 15, 16]),
         ("outlook", &[0, 9, 13, 15, 16]),
+        ("remove", &[23]),
     ];
     assert_met(&runs(0..150, 400), 10, &expected);
 }
 
-/// Boards whose triggers yield anchors: outlooks between commits, drops and gap questions.
+/// Boards whose triggers yield anchors: outlooks between commits, removes, drops and gap questions.
 #[test]
 fn boards_that_commit() {
     let mut answers = Answers::new();
     let mut anchors = [0; 2];
-    for seed in 0..150 {
+    for seed in 0..250 {
         let mut run = Run::new(seed, 130, 1 + seed as u32 % 3);
         let noise = &mut run.noise;
         let genesis = noise.below(6);
@@ -343,8 +403,57 @@ fn boards_that_commit() {
         anchors = [anchors[0] + run.anchors[0], anchors[1] + run.anchors[1]];
     }
     assert_met(&answers, 10, &[("commit", &[0, 13, 14, 16, 18, 20]), ("outlook", &[0, 13, 14, 15, 16, 17, 18])]);
+    assert_met(&answers, 10, &[("remove", &[0, 23])]);
     assert!(!answers.contains_key(&("outlook", 20)));
     assert!(anchors[0] >= 100 && anchors[1] >= 500, "handed out and told: {anchors:?}");
+}
+
+/// Boards that commit row by row and remove what is behind, with a reset now and then: what removes report.
+#[test]
+fn boards_that_remove() {
+    let mut answers = Answers::new();
+    let mut events = [0; 6];
+    let mut peers = 0;
+    for seed in 0..200 {
+        let mut run = Run::new(seed, 130, 2 + seed as u32 % 3);
+        run.fault_in = 400;
+        let with = Start {
+            genesis: 1,
+            commit_history_rounds: 1 + run.noise.below(3),
+            deduplicate_rounds: run.noise.below(3),
+            bottom: 2,
+            peers: u32::MAX,
+            after_gap: run.noise.one_in(8),
+            used: Some(0),
+        };
+        run.make(&Call::Start(with));
+        for _ in 0..30 {
+            run.add_row();
+            let top = run.rounds().1;
+            if top % 2 == 1 {
+                run.make(&Call::Gap);
+                run.make(&Call::Certify(version(top - 2, 0, 0)));
+                run.make(&Call::Commit(version(top, 0, 0)));
+            }
+            if !run.noise.one_in(3) {
+                let call = run.any_remove();
+                run.make(&call);
+            }
+            run.compare();
+            if run.noise.one_in(20) {
+                let (bottom, top) = run.rounds();
+                let again = bottom + run.noise.below(3).min(top - bottom);
+                run.make(&Call::Reset);
+                run.make(&Call::Start(Start { bottom: again, ..with }));
+                run.compare();
+            }
+        }
+        add(&mut answers, &run.answers);
+        (0..6).for_each(|kind| events[kind] += run.events[kind]);
+        peers += run.peers;
+    }
+    assert_met(&answers, 100, &[("remove", &[0, 23])]);
+    assert!(peers >= 1000 && events[1..].iter().all(|count| *count >= 50), "of removes: {peers}, {events:?}");
 }
 
 /// Full tables, many links: compared now and then, since following every path takes its time.

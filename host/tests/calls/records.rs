@@ -128,14 +128,6 @@ fn numbers_without_room() {
     }
 }
 
-#[test]
-fn calls_that_are_not_made_yet() {
-    let mut committer = started(4, &beginning(), 12);
-    let before = committer.clone();
-    assert_eq!(committer.call(&Call::Remove { round: 11, since: None }), Answer::Unsupported);
-    assert!(committer == before);
-}
-
 /// The lines that `replay` writes for a call.
 fn lines_of(call: &Call, answer: Answer) -> Vec<String> {
     let question = match call {
@@ -150,7 +142,7 @@ fn lines_of(call: &Call, answer: Answer) -> Vec<String> {
         Answer::Handed(anchors) => (shown(&anchors), "ok".into()),
         Answer::Looked(looks) => (looks.iter().map(Look::to_string).collect(), "ok".into()),
         Answer::Refused(why, finished) => (shown(&finished), refused(why.refusal)),
-        Answer::Unsupported => (vec![], "unsupported".into()),
+        Answer::Removed(told) => (told.to_string().lines().map(String::from).collect(), "ok".into()),
     };
     lines.push(last);
     lines

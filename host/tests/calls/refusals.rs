@@ -16,6 +16,7 @@ fn refuse_all(committer: &mut Committer) {
     refuses(committer, 2, |c| c.round(11, 1));
     refuses(committer, 2, |c| c.gap_question());
     refuses(committer, 2, |c| c.drop_upto(10));
+    refuses(committer, 2, |c| c.remove(10, None, &mut [0; 5]));
     for call in BY_ID {
         refuses(committer, 2, |c| call(c, &point(10, 0)));
     }

@@ -106,6 +106,7 @@ fn tables_that_break_a_rule() {
         assert!(!committer.is_started(), "{what}");
         refuses(&mut committer, 2, |c| c.certify(&point(12, 0)));
         refuses(&mut committer, 2, |c| c.drop_upto(11));
+        refuses(&mut committer, 2, |c| c.remove(11, Some(0), &mut [0; 5]));
         assert_eq!(committer.start(&beginning()), Ok(()), "{what}");
         assert_eq!(committer.points(), [], "{what}");
     }

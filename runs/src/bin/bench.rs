@@ -47,6 +47,7 @@ fn main() {
     print_reads(&times);
     print_commits();
     print_outlooks();
+    print_removes();
 }
 
 // ---- what is timed
@@ -338,6 +339,147 @@ fn our_outlook(anchors: u32, calls: &[Call], trigger: &PointId) -> (usize, [f64;
         }
     }
     (points, times.map(median))
+}
+
+// ---- removes
+
+/// Rounds of so many points, all of them removed at once.
+struct Removed {
+    name: &'static str,
+    rounds: u32,
+    /// digests of each author in a round; with more than one the points have witness links too, and no signer references what it signed
+    versions: u32,
+}
+
+const REMOVED: [Removed; 3] = [
+    Removed { name: "32 rounds of 32 points, 32 includes, all signed", rounds: 32, versions: 1 },
+    Removed { name: "128 rounds of 32 points, 32 includes, all signed", rounds: 128, versions: 1 },
+    Removed {
+        name: "32 rounds of 128 points, 32 includes, 32 witness, all signed, none referenced",
+        rounds: 32,
+        versions: 4,
+    },
+];
+
+/// The first row's round.
+const FIRST: u32 = BOTTOM + 1;
+
+impl Removed {
+    fn at(&self, round: u32, author: u32, version: u32) -> PointId {
+        PointId { round, author, digest: digest((round * PEERS + author) * 4 + version) }
+    }
+
+    /// In the first round three points less, so that an anchor, its proof and its trigger have places.
+    fn row(&self, round: u32) -> Vec<PointId> {
+        let all = (0..PEERS).flat_map(|author| (0..self.versions).map(move |version| (author, version)));
+        let less = if round == FIRST { 3 } else { 0 };
+        all.skip(less).map(|(author, version)| self.at(round, author, version)).collect()
+    }
+
+    /// Links to the points of a round, of an author to its own first version, to the others' last.
+    fn links(&self, round: u32, author: u32) -> Vec<Link> {
+        let version = |peer| if peer == author { 0 } else { self.versions - 1 };
+        let row = self.row(round);
+        let named = |id: &PointId| row.contains(id);
+        (0..PEERS).map(|peer| self.at(round, peer, version(peer))).filter(named).map(|id| link_to(&id)).collect()
+    }
+
+    fn info(&self, id: &PointId) -> PointInfo {
+        let includes = if id.round > FIRST { self.links(id.round - 1, id.author) } else { Vec::new() };
+        let far = self.versions > 1 && id.round > FIRST + 1;
+        let witness = if far { self.links(id.round - 2, (id.author + 1) % PEERS) } else { Vec::new() };
+        PointInfo { status: 1, evidence: u32::MAX, includes, witness, ..PointInfo::default() }
+    }
+
+    fn anchor(&self) -> PointId {
+        self.at(FIRST + self.rounds + 1, 0, 0)
+    }
+
+    /// Until the anchor's commit; H is 1.
+    fn calls(&self) -> Vec<Call> {
+        let [anchor, proof, trigger] = [0, 1, 2].map(|n| self.at(self.anchor().round + n, 0, 0));
+        let start =
+            Start { genesis: BOTTOM, commit_history_rounds: 1, bottom: FIRST, peers: u32::MAX, ..Start::default() };
+        let mut calls = vec![Call::Start(start)];
+        calls.extend((FIRST + 1..=trigger.round).map(|round| Call::Round { round, peers: u32::MAX }));
+        for id in (FIRST..FIRST + self.rounds).flat_map(|round| self.row(round)) {
+            calls.extend([Call::Name(id), Call::Resolve(id, self.info(&id))]);
+        }
+        let one = |top_proof, below: Option<PointId>| PointInfo {
+            status: 1,
+            top_proof,
+            includes: below.iter().map(link_to).collect(),
+            ..PointInfo::default()
+        };
+        let infos = [
+            one(at(BOTTOM, 0), None),
+            PointInfo { proof: true, ..one(proof, Some(anchor)) },
+            PointInfo { trigger: true, ..one(at(BOTTOM, 0), Some(proof)) },
+        ];
+        for (id, info) in [anchor, proof, trigger].into_iter().zip(infos) {
+            calls.extend([Call::Name(id), Call::Resolve(id, info)]);
+        }
+        calls.extend([Call::Certify(anchor), Call::Commit(trigger)]);
+        calls
+    }
+
+    fn points(&self) -> u32 {
+        self.rounds * PEERS * self.versions
+    }
+}
+
+fn link_to(id: &PointId) -> Link {
+    Link { peer: id.author, digest: id.digest }
+}
+
+fn print_removes() {
+    println!(
+        "\n| removed | bytes of the answer | remove, library | table test | drop of the same rounds | remove less the drop | Rust |"
+    );
+    println!("|---|---|---|---|---|---|---|");
+    for removed in REMOVED {
+        let (bytes, [ours, test, drop, rest]) = our_remove(&removed);
+        let rust = rust_remove(&removed);
+        println!("| {} | {bytes} | {ours:.0} | {test:.0} | {drop:.0} | {rest:.0} | {rust:.0} |", removed.name);
+    }
+}
+
+/// The bytes of the answer, and the times of the remove, the table test, the drop of the same rounds, and the remove less the drop. They
+/// take turns.
+fn our_remove(removed: &Removed) -> (usize, [f64; 4]) {
+    let mut before = Committer::new(PLACES_MAX);
+    for call in removed.calls() {
+        assert!(!matches!(before.call(&call), committer::Answer::Refused(..)), "{call:?}");
+    }
+    let (round, points) = (removed.anchor().round, removed.points());
+    let mut work = before.clone();
+    let mut buffer = vec![0; committer::REMOVE_BYTES_MAX];
+    let mut bytes = 0;
+    let mut times: [Vec<f64>; 4] = Default::default();
+    for _ in 0..repetitions(points).min(60) {
+        restore(&mut work, &before, points);
+        let test = clock(|| work.gap_question().expect("started"));
+        restore(&mut work, &before, points);
+        let drop = clock(|| assert_eq!(work.drop_upto(round - 1), Ok(true)));
+        restore(&mut work, &before, points);
+        let ours = clock(|| assert_eq!(work.remove(round, Some(0), &mut buffer), Ok(())));
+        bytes = committer::removal(&buffer).expect("a whole answer").bytes();
+        for (times, time) in times.iter_mut().zip([ours, test, drop, ours - drop]) {
+            times.push(time);
+        }
+    }
+    (bytes, times.map(median))
+}
+
+fn rust_remove(removed: &Removed) -> f64 {
+    let calls = removed.calls();
+    let round = removed.anchor().round;
+    let mut times = Vec::new();
+    for _ in 0..15 {
+        let mut rust = Rust::after(&calls);
+        times.push(clock(|| assert_eq!(rust.remove_counts(round, Some(0)).done().0, PEERS as usize)));
+    }
+    median(times)
 }
 
 /// The sum of every word of the used places.

@@ -8,8 +8,9 @@ use std::time::Instant;
 
 use runs::compare::{Difference, List, compare};
 use runs::counts::Counts;
+use runs::known::Known;
 use runs::library::Library;
-use runs::lists::{chained, damaged, grown, limits, shorts};
+use runs::lists::{chained, damaged, grown, limits, removing, shorts};
 use runs::notation;
 use runs::random::Random;
 use runs::shrink::shrink;
@@ -19,6 +20,8 @@ const GROWN: u64 = 2_000;
 const DAMAGED: u64 = 1_200;
 const CHAINED: u64 = 1_500;
 const CHAINED_DAMAGED: u64 = 1_500;
+const REMOVING: u64 = 1_200;
+const REMOVING_DAMAGED: u64 = 600;
 /// Every so many random lists run under both hash seeds.
 const TWICE: u64 = 4;
 /// Of each number that the calls at hand are refused with, the Rust is given at least so many.
@@ -29,6 +32,10 @@ const ANCHORS_LEAST: u64 = 5_000;
 const COMMITS_LEAST: u64 = 100;
 /// Outlooks that tell anchors.
 const OUTLOOKS_LEAST: u64 = 5_000;
+/// Removes that both took, events of each kind that both reported, events with another proof in the Rust.
+const REMOVES_LEAST: u64 = 20_000;
+const EVENTS_LEAST: u64 = 2_000;
+const LESSER_LEAST: u64 = 200;
 
 /// A list, its family, and whether it runs under both hash seeds.
 struct Task {
@@ -112,12 +119,20 @@ fn tasks(seed: u64) -> impl Iterator<Item = Task> {
         let list = damaged(chained(random(6, n)), random(7, n));
         Task { family: "damaged chains", twice: n % TWICE == 0, list }
     });
+    let removing_tasks =
+        (0..REMOVING).map(move |n| Task { family: "removing", twice: n % TWICE == 0, list: removing(random(8, n)) });
+    let damaged_removing = (0..REMOVING_DAMAGED).map(move |n| {
+        let list = damaged(removing(random(9, n)), random(10, n));
+        Task { family: "damaged removing", twice: n % TWICE == 0, list }
+    });
     // short lists first, so that a difference is shown by a short one; the long ones of the limits last
     (shorts().map(once("short")))
         .chain(grown_tasks)
         .chain(damaged_tasks)
         .chain(chained_tasks)
         .chain(damaged_chains)
+        .chain(removing_tasks)
+        .chain(damaged_removing)
         .chain(limits().into_iter().map(once("limits")))
 }
 
@@ -134,7 +149,7 @@ fn report((task, found): &Failure) -> ExitCode {
 fn enough(counts: &Counts) -> ExitCode {
     let mut good = counts.calls() >= CALLS_LEAST;
     let commits = [13, 14, 15, 16, 18, 20].map(|number| (number, COMMITS_LEAST));
-    for (number, least) in (1..=12).map(|number| (number, TRIED_LEAST)).chain(commits) {
+    for (number, least) in (1..=12).chain([23]).map(|number| (number, TRIED_LEAST)).chain(commits) {
         let tried = counts.tried_of(number);
         if tried < least {
             println!("refusal {number} was given to the Rust {tried} times only, not {least}");
@@ -148,6 +163,23 @@ fn enough(counts: &Counts) -> ExitCode {
     let outlooks = counts.outlooks_with_anchors();
     if outlooks < OUTLOOKS_LEAST {
         println!("{outlooks} outlooks with anchors were compared only, not {OUTLOOKS_LEAST}");
+        good = false;
+    }
+    let removes = counts.removes_taken();
+    if removes < REMOVES_LEAST {
+        println!("{removes} removes were compared only, not {REMOVES_LEAST}");
+        good = false;
+    }
+    for kind in 1..=5 {
+        let events = counts.events.get(&kind).copied().unwrap_or(0);
+        if events < EVENTS_LEAST {
+            println!("{events} events of kind {kind} were compared only, not {EVENTS_LEAST}");
+            good = false;
+        }
+    }
+    let lesser = counts.times(Known::Entry(8));
+    if lesser < LESSER_LEAST {
+        println!("entry 8 was met {lesser} times only, not {LESSER_LEAST}");
         good = false;
     }
     println!("{}", if good { "no other difference" } else { "too little was compared" });

@@ -60,7 +60,12 @@ fn change(call: &mut Call, digest: [u8; 32], random: &mut Random) {
                 info.top_proof = *id;
             }
         }
-        Call::Drop(round) | Call::Remove { round, .. } => near(round, random),
+        Call::Drop(round) => near(round, random),
+        Call::Remove { round, since } => match random.below(3) {
+            0 => *since = None,
+            1 => *since = Some(*round - random.below(*round + 1)),
+            _ => near(round, random),
+        },
         Call::Gap | Call::Reset => {}
     }
 }

@@ -6,7 +6,6 @@ use std::collections::BTreeMap;
 use committer::{Call, Link, PointId, PointInfo, ROUND_MAX, Start};
 
 use crate::compare::List;
-use crate::library::supports;
 use crate::random::Random;
 
 /// What the lists are like.
@@ -34,7 +33,7 @@ pub fn grown(random: Random) -> List {
         wild: *random.pick(&[0, 5, 10, 20]),
         edges: true,
         steady: random.chance(50),
-        commits: supports(&Call::Commit(PointId::default())),
+        commits: true,
     };
     let mut growth = Growth::new(random, taste);
     growth.grow();
@@ -58,6 +57,8 @@ pub struct Growth {
     points: Vec<Held>,
     /// the leader's last proof, or what stands for it
     last_committed_proof: PointId,
+    /// the round of the last anchor that may have been handed out
+    handed: Option<u32>,
 }
 
 /// Peer 0 leads: its points are an anchor, a proof and a trigger in turn.
@@ -75,6 +76,7 @@ impl Growth {
             genesis: 0,
             points: Vec::new(),
             last_committed_proof: PointId::default(),
+            handed: None,
         }
     }
 
@@ -95,7 +97,7 @@ impl Growth {
         if self.rounds.is_empty() {
             return self.start();
         }
-        match self.random.weighted(&[12, 30, 34, 16, 2, 3, 1, 1, 3]) {
+        match self.random.weighted(&[12, 30, 34, 16, 2, 3, 1, 1, 3, 2]) {
             0 => self.next_round(),
             1 => self.name(),
             2 => self.resolve(),
@@ -104,6 +106,7 @@ impl Growth {
             5 => self.calls.push(Call::Gap),
             6 => self.old_round(),
             7 if self.random.chance(40) => self.reset(),
+            9 => self.remove(),
             _ => self.commit(),
         }
     }
@@ -170,6 +173,7 @@ impl Growth {
     }
 
     fn reset(&mut self) {
+        self.handed = None;
         self.rounds.clear();
         self.points.clear();
         self.calls.push(Call::Reset);
@@ -372,7 +376,23 @@ impl Growth {
             .collect();
         if let Some(id) = triggers.last() {
             self.calls.push(Call::Commit(*id));
+            self.handed = id.round.checked_sub(2);
         }
+    }
+
+    /// Of the last anchor or near it. What is drained stays in the model: names there are refused, links there aren't tested.
+    fn remove(&mut self) {
+        if !self.taste.commits {
+            return;
+        }
+        let last = self.handed.unwrap_or(self.top());
+        let round = match self.random.below(6) {
+            0 => last.saturating_add(self.random.within(1, 4)),
+            1 => *self.random.pick(&[0, 1, self.bottom(), self.top() + 1, u32::MAX]),
+            _ => last.saturating_sub(self.random.below(4)),
+        };
+        let since = *self.random.pick(&[None, Some(0), Some(0), Some(self.bottom()), Some(self.top())]);
+        self.calls.push(Call::Remove { round, since });
     }
 
     // ---- calls that are to be refused
@@ -402,7 +422,7 @@ impl Growth {
 
     fn wild_before_start(&mut self) {
         let id = PointId { round: self.random.below(20), author: LEADER, digest: self.digest() };
-        let call = match self.random.below(9) {
+        let call = match self.random.below(10) {
             0 => return self.wild_start(),
             1 => Call::Round { round: id.round, peers: 3 },
             2 => Call::Name(id),
@@ -411,6 +431,7 @@ impl Growth {
             5 => Call::Drop(id.round),
             6 => Call::Gap,
             7 if self.taste.commits => Call::Commit(id),
+            8 if self.taste.commits => Call::Remove { round: id.round, since: Some(0) },
             _ => Call::Reset,
         };
         self.calls.push(call);

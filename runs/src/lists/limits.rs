@@ -18,8 +18,53 @@ pub fn limits() -> Vec<List> {
     ];
     lists.extend([1, 2, 255].into_iter().flat_map(|h| [chain(h, 1), chain(h, 2), woven(h)]));
     lists.extend(starts());
-    lists.extend([many_anchors(1), many_anchors(2), large_history()]);
+    lists.extend([many_anchors(1), many_anchors(2), large_history(), full_rounds(), many_removed()]);
     lists
+}
+
+/// Six rounds of 128 points, each with 64 links and evidence of all 32 peers, none of what was signed referenced; removed in two steps, the
+/// second of which meets 128 entries of the memory.
+fn full_rounds() -> List {
+    let mut calls: Vec<Call> = (12..=20).map(|round| Call::Round { round, peers: ALL }).collect();
+    // an author links to its own first version, to the others' last
+    let links = |round: u32, author: u32| {
+        let version = |peer| if peer == author { 0 } else { 3 };
+        if round < 11 { vec![] } else { (0..32).map(|peer| link(peer, number(round, peer, version(peer)))).collect() }
+    };
+    for round in 11..17 {
+        for (author, version) in (0..32).flat_map(|author| (0..4).map(move |version| (author, version))) {
+            let id = at(round, author, version);
+            let info = valid(links(round - 1, author), links(round - 2, author));
+            calls.extend([Call::Name(id), Call::Resolve(id, PointInfo { evidence: ALL, ..info })]);
+        }
+    }
+    anchor(&mut calls, 18);
+    calls.extend([14, 18, 18].map(|round| Call::Remove { round, since: Some(0) }));
+    list(6 * 128 + 3, Start { bottom: 11, used: None, ..start(1, ALL) }, calls)
+}
+
+/// As many rounds as can be removed at once after a commit, 508, none with a point. Peer 31 is in every second round.
+fn many_removed() -> List {
+    let mut calls: Vec<Call> =
+        (12..=522).map(|round| Call::Round { round, peers: if round % 2 == 0 { ALL } else { ALL >> 1 } }).collect();
+    anchor(&mut calls, 520);
+    calls.extend([521, 520, 520].map(|round| Call::Remove { round, since: Some(13) }));
+    list(3, Start { bottom: 11, used: None, ..start(1, ALL) }, calls)
+}
+
+/// An anchor by 0, its proof and its trigger, and the commit.
+fn anchor(calls: &mut Vec<Call>, round: u32) {
+    let [anchor, proof, trigger] = [0, 1, 2].map(|n| at(round + n, 0, 0));
+    let below = |id: PointId| valid(vec![Link { peer: 0, digest: id.digest }], vec![]);
+    let infos = [
+        PointInfo { top_proof: at(10, 0, 0), ..valid(vec![], vec![]) },
+        PointInfo { proof: true, top_proof: proof, ..below(anchor) },
+        PointInfo { trigger: true, ..below(proof) },
+    ];
+    for (id, info) in [anchor, proof, trigger].into_iter().zip(infos) {
+        calls.extend([Call::Name(id), Call::Resolve(id, info)]);
+    }
+    calls.extend([Call::Certify(anchor), Call::Commit(trigger)]);
 }
 
 /// Every round's point is a proof and the anchor of the next, or every second one: the most anchors that one commit can have, H 1.

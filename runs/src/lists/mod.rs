@@ -8,7 +8,7 @@ mod short;
 
 use committer::{Link, PointId, PointInfo};
 
-pub use chains::chained;
+pub use chains::{chained, removing};
 pub use damage::damaged;
 pub use growth::{Growth, Taste, grown};
 pub use limits::limits;

@@ -8,9 +8,9 @@ use crate::compare::List;
 /// Places of the tables; one less than the points that can be named, so that the table is full in some lists.
 const PLACES: usize = 5;
 
-/// The lists of all three families, one after the other.
+/// The lists of all four families, one after the other.
 pub fn shorts() -> impl Iterator<Item = List> {
-    orders().chain(begun()).chain(bare())
+    orders().chain(begun()).chain(bare()).chain(removing())
 }
 
 fn start(commit_history_rounds: u32) -> Call {
@@ -81,6 +81,42 @@ fn begun() -> impl Iterator<Item = List> {
 /// Lists of three letters from the beginning.
 fn bare() -> impl Iterator<Item = List> {
     words(Vec::new(), letters(), 3)
+}
+
+/// Lists of four letters after the calls of entry 8 before its remove: two proofs of one previous point, an anchor in round 5. Removes
+/// mostly, and what may come between them.
+fn removing() -> impl Iterator<Item = List> {
+    let with = Start { genesis: 1, commit_history_rounds: 1, bottom: 2, peers: 0b11, ..Start::default() };
+    let mut prefix = vec![Call::Start(with)];
+    prefix.extend((3..=7).map(round));
+    let signed = PointInfo { evidence: 0b10, ..valid(vec![link(0, 1)], vec![]) };
+    let proof = PointInfo { proof: true, top_proof: point(6, 0, 7), ..valid(vec![link(0, 6)], vec![]) };
+    let trigger = PointInfo { trigger: true, ..valid(vec![link(0, 7)], vec![]) };
+    let points = [
+        (point(2, 0, 2), signed.clone()),
+        (point(2, 0, 3), signed),
+        (point(2, 1, 4), valid(vec![], vec![])),
+        (point(3, 1, 5), valid(vec![], vec![])),
+        (point(5, 0, 6), PointInfo { top_proof: point(1, 0, 9), ..valid(vec![], vec![]) }),
+        (point(6, 0, 7), proof),
+        (point(7, 0, 8), trigger),
+    ];
+    prefix.extend(points.into_iter().flat_map(|(id, info)| [Call::Name(id), Call::Resolve(id, info)]));
+    prefix.extend([Call::Certify(point(5, 0, 6)), Call::Commit(point(7, 0, 8))]);
+    let remove = |round, since| Call::Remove { round, since };
+    let letters = vec![
+        remove(3, Some(0)),
+        remove(4, Some(0)),
+        remove(5, Some(3)),
+        remove(5, None),
+        remove(6, Some(0)),
+        Call::Drop(3),
+        Call::Certify(point(3, 1, 5)),
+        Call::Reset,
+        Call::Start(Start { bottom: 3, ..with }),
+        Call::Gap,
+    ];
+    words(prefix, letters, 4).map(|list| List { places: 7, ..list })
 }
 
 /// Every word of so many letters, after the prefix.
