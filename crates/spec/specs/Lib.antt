@@ -32,3 +32,6 @@ pub mod Demand3
 pub mod Scenarios
 pub mod Cases
 pub mod Examples
+pub mod Pcg
+pub mod PcgRanges
+pub mod PcgExamples
