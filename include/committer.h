@@ -212,6 +212,24 @@ typedef struct committer_digest {
     uint64_t words[4];
 } committer_digest;
 
+/* A number of 128 bits: high times 2^64, plus low. */
+typedef struct committer_wide {
+    uint64_t high;
+    uint64_t low;
+} committer_wide;
+
+/* The generator PCG XSL RR 128/64. Any numbers will do. */
+typedef struct committer_pcg {
+    committer_wide state;
+    committer_wide increment;
+} committer_pcg;
+
+/* A draw, and the generator to draw the next one from. */
+typedef struct committer_drawn {
+    uint64_t value;
+    committer_pcg next;
+} committer_drawn;
+
 typedef struct committer_point_id {
     uint32_t round;
     uint32_t author;
@@ -321,6 +339,8 @@ typedef struct committer_counters {
 
 COMMITTER_ASSERT(words_of_64_bits, sizeof(size_t) == 8);
 COMMITTER_ASSERT(size_of_a_point_id, sizeof(committer_point_id) == 40);
+COMMITTER_ASSERT(size_of_a_generator, sizeof(committer_pcg) == 32);
+COMMITTER_ASSERT(size_of_a_draw, sizeof(committer_drawn) == 40);
 COMMITTER_ASSERT(size_of_a_round_record, sizeof(committer_round_record) == 8);
 COMMITTER_ASSERT(size_of_an_entry, sizeof(committer_entry) == 88);
 COMMITTER_ASSERT(size_of_a_memory, sizeof(committer_memory) == 11280);
@@ -366,6 +386,21 @@ static inline void committer_digest_bytes(committer_digest digest, unsigned char
         bytes[i] = (unsigned char)(digest.words[i / 8] >> (56 - 8 * (i % 8)));
     }
 }
+
+/* ---- generator. It takes no state and no tables, and refuses nothing. */
+
+/*
+ * The generator that an anchor's digest seeds: rand_pcg's Pcg64::from_seed of its 32 bytes. Word k of the seed is word k of the digest with
+ * its bytes in the other order: state low, state high, increment low, increment high; the increment's lowest bit is set.
+ */
+committer_pcg committer_seed(committer_digest digest);
+
+/* The next draw: rand_pcg's next_u64, of any generator, one with an even increment too. */
+committer_drawn committer_draw(committer_pcg generator);
+
+/* The bytes of stack that they take at most, as below. */
+#define COMMITTER_STACK_SEED 100u
+#define COMMITTER_STACK_DRAW 100u
 
 /* ---- stack */
 

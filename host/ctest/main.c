@@ -317,6 +317,25 @@ static void check_helpers(void)
     CHECK(none.phase == 0 && none.count == 0 && none.memory.entries[127].unreferenced_by == 0);
 }
 
+/* ---- the generator: the PCG suite's state 42 and stream 54, and an even increment */
+
+static void check_generator(void)
+{
+    static const uint64_t draws[6] = {0x86b1da1d72062b68u, 0x1304aa46c9853d39u, 0xa3670e9e0dd50358u,
+        0xf9090e529a7dae00u, 0xc85b9fd837996f2cu, 0x606121f8e3919196u};
+    unsigned char bytes[32] = {0x2a};
+    bytes[16] = 0x6d;
+    committer_pcg generator = committer_seed(committer_digest_of(bytes));
+    CHECK(generator.increment.high == 0 && generator.increment.low == 0x6d);
+    for (int i = 0; i < 6; i++) {
+        committer_drawn drawn = committer_draw(generator);
+        CHECK(drawn.value == draws[i]);
+        generator = drawn.next;
+    }
+    committer_drawn none = committer_draw((committer_pcg){{0, 0}, {0, 0}});
+    CHECK(none.value == 0 && none.next.state.high == 0 && none.next.state.low == 0 && none.next.increment.low == 0);
+}
+
 /* ---- refusals */
 
 static void check_start_refusals(void)
@@ -1242,6 +1261,7 @@ static void check_noise(size_t places, int times)
 int main(void)
 {
     check_helpers();
+    check_generator();
     check_start_refusals();
     check_places();
     check_lengths();

@@ -5,6 +5,7 @@
 //! commit would hand out, an outlook tells without a change; what a remove drains, it reports.
 
 mod anchor;
+mod pcg;
 pub mod record;
 mod refusal;
 mod removal;
@@ -13,6 +14,7 @@ pub mod sys;
 mod types;
 
 pub use anchor::{Anchor, Look, OUTLOOK_BYTES, RECORD_BYTES, anchors, looks};
+pub use pcg::Pcg;
 pub use record::Call;
 pub use refusal::{Refusal, Refused};
 pub use removal::{JournalDagEvent, MempoolPeerCounters, MempoolPeerStats, PEER_BYTES, Removal, removal};

@@ -14,6 +14,37 @@ pub struct PointId {
     pub digest: Digest,
 }
 
+/// A digest that crosses by itself.
+#[repr(C)]
+#[derive(Clone, Copy, Debug, PartialEq, Eq)]
+pub struct DigestWords {
+    pub words: Digest,
+}
+
+/// A number of 128 bits: high times 2^64, plus low.
+#[repr(C)]
+#[derive(Clone, Copy, Debug, PartialEq, Eq, Hash)]
+pub struct Wide {
+    pub high: u64,
+    pub low: u64,
+}
+
+/// The generator.
+#[repr(C)]
+#[derive(Clone, Copy, Debug, PartialEq, Eq, Hash)]
+pub struct Pcg {
+    pub state: Wide,
+    pub increment: Wide,
+}
+
+/// A draw, and the generator to draw the next one from.
+#[repr(C)]
+#[derive(Clone, Copy, Debug, PartialEq, Eq)]
+pub struct Drawn {
+    pub value: u64,
+    pub next: Pcg,
+}
+
 /// A retained round: its peers, and the author of its used mark plus 1, or 0 for none.
 #[repr(C)]
 #[derive(Clone, Copy, Debug, PartialEq, Eq)]
@@ -137,6 +168,8 @@ pub struct Counters {
 // the layout that the library was built with
 const _: () = assert!(size_of::<usize>() == 8);
 const _: () = assert!(size_of::<PointId>() == 40);
+const _: () = assert!(size_of::<Pcg>() == 32);
+const _: () = assert!(size_of::<Drawn>() == 40);
 const _: () = assert!(size_of::<Entry>() == 88);
 const _: () = assert!(size_of::<Memory>() == 11280);
 const _: () = assert!(offset_of!(State, rounds) == 56);
@@ -147,6 +180,13 @@ const _: () = assert!(size_of::<Reply>() == 15448);
 const _: () = assert!(size_of::<Start>() == 28);
 const _: () = assert!(size_of::<Resolution>() == 72);
 const _: () = assert!(size_of::<Counters>() == 18);
+
+// the generator, which is lent nothing
+unsafe extern "C" {
+    pub safe fn committer_seed(digest: DigestWords) -> Pcg;
+
+    pub safe fn committer_draw(generator: Pcg) -> Drawn;
+}
 
 // Safety, of all of them: each pointer is to as many words (or bytes, of the buffer) as its length says, and no two of
 // what is lent overlap.

@@ -1,6 +1,8 @@
 // Origin: none.
-// The C boundary: one function for each call, over the proved calls, and the sum of counters. Answers cross as numbers.
+// The C boundary: one function for each call, over the proved calls, and the sum of counters. Answers cross as numbers. Beside them the
+// generator.
 pub mod commit;
 pub mod counters;
+pub mod generator;
 pub mod points;
 pub mod rounds;

@@ -3,6 +3,7 @@
 mod cases;
 mod commits;
 mod common;
+mod draws;
 mod full_size;
 mod model;
 mod noise;
