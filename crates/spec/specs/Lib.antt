@@ -35,3 +35,9 @@ pub mod Examples
 pub mod Pcg
 pub mod PcgRanges
 pub mod PcgExamples
+pub mod Game
+pub mod GameRefusal
+pub mod GameCounts
+pub mod GameRounds
+pub mod GameDetermined
+pub mod GameCases
