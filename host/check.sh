@@ -33,7 +33,7 @@ objdump -dr --no-show-raw-insn "$COMMITTER_LIB" > "$CARGO_TARGET_DIR/library.txt
 awk -f "$here/stack.awk" "$CARGO_TARGET_DIR/library.txt" > "$CARGO_TARGET_DIR/stack.txt"
 # what the header says of each function holds
 while read -r function bytes; do
-  said="$(sed -n "s/^#define COMMITTER_STACK_\([A-Z]*\) \([0-9]*\)u.*/\L\1\E \2/p" "$repository/include/committer.h" | sed -n "s/^${function#committer_} //p")"
+  said="$(sed -n "s/^#define COMMITTER_STACK_\([A-Z_]*\) \([0-9]*\)u.*/\L\1\E \2/p" "$repository/include/committer.h" | sed -n "s/^${function#committer_} //p")"
   if [ -z "$said" ] || [ "$bytes" -gt "$said" ]; then
     echo "$function takes $bytes bytes of stack; the header says ${said:-nothing}" >&2
     exit 1

@@ -202,7 +202,8 @@ enum committer_refusal {
     COMMITTER_GAP_QUESTION = 20, /* gap question not put */
     COMMITTER_NO_ROOM = 21, /* answer larger than the buffer left */
     COMMITTER_AT_GENESIS = 22, /* anchor at genesis */
-    COMMITTER_REMOVE_AHEAD = 23 /* remove above the last anchor handed out since the start, or none */
+    COMMITTER_REMOVE_AHEAD = 23, /* remove above the last anchor handed out since the start, or none */
+    COMMITTER_BAD_GAME = 31 /* numbers or sets of a game of keepers and spoilers out of range; no call's */
 };
 
 /* ---- types */
@@ -235,6 +236,12 @@ typedef struct committer_point_id {
     uint32_t author;
     committer_digest digest;
 } committer_point_id;
+
+/* Who decides a game of keepers and spoilers: forced 1, keepers; forced 0 where it isn't refused, spoilers. */
+typedef struct committer_reach {
+    uint32_t refused; /* COMMITTER_BAD_GAME, or 0 for none */
+    uint32_t forced; /* 1 for yes, else 0 */
+} committer_reach;
 
 /* A retained round: its peers (peer n is the bit of weight 2^n), and the author of its used mark plus 1, or 0 for none. */
 typedef struct committer_round_record {
@@ -341,6 +348,7 @@ COMMITTER_ASSERT(words_of_64_bits, sizeof(size_t) == 8);
 COMMITTER_ASSERT(size_of_a_point_id, sizeof(committer_point_id) == 40);
 COMMITTER_ASSERT(size_of_a_generator, sizeof(committer_pcg) == 32);
 COMMITTER_ASSERT(size_of_a_draw, sizeof(committer_drawn) == 40);
+COMMITTER_ASSERT(size_of_a_reach, sizeof(committer_reach) == 8);
 COMMITTER_ASSERT(size_of_a_round_record, sizeof(committer_round_record) == 8);
 COMMITTER_ASSERT(size_of_an_entry, sizeof(committer_entry) == 88);
 COMMITTER_ASSERT(size_of_a_memory, sizeof(committer_memory) == 11280);
@@ -401,6 +409,23 @@ committer_drawn committer_draw(committer_pcg generator);
 /* The bytes of stack that they take at most, as below. */
 #define COMMITTER_STACK_SEED 100u
 #define COMMITTER_STACK_DRAW 100u
+
+/* ---- keepers and spoilers. No state and no tables are taken. */
+
+/*
+ * Whether keepers can force an anchor to reach a wanted point, or spoilers can prevent it; one of the two holds. Of the peers, those in
+ * `keepers` are keepers and the others spoilers. The points of the peers in `reaching` reach the wanted point now. In each of the coming
+ * rounds, the last of them the anchor's, `distance` rounds from now, every peer writes one point that includes at least `quorum` points of
+ * the round before, as its side likes, spoilers choosing after keepers; it reaches the wanted point if it includes one that does. The
+ * anchor is the author's point of the last round. Sets have peer n as the bit of weight 2^n.
+ * Refused: 31 no peers, a quorum of 0 or above their number, an author or a peer of a set that isn't one of them, a distance of 0 or above
+ * 255.
+ */
+committer_reach committer_reach_of(
+    uint32_t peers, uint32_t keepers, uint32_t quorum, uint32_t reaching, uint32_t author, uint32_t distance);
+
+/* The bytes of stack that it takes at most, as below. */
+#define COMMITTER_STACK_REACH_OF 200u
 
 /* ---- stack */
 

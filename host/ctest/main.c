@@ -336,6 +336,18 @@ static void check_generator(void)
     CHECK(none.value == 0 && none.next.state.high == 0 && none.next.state.low == 0 && none.next.increment.low == 0);
 }
 
+/* ---- keepers and spoilers: peers 0 and 31, of whom 31 keeps and 0 reaches */
+
+static void check_games(void)
+{
+    committer_reach kept = committer_reach_of(0x80000001u, 0x80000000u, 1, 1, 31, 1);
+    CHECK(kept.refused == 0 && kept.forced == 1);
+    committer_reach spoilt = committer_reach_of(0x80000001u, 0x80000000u, 1, 1, 0, 255);
+    CHECK(spoilt.refused == 0 && spoilt.forced == 0);
+    committer_reach refused = committer_reach_of(0x80000001u, 0x80000000u, 1, 1, 0, 256);
+    CHECK(refused.refused == COMMITTER_BAD_GAME && refused.forced == 0);
+}
+
 /* ---- refusals */
 
 static void check_start_refusals(void)
@@ -1262,6 +1274,7 @@ int main(void)
 {
     check_helpers();
     check_generator();
+    check_games();
     check_start_refusals();
     check_places();
     check_lengths();

@@ -5,6 +5,7 @@
 //! commit would hand out, an outlook tells without a change; what a remove drains, it reports.
 
 mod anchor;
+mod game;
 mod pcg;
 pub mod record;
 mod refusal;
@@ -14,6 +15,7 @@ pub mod sys;
 mod types;
 
 pub use anchor::{Anchor, Look, OUTLOOK_BYTES, RECORD_BYTES, anchors, looks};
+pub use game::{Game, Reach};
 pub use pcg::Pcg;
 pub use record::Call;
 pub use refusal::{Refusal, Refused};

@@ -18,7 +18,9 @@ pub enum Refusal {
     Resolved,
     BadInfo,
     LinkNotNamed,
-    Conflict { round: u32 },
+    Conflict {
+        round: u32,
+    },
     PointMissing,
     Unusable,
     BrokenChain,
@@ -29,6 +31,8 @@ pub enum Refusal {
     NoRoom,
     AtGenesis,
     RemoveAhead,
+    /// of a game of keepers and spoilers, document 02's
+    BadGame,
 }
 
 impl Refusal {
@@ -58,6 +62,7 @@ impl Refusal {
             21 => Refusal::NoRoom,
             22 => Refusal::AtGenesis,
             23 => Refusal::RemoveAhead,
+            31 => Refusal::BadGame,
             _ => return None,
         })
     }
@@ -88,6 +93,7 @@ impl Refusal {
             Refusal::NoRoom => 21,
             Refusal::AtGenesis => 22,
             Refusal::RemoveAhead => 23,
+            Refusal::BadGame => 31,
         }
     }
 
@@ -116,6 +122,7 @@ impl Refusal {
             Refusal::NoRoom => "answer larger than the buffer left",
             Refusal::AtGenesis => "anchor at genesis",
             Refusal::RemoveAhead => "remove above the last anchor handed out since the start, or none",
+            Refusal::BadGame => "numbers or sets of the game out of range",
         }
     }
 }

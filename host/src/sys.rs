@@ -45,6 +45,16 @@ pub struct Drawn {
     pub next: Pcg,
 }
 
+/// Who decides a game of keepers and spoilers.
+#[repr(C)]
+#[derive(Clone, Copy, Debug, PartialEq, Eq)]
+pub struct Reach {
+    /// 31, or 0 for none
+    pub refused: u32,
+    /// 1 for yes
+    pub forced: u32,
+}
+
 /// A retained round: its peers, and the author of its used mark plus 1, or 0 for none.
 #[repr(C)]
 #[derive(Clone, Copy, Debug, PartialEq, Eq)]
@@ -170,6 +180,7 @@ const _: () = assert!(size_of::<usize>() == 8);
 const _: () = assert!(size_of::<PointId>() == 40);
 const _: () = assert!(size_of::<Pcg>() == 32);
 const _: () = assert!(size_of::<Drawn>() == 40);
+const _: () = assert!(size_of::<Reach>() == 8);
 const _: () = assert!(size_of::<Entry>() == 88);
 const _: () = assert!(size_of::<Memory>() == 11280);
 const _: () = assert!(offset_of!(State, rounds) == 56);
@@ -181,11 +192,20 @@ const _: () = assert!(size_of::<Start>() == 28);
 const _: () = assert!(size_of::<Resolution>() == 72);
 const _: () = assert!(size_of::<Counters>() == 18);
 
-// the generator, which is lent nothing
+// the generator and the game, which are lent nothing
 unsafe extern "C" {
     pub safe fn committer_seed(digest: DigestWords) -> Pcg;
 
     pub safe fn committer_draw(generator: Pcg) -> Drawn;
+
+    pub safe fn committer_reach_of(
+        peers: u32,
+        keepers: u32,
+        quorum: u32,
+        reaching: u32,
+        author: u32,
+        distance: u32,
+    ) -> Reach;
 }
 
 // Safety, of all of them: each pointer is to as many words (or bytes, of the buffer) as its length says, and no two of

@@ -1,8 +1,9 @@
 // Origin: none.
 // The C boundary: one function for each call, over the proved calls, and the sum of counters. Answers cross as numbers. Beside them the
-// generator.
+// generator, and the game of keepers and spoilers.
 pub mod commit;
 pub mod counters;
 pub mod generator;
 pub mod points;
+pub mod reach;
 pub mod rounds;

@@ -5,6 +5,7 @@ mod commits;
 mod common;
 mod draws;
 mod full_size;
+mod games;
 mod model;
 mod noise;
 mod outlooks;
