@@ -1,4 +1,4 @@
--- Small lists of calls and what they give: each refusal, the order of the tests, chains of several anchors, remove's bytes.
+-- Small lists of calls and what they give: each refusal, the order of the tests, chains of several anchors, place lists, remove's bytes.
 use Prim.Native.Nat.{ℕ, suc}
 use mathlib.Core.Path.{_≡_, refl}
 use mathlib.Core.List.{List, [], _∷_, _++_, map}
@@ -10,6 +10,7 @@ use Rattle.laws.specs.Lists
 use Rattle.spec.specs.Ids.{Id, Ref}
 use Rattle.spec.specs.Store.{Resolution, Conf, Store, word, withProgress, withMemory}
 use Rattle.spec.specs.Chain.{orZero}
+use Rattle.spec.specs.History.{linkedCounts, listsOk, inOrder, afterLists}
 use Rattle.spec.specs.Inspect.{weight}
 use Rattle.spec.specs.Calls.{Answer, Outcome, StartArgs, Call, start, resetAll, round, name, resolve, certify, gapQuestion, commit, outlook, remove, drop as dropTo, call, startOk, conflictRound, done, flag, anchors, refused}
 use Rattle.spec.specs.Demand.{after}
@@ -326,6 +327,66 @@ others =
 looked : agree others ≡ true
 unfolding computed numbers same agree Lists.all
 looked = refl
+
+-- ---- place lists (02: N1)
+
+-- K13's points: 11.0.110, 12.0.120 and 12.1.121, at place 3 the anchor 13.0.130
+abbrev layered : Store
+layered = after (blank 6) (
+    (from 2 10 false (some 0) ∷ rounds 11 5)
+    ++ (both (id 11 0 110) (gave 1 [] [])
+    ++ (both (id 12 0 120) (gave 1 (ref 0 110 ∷ []) [])
+    ++ (both (id 12 1 121) (gave 1 (ref 0 110 ∷ []) [])
+    ++ (both (id 13 0 130) (gave 1 (ref 0 120 ∷ ref 1 121 ∷ []) [])
+    ++ (both (id 14 0 140) (point 1 true false (id 10 0 0) (ref 0 130 ∷ []))
+    ++ (both (id 15 0 150) (point 1 false true (id 10 0 0) (ref 0 140 ∷ [])) ++ (certify (id 13 0 130) ∷ []))))))))
+
+-- three points of 11 by three peers, at place 3 the anchor 12.0.120
+abbrev triple : Store
+triple = after (blank 6) (
+    (start (record { conf = conf 2; bottom = 10; peers = 7; afterGap = false; used = some 0 }) ∷ round 11 7 ∷ round 12 7 ∷ [])
+    ++ (both (id 11 0 3) (gave 1 [] [])
+    ++ (both (id 11 1 1) (gave 1 [] [])
+    ++ (both (id 11 2 2) (gave 1 [] []) ++ both (id 12 0 120) (gave 1 (ref 0 3 ∷ ref 1 1 ∷ ref 2 2 ∷ []) [])))))
+
+-- the two anchors 13 and 15, the first committed; the other is at place 3
+abbrev half : Store
+half = fire (onTwo 1) 120 .store
+
+-- whether these lists of the anchor at place 3 are right
+abbrev right : Store → List ℕ → List ℕ
+right s l = cond (listsOk (linkedCounts s 3) l) 1 0 ∷ []
+
+-- the same, and the digests in the order in which they come out
+abbrev out : Store → List ℕ → List ℕ
+out s l = right s l ++ map (λ (i : Id). i .digest) (inOrder s 3 l)
+
+abbrev lists : List Row
+lists =
+    -- the counts of 13, 12, 11; the points of 12 in the reverse of their list; further bytes are unread
+    row 1 (linkedCounts layered 3) (1 ∷ 2 ∷ 1 ∷ [])
+    ∷ row 2 (out layered (0 ∷ 0 ∷ 1 ∷ 0 ∷ [])) (1 ∷ 110 ∷ 121 ∷ 120 ∷ 130 ∷ [])
+    ∷ row 3 (out layered (0 ∷ 1 ∷ 0 ∷ 0 ∷ [])) (1 ∷ 110 ∷ 120 ∷ 121 ∷ 130 ∷ [])
+    ∷ row 4 (out layered (0 ∷ 1 ∷ 0 ∷ 0 ∷ 255 ∷ 255 ∷ [])) (1 ∷ 110 ∷ 120 ∷ 121 ∷ 130 ∷ [])
+    -- a place twice, one not below the count, another round's list, too few bytes, none
+    ∷ row 5 (right layered (0 ∷ 0 ∷ 0 ∷ 0 ∷ [])) (0 ∷ [])
+    ∷ row 6 (right layered (0 ∷ 2 ∷ 0 ∷ 0 ∷ [])) (0 ∷ [])
+    ∷ row 7 (right layered (1 ∷ 1 ∷ 0 ∷ 0 ∷ [])) (0 ∷ [])
+    ∷ row 8 (right layered (0 ∷ 0 ∷ 1 ∷ [])) (0 ∷ [])
+    ∷ row 9 (right layered []) (0 ∷ [])
+    -- three points 1, 2, 3: a byte says who stands there, not where that one went
+    ∷ row 10 (out triple (0 ∷ 1 ∷ 2 ∷ 0 ∷ [])) (1 ∷ 1 ∷ 3 ∷ 2 ∷ 120 ∷ [])
+    ∷ row 11 (out triple (0 ∷ 2 ∷ 0 ∷ 1 ∷ [])) (1 ∷ 2 ∷ 1 ∷ 3 ∷ 120 ∷ [])
+    -- the point of 13 is counted, committed as it is, and doesn't come out; bytes after its list are left
+    ∷ row 12 (linkedCounts half 3) (1 ∷ 2 ∷ 1 ∷ [])
+    ∷ row 13 (out half (0 ∷ 0 ∷ 1 ∷ 0 ∷ [])) (1 ∷ 141 ∷ 140 ∷ 150 ∷ [])
+    ∷ row 14 (right half (0 ∷ 0 ∷ 1 ∷ [])) (0 ∷ [])
+    ∷ row 15 (afterLists half 3 (0 ∷ 0 ∷ 1 ∷ 0 ∷ 7 ∷ [])) (7 ∷ [])
+    ∷ []
+
+listed : agree lists ≡ true
+unfolding computed numbers same agree Lists.all
+listed = refl
 
 -- ---- heights over witness links, flags
 

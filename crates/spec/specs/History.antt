@@ -1,13 +1,13 @@
 -- The history of an anchor and the tests of it (01: back.rs 'History', commit/mod.rs, output.rs, 'Refusals' 13 to 22).
 use Prim.Native.Nat.{ℕ, zero, suc, _+_, _-_, max}
 use mathlib.Core.Path.{_≡_}
-use mathlib.Core.List.{List, [], _∷_, _++_, map}
+use mathlib.Core.List.{List, [], _∷_, _++_, map, reverse}
 use mathlib.Core.Bool.{Bool, true, false, not, _&&_, _||_, cond}
 use mathlib.Core.Option.{Option, none, some}
 use lib.Dec.{eqb, leb, ltb}
-use lib.ListN.{length}
-use Rattle.laws.specs.Scan.{any, those}
-use Rattle.laws.specs.Lists.{joined}
+use lib.ListN.{length, getD, take, drop}
+use Rattle.laws.specs.Scan.{any, every, those}
+use Rattle.laws.specs.Lists.{keep, count, joined, weigh}
 use Rattle.laws.specs.Sort.{sort}
 use Rattle.laws.specs.Bytes.{be, written}
 use Rattle.spec.specs.Ids.{Id, idBytes, rises, falls, prev}
@@ -55,6 +55,56 @@ inHistory s a q = needed s a q && not (s .pt q .flags .committed)
 -- "Rounds rise in the answer"; "inside a round a history rises by digest"
 unfoldable pub history : Store → ℕ → List Id
 history s a = sort rises (map (idAt s) (those (s .places) (inHistory s a)))
+
+-- ---- the order inside a round (02: N1)
+
+-- "all points linked in that round, the anchor and committed ones too, sorted by digest": their places
+unfoldable pub linkedIn : Store → ℕ → ℕ → List ℕ
+linkedIn s a r = sort (λ p q. leb (idAt s p .digest) (idAt s q .digest)) (those (s .places) (λ q. needed s a q && eqb (roundAt s q) r))
+
+-- k rounds, from r downwards
+unfoldable pub downFrom : ℕ → ℕ → List ℕ
+downFrom r zero = []
+downFrom r (suc k) = r ∷ downFrom (prev r) k
+
+-- "each round from the anchor's down to the limit or the store's bottom"
+abbrev pub roundsOf : Store → ℕ → List ℕ
+roundsOf s a = downFrom (roundAt s a) (suc (roundAt s a) - lowest s a)
+
+-- "how many such points each of those rounds has"
+abbrev pub countsIn : Store → ℕ → List ℕ → List ℕ
+countsIn s a rs = map (λ r. length (linkedIn s a r)) rs
+
+abbrev pub linkedCounts : Store → ℕ → List ℕ
+linkedCounts s a = countsIn s a (roundsOf s a)
+
+-- "each place from 0 once"
+unfoldable pub eachOnce : ℕ → List ℕ → Bool
+eachOnce n l = eqb (length l) n && every n (λ k. eqb (count (eqb k) l) 1)
+
+-- 24: "a list that isn't each place from 0 once"; "lists end to end .. bytes beyond them unread". It reads nothing but counts and bytes.
+unfoldable pub listsOk : List ℕ → List ℕ → Bool
+listsOk [] l = true
+listsOk (n ∷ ns) l = eachOnce n (take n l) && listsOk ns (drop n l)
+
+-- a round's points ps in "the order its shuffle left"; "Uncommitted points come out in the reverse of that order."
+unfoldable pub roundOut : Store → List ℕ → List ℕ → List ℕ
+roundOut s ps l = reverse (keep (λ q. not (s .pt q .flags .committed)) (map (λ k. getD ps k 0) l))
+
+-- the rounds go down, and "Rounds rise in the answer"
+unfoldable pub drawn : Store → ℕ → List ℕ → List ℕ → List ℕ
+drawn s a [] l = []
+drawn s a (r ∷ rs) l =
+    let ps = linkedIn s a r in
+    drawn s a rs (drop (length ps) l) ++ roundOut s ps (take (length ps) l)
+
+-- the history in the order in which it comes out
+unfoldable pub inOrder : Store → ℕ → List ℕ → List Id
+inOrder s a l = map (idAt s) (drawn s a (roundsOf s a) l)
+
+-- "anchor by anchor": what the lists of this one leave
+unfoldable pub afterLists : Store → ℕ → List ℕ → List ℕ
+afterLists s a l = drop (weigh (λ n. n) (linkedCounts s a)) l
 
 -- ---- the tests of an anchor
 

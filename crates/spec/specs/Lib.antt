@@ -19,6 +19,7 @@ pub mod Accepted
 pub mod Refusals
 pub mod Preservation
 pub mod Inspection
+pub mod OrderInRound
 pub mod Demand
 pub mod Extension
 pub mod Demand3Second
