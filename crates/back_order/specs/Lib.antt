@@ -1,0 +1,4 @@
+pub mod Each
+pub mod Linked
+pub mod Counts
+pub mod Refines

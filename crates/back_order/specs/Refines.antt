@@ -1,0 +1,157 @@
+-- The marked places of a round are the points of it that an anchor needs, by rising digest (01: back.rs, 'History'; 02: N1).
+use Prim.Native.Nat.{ℕ, zero, suc, _+_, _-_, _<_, _≤_}
+use mathlib.Core.Path.{_≡_, refl, sym, ap, subst, _∙_}
+use mathlib.Core.List.{List, _∷_, map, List·Memᴰ}
+use mathlib.Core.Bool.{Bool, true, false}
+use mathlib.Core.Logic.{⊎-elim}
+use native.Mathlib.Omega.{arith}
+use native.Mathlib.Numerals.{add-one}
+use lib.Dec.{leb}
+use lib.ListN.{length, getD, drop}
+use lib.Seq.{drop-drop}
+use borrow.Author.Tests.{leb-true, leb-false, le-leb}
+use Rattle.laws.specs.Test.{sameOr, leOr}
+use Rattle.laws.specs.Lists.{Pairs, weigh}
+use Rattle.laws.specs.Sort.{sort-rises}
+use Rattle.spec.specs.History.{linkedIn, downFrom, linkedCounts, afterLists, lowest}
+use Rattle.spec.specs.OrderInRound.{linked-elim, linked-intro, linked-once}
+use Rattle.spec.specs.Store as store
+use Rattle.spec.specs.Store.{Store, idAt}
+use Rattle.spec.specs.Order.{strict}
+use Rattle.models.specs.Digest.{Fit}
+use Rattle.models.specs.Tables.{roundAt, placeAt, Used}
+use Rattle.commit_state.specs.declared.state.State.{State}
+use Rattle.tables_test.specs.View.{view}
+use Rattle.tables_test.specs.Whole.{places-is}
+use Rattle.tables_test.specs.Refines.{Started}
+use Rattle.back_drain.specs.Model.{below, below-le, below-low, below-high}
+use Rattle.back_history.specs.RefinesNeeded.{lowestOf, marksOf, used-named, used-round, lowest-is, low-is, high-is, needed-elim, needed-intro}
+use Rattle.back_history.specs.Refines.{ordered-one, picked-elim, picked-intro, picked-pairs, well, ids-rise}
+use Rattle.inspector_counters.specs.Places.{high-le, round-at, round-used}
+use Rattle.back_order.specs.Linked.{linkedBy}
+use Rattle.back_order.specs.Counts.{countBy, countsBy}
+
+module _ (s : State) (ks ls cs os : List ℕ) (fk : Fit ks) (fl : Fit ls) (t : Started s ks ls cs os) (a : ℕ) (used : Used os (s .count) a) where
+  -- the store
+  abbrev v : Store
+  v = view s ks ls cs os
+
+  -- the number of used places
+  abbrev n : ℕ
+  n = s .count
+
+  -- the marks
+  abbrev m : List Bool
+  m = marksOf s ks ls cs os a
+
+  module _ (r : ℕ) where
+    -- the first position of the round
+    abbrev low : ℕ
+    low = below ks os n r
+
+    -- the first above it
+    abbrev high : ℕ
+    high = below ks os n (r + 1)
+
+    -- the order of the digests
+    abbrev upward : ℕ → ℕ → Type 0
+    upward p q = idAt v p .digest < idAt v q .digest
+
+    -- a needed point stands at a position, and is marked
+    at-elim : (q : ℕ) → List·Memᴰ q (linkedIn v a r) → (i : ℕ) × (i < n) × (placeAt os i ≡ q) × (getD m q false ≡ true) × (roundAt ks q ≡ r)
+    at-elim q k =
+        let (z, h, e) = linked-elim v a r q k in
+        let (o, (i, l, b, d)) = needed-elim s ks ls cs os fk fl t a used q h in
+        let u : i < n = omega (arith, b, below-le ks os n (roundAt ks a + 1)) in
+        (i, u, d, o, sym (used-round s ks ls cs os fk fl t q (i, u, d)) ∙ e)
+
+    -- one of the round's
+    list-elim : (q : ℕ) → List·Memᴰ q (linkedIn v a r) → List·Memᴰ q (linkedBy os m low (high - low))
+    unfolding linkedBy
+    list-elim q k =
+        let (i, l, e, o, d) = at-elim q k in
+        let is : roundAt ks (placeAt os i) ≡ r = ap (roundAt ks) e ∙ d in
+        let lo : low ≤ i = leOr low i (λ x. x) (λ x. absurd (omega (arith, is, below-low ks os n r i x))) in
+        let hi : i < high = leOr high i (λ x. absurd (omega (arith, is, below-high ks os n (r + 1) i (t .facts .sorted) x l))) (λ x. x) in
+        let back : low + (i - low) ≡ i = omega arith in
+        let is-at : placeAt os (low + (i - low)) ≡ q = ap (placeAt os) back ∙ e in
+        subst (λ x. List·Memᴰ x (linkedBy os m low (high - low))) is-at (picked-intro os (λ q. getD m q false) low (high - low) (i - low) (omega arith) (ap (λ x. getD m x false) is-at ∙ o))
+
+    -- the round at one of its positions, in the store
+    round-is : (i : ℕ) → low ≤ i → i < high → store.roundAt v (placeAt os i) ≡ r
+    round-is i l h = used-round s ks ls cs os fk fl t (placeAt os i) (round-used s ks ls cs os fk fl t r i h) ∙ round-at s ks ls cs os fk fl t r i l h
+
+    -- the marked places rise by digest
+    linked-rises : Pairs upward (linkedBy os m low (high - low))
+    unfolding linkedBy
+    linked-rises =
+        picked-pairs upward os (λ q. getD m q false) low (high - low)
+        (λ i j l k. ⊎-elim
+        (λ h. absurd (omega (arith, h, round-is (low + i) (omega arith) (omega arith), round-is (low + j) (omega arith) (omega arith))))
+        (λ h. h .1) (ids-rise s ks ls cs os fk fl t (low + i) (low + j) (omega arith) (omega (arith, k, high-le s ks ls cs os fk fl t r))))
+
+    -- the needed points are sorted
+    sorted : Pairs (λ p q. leb (idAt v p .digest) (idAt v q .digest) ≡ true) (linkedIn v a r)
+    unfolding linkedIn
+    sorted =
+        sort-rises (λ p q. leb (idAt v p .digest) (idAt v q .digest)) (λ p q f. le-leb (idAt v q .digest) (idAt v p .digest) (omega (arith, leb-false (idAt v p .digest) (idAt v q .digest) f)))
+        (λ p q x a b. le-leb (idAt v p .digest) (idAt v x .digest) (omega (arith, leb-true (idAt v p .digest) (idAt v q .digest) a, leb-true (idAt v q .digest) (idAt v x .digest) b))) _
+
+    -- so do the needed points: a round has no digest twice
+    list-rises : Pairs upward (linkedIn v a r)
+    list-rises =
+        strict (λ p q. leb (idAt v p .digest) (idAt v q .digest) ≡ true) upward (linkedIn v a r) sorted (linked-once v a r)
+        (λ p q x y l d. sameOr (idAt v p .digest) (idAt v q .digest)
+        (λ e. absurd (d (apart p q x y e)))
+        (λ e. omega (arith, e, leb-true (idAt v p .digest) (idAt v q .digest) l)))
+      where
+        named : (q : ℕ) → List·Memᴰ q (linkedIn v a r) → v .pt q .named ≡ true
+        named q k = let (i, l, e, o, d) = at-elim q k in used-named s ks ls cs os fk fl t q (i, l, e)
+
+        apart : (p q : ℕ) → List·Memᴰ p (linkedIn v a r) → List·Memᴰ q (linkedIn v a r) → idAt v p .digest ≡ idAt v q .digest → p ≡ q
+        apart p q x y e = well s ks ls cs os fk fl t .apart p q (named p x) (named q y) (linked-elim v a r p x .2 ∙ sym (linked-elim v a r q y .2)) e
+
+    module _ (lo : lowestOf s (roundAt ks a) ≤ r) (hi : r ≤ roundAt ks a) where
+      -- a marked place of the round is needed
+      list-intro : (q : ℕ) → List·Memᴰ q (linkedBy os m low (high - low)) → List·Memᴰ q (linkedIn v a r)
+      unfolding linkedBy
+      list-intro q k =
+          let (j, l, e, o) = picked-elim os (λ q. getD m q false) low (high - low) q k in
+          let h : low + j < high = omega arith in
+          let u : low + j < n = omega (arith, h, high-le s ks ls cs os fk fl t r) in
+          let is : roundAt ks (placeAt os (low + j)) ≡ r = round-at s ks ls cs os fk fl t r (low + j) (omega arith) h in
+          subst (λ x. List·Memᴰ x (linkedIn v a r)) (sym e)
+          (linked-intro v a r (placeAt os (low + j))
+          (subst (λ x. placeAt os (low + j) < x) (sym (places-is s ks ls cs os fk fl (t .shaped))) (t .facts .inside (low + j) u))
+          (needed-intro s ks ls cs os fk fl t a used (low + j) (low-is s ks ls cs os fk fl t a used (low + j) u (omega (arith, is, lo))) (high-is s ks ls cs os fk fl t a used (low + j) u (omega (arith, is, hi))) o)
+          (round-is (low + j) (omega arith) h))
+
+      -- the needed points of the round
+      pub linked-is : linkedIn v a r ≡ linkedBy os m low (high - low)
+      linked-is = ordered-one upward (λ p q x y. omega (arith, x, y)) (linkedIn v a r) (linkedBy os m low (high - low)) list-rises linked-rises list-elim list-intro
+
+      -- how many they are
+      pub count-is : countBy ks os n m r ≡ length (linkedIn v a r)
+      unfolding countBy
+      count-is = ap length (sym linked-is)
+
+  -- k rounds from r down
+  counts-same : (r k : ℕ) → r ≤ roundAt ks a → k ≤ suc r - lowestOf s (roundAt ks a) → countsBy ks os n m (downFrom r k) ≡ map (λ x. length (linkedIn v a x)) (downFrom r k)
+  unfolding downFrom
+  counts-same r zero h l = refl
+  counts-same r (suc k) h l =
+      ap (λ x. x ∷ countsBy ks os n m (downFrom (r - 1) k)) (count-is r (omega arith) h)
+      ∙ ap (λ x. length (linkedIn v a r) ∷ x) (counts-same (r - 1) k (omega arith) (omega arith))
+
+  -- the rounds of its history
+  pub counts-are : countsBy ks os n m (downFrom (roundAt ks a) (roundAt ks a + 1 - lowestOf s (roundAt ks a))) ≡ linkedCounts v a
+  counts-are =
+      ap (λ x. countsBy ks os n m (downFrom (roundAt ks a) (x - lowestOf s (roundAt ks a)))) (add-one (roundAt ks a))
+      ∙ (counts-same (roundAt ks a) (suc (roundAt ks a) - lowestOf s (roundAt ks a)) (omega arith) (omega arith)
+      ∙ (ap (λ x. map (λ y. length (linkedIn v a y)) (downFrom (roundAt ks a) (suc (roundAt ks a) - x))) (sym (lowest-is s ks ls cs os fk fl t a used))
+      ∙ ap (λ x. map (λ y. length (linkedIn v a y)) (downFrom x (suc x - lowest v a))) (sym (used-round s ks ls cs os fk fl t a used))))
+
+  -- what the lists of this anchor leave
+  pub rest-is : (l : List ℕ) (from end : ℕ) → end ≡ from + weigh (λ x. x) (countsBy ks os n m (downFrom (roundAt ks a) (roundAt ks a + 1 - lowestOf s (roundAt ks a)))) → drop end l ≡ afterLists v a (drop from l)
+  unfolding afterLists
+  rest-is l from end e = ap (λ x. drop x l) (e ∙ ap (λ x. from + weigh (λ y. y) x) counts-are) ∙ sym (drop-drop (weigh (λ y. y) (linkedCounts v a)) from l)
