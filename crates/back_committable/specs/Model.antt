@@ -34,6 +34,7 @@ use Rattle.back_committable.specs.ModelPoints.{foundFault, Rounds}
 unfoldable pub spanOf : State → List ℕ → List ℕ → ℕ → Span
 spanOf s ks os r = record {
   limit = record { 0 = limitOf (s .genesis .0) (s .«commit_history_rounds») r };
+  lowest = record { 0 = lowestOf s r };
   low = below ks os (s .count) (lowestOf s r);
   high = below ks os (s .count) (r + 1);
 }
@@ -48,7 +49,7 @@ codeOf s ks cs os m x r =
 unfoldable pub testedIn : State → List ℕ → List ℕ → List ℕ → List ℕ → ℕ → Span → Tested
 testedIn s ks ls cs os a x =
     let m = marks (s .bottom .0) ks ls cs os (x .low) (x .high) a in
-    record { check = codeOf s ks cs os m x (roundAt ks a); low = x .low; high = x .high; count = length (those (x .high - x .low) (uncommittedAt cs os m (x .low))); marks = m }
+    record { check = codeOf s ks cs os m x (roundAt ks a); lowest = x .lowest; low = x .low; high = x .high; count = length (those (x .high - x .low) (uncommittedAt cs os m (x .low))); marks = m }
 
 -- the tests of the anchor a
 unfoldable pub testedOf : State → List ℕ → List ℕ → List ℕ → List ℕ → ℕ → Tested
@@ -58,10 +59,11 @@ testedOf s ks ls cs os a = testedIn s ks ls cs os a (spanOf s ks os (roundAt ks 
 
 -- the limit and the two positions
 pub span-by : (s : State) (ks os : List ℕ) (r : ℕ) (x y : Round) (low high : ℕ) → x .0 ≡ limitOf (s .genesis .0) (s .«commit_history_rounds») r → y .0 ≡ max (x .0) (s .bottom .0)
-    → low ≡ below ks os (s .count) (y .0) → high ≡ below ks os (s .count) (r + 1) → record { limit = x; low = low; high = high } ≡ spanOf s ks os r
+    → low ≡ below ks os (s .count) (y .0) → high ≡ below ks os (s .count) (r + 1) → record { limit = x; lowest = y; low = low; high = high } ≡ spanOf s ks os r
 unfolding spanOf
 span-by s ks os r x y low high a b c d = λ i. record {
   limit = record { 0 = a i };
+  lowest = record { 0 = (b ∙ ap (λ (z : ℕ). max z (s .bottom .0)) a) i };
   low = (c ∙ ap (below ks os (s .count)) (b ∙ ap (λ (z : ℕ). max z (s .bottom .0)) a)) i;
   high = d i;
 }
@@ -100,11 +102,11 @@ module _ (s : State) (ks cs os : List ℕ) (m : List Bool) (x : Span) (r : ℕ) 
 -- all of it
 pub tested-by : (s : State) (ks ls cs os : List ℕ) (a : ℕ) (r : ℕ) (x : Span) (m : List Bool) (c : ℕ) (f : Check) → r ≡ roundAt ks a → x ≡ spanOf s ks os r → m ≡ marks (s .bottom .0) ks ls cs os (x .low) (x .high) a
     → c ≡ length (those (x .high - x .low) (uncommittedAt cs os m (x .low))) → f ≡ codeOf s ks cs os m x r
-    → record { check = f; low = x .low; high = x .high; count = c; marks = m } ≡ testedOf s ks ls cs os a
+    → record { check = f; lowest = x .lowest; low = x .low; high = x .high; count = c; marks = m } ≡ testedOf s ks ls cs os a
 unfolding testedOf testedIn
 tested-by s ks ls cs os a r x m c f o e d g h =
-    (λ i. record { check = (h ∙ ap (codeOf s ks cs os m x) o) i; low = x .low; high = x .high; count = g i; marks = m })
-    ∙ ((λ i. record { check = codeOf s ks cs os (d i) x (roundAt ks a); low = x .low; high = x .high; count = length (those (x .high - x .low) (uncommittedAt cs os (d i) (x .low))); marks = d i })
+    (λ i. record { check = (h ∙ ap (codeOf s ks cs os m x) o) i; lowest = x .lowest; low = x .low; high = x .high; count = g i; marks = m })
+    ∙ ((λ i. record { check = codeOf s ks cs os (d i) x (roundAt ks a); lowest = x .lowest; low = x .low; high = x .high; count = length (those (x .high - x .low) (uncommittedAt cs os (d i) (x .low))); marks = d i })
     ∙ ap (testedIn s ks ls cs os a) (e ∙ ap (spanOf s ks os) o))
 
 -- ---- what started tables give the code

@@ -28,17 +28,19 @@ use models::refusal::NOT_CERTIFIED;
 use models::refusal::ROUNDS_MISSING;
 use models::refusal::Refusal;
 
-// The positions of a history, from `low` to `high`, and its limit.
+// The positions of a history, from `low` to `high`, its limit and its lowest round.
 pub struct Span {
     pub limit: Round,
+    pub lowest: Round,
     pub low: usize,
     pub high: usize,
 }
 
 // What an anchor's tests give, which refuse it with 22, 13 to 15, 17 or 18. Its history: the marked places that are not committed, of
-// the positions from `low` to `high`, and their number.
+// the positions from `low` to `high`, and their number; its lowest round.
 pub struct Tested {
     pub check: Check,
+    pub lowest: Round,
     pub low: usize,
     pub high: usize,
     pub count: usize,
@@ -60,6 +62,7 @@ fn span_of(s: State, keys: &[u64], order: &[u64], round: Round) -> Span
     let high = back_drain::cut(keys, order, n, round.plus(1));
     Span {
         limit: limit,
+        lowest: lowest,
         low: low,
         high: high,
     }
@@ -117,6 +120,7 @@ pub fn test_anchor(
 {
     let round = round_at(keys, anchor);
     let span = span_of(s, keys, order, round);
+    let lowest = span.lowest;
     let low = span.low;
     let high = span.high;
     let bottom = s.bottom;
@@ -125,6 +129,7 @@ pub fn test_anchor(
     let check = anchor_code(s, &marks, keys, certs, order, span, round);
     Tested {
         check,
+        lowest: lowest,
         low: low,
         high: high,
         count: count,

@@ -58,7 +58,7 @@ module _ (ks os : List ℕ) (n : ℕ) (m : List Bool) (r : ℕ) (l : List ℕ) (
   abbrev counts : ℕ → List ℕ
   counts k = countsBy ks os n m (downFrom r k)
 
-  counts-more : (k : ℕ) → counts (suc k) ≡ counts k ++ (countBy ks os n m (r - k) ∷ [])
+  pub counts-more : (k : ℕ) → counts (suc k) ≡ counts k ++ (countBy ks os n m (r - k) ∷ [])
   counts-more k = ap (countsBy ks os n m) (down-more r k) ∙ map-append (countBy ks os n m) (downFrom r k) ((r - k) ∷ [])
 
   -- one round more

@@ -70,6 +70,9 @@ module _ (l : List ℕ) (from n : ℕ) where
   abbrev part : List ℕ
   part = take n (drop from l)
 
+  pub part-at : (i : ℕ) → i < n → getD part i 0 ≡ getD l (from + i) 0
+  part-at i h = getD-take n (drop from l) i 0 h ∙ getD-drop from l i 0
+
   -- it is too short
   pub each-short : length l - from < n → false ≡ eachOnce n part
   unfolding eachOnce
@@ -78,9 +81,6 @@ module _ (l : List ℕ) (from n : ℕ) where
   module _ (room : n ≤ length l - from) where
     part-length : length part ≡ n
     part-length = omega (arith, room, length-take n (drop from l), length-drop from l)
-
-    part-at : (i : ℕ) → i < n → getD part i 0 ≡ getD l (from + i) 0
-    part-at i h = getD-take n (drop from l) i 0 h ∙ getD-drop from l i 0
 
     -- a byte that is no place
     pub each-large : (k v : ℕ) → k < n → v ≡ getD l (from + k) 0 → n ≤ v → false ≡ eachOnce n part

@@ -1,4 +1,5 @@
 pub mod Each
 pub mod Linked
 pub mod Counts
+pub mod Drawn
 pub mod Refines

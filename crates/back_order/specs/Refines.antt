@@ -1,20 +1,21 @@
--- The marked places of a round are the points of it that an anchor needs, by rising digest (01: back.rs, 'History'; 02: N1).
+-- The marked places of a round are the points of it that an anchor needs, by rising digest, and right lists make them come out in one
+-- order (01: back.rs, 'History'; 02: N1).
 use Prim.Native.Nat.{ℕ, zero, suc, _+_, _-_, _<_, _≤_}
-use mathlib.Core.Path.{_≡_, refl, sym, ap, subst, _∙_}
-use mathlib.Core.List.{List, _∷_, map, List·Memᴰ}
-use mathlib.Core.Bool.{Bool, true, false}
+use mathlib.Core.Path.{_≡_, refl, sym, ap, ap₂, subst, _∙_}
+use mathlib.Core.List.{List, _∷_, _++_, map, reverse, List·Memᴰ}
+use mathlib.Core.Bool.{Bool, true, false, not}
 use mathlib.Core.Logic.{⊎-elim}
 use native.Mathlib.Omega.{arith}
 use native.Mathlib.Numerals.{add-one}
 use lib.Dec.{leb}
-use lib.ListN.{length, getD, drop}
+use lib.ListN.{length, getD, take, drop}
 use lib.Seq.{drop-drop}
 use borrow.Author.Tests.{leb-true, leb-false, le-leb}
-use Rattle.laws.specs.Test.{sameOr, leOr}
-use Rattle.laws.specs.Lists.{Pairs, weigh}
+use Rattle.laws.specs.Test.{sameOr, leOr, and-l}
+use Rattle.laws.specs.Lists.{Pairs, weigh, keep-same, mem-map, getD-in}
 use Rattle.laws.specs.Sort.{sort-rises}
-use Rattle.spec.specs.History.{linkedIn, downFrom, linkedCounts, afterLists, lowest}
-use Rattle.spec.specs.OrderInRound.{linked-elim, linked-intro, linked-once}
+use Rattle.spec.specs.History.{needed, inHistory, linkedIn, downFrom, roundsOf, countsIn, linkedCounts, eachOnce, listsOk, roundOut, drawn, inOrder, afterLists, lowest}
+use Rattle.spec.specs.OrderInRound.{linked-elim, linked-intro, linked-once, each-below, lists-head, drawn-elim}
 use Rattle.spec.specs.Store as store
 use Rattle.spec.specs.Store.{Store, idAt}
 use Rattle.spec.specs.Order.{strict}
@@ -25,11 +26,16 @@ use Rattle.tables_test.specs.View.{view}
 use Rattle.tables_test.specs.Whole.{places-is}
 use Rattle.tables_test.specs.Refines.{Started}
 use Rattle.back_drain.specs.Model.{below, below-le, below-low, below-high}
-use Rattle.back_history.specs.RefinesNeeded.{lowestOf, marksOf, used-named, used-round, lowest-is, low-is, high-is, needed-elim, needed-intro}
+use Rattle.back_history.specs.RefinesNeeded.{lowestOf, marksOf, used-named, used-round, used-done, lowest-is, low-is, high-is, needed-elim, needed-intro}
 use Rattle.back_history.specs.Refines.{ordered-one, picked-elim, picked-intro, picked-pairs, well, ids-rise}
-use Rattle.inspector_counters.specs.Places.{high-le, round-at, round-used}
+use Rattle.inspector_counters.specs.Places.{high-le, round-at, round-used, span-few}
 use Rattle.back_order.specs.Linked.{linkedBy}
 use Rattle.back_order.specs.Counts.{countBy, countsBy}
+use Rattle.back_order.specs.Drawn.{outBy, ranksBy, drawnBy}
+
+-- a round's ranks fit 256 cells
+pub runs-few : (s : State) (ks ls cs os : List ℕ) → Fit ks → Fit ls → Started s ks ls cs os → (r : ℕ) → below ks os (s .count) (r + 1) - below ks os (s .count) r ≤ 256
+runs-few s ks ls cs os fk fl t r = omega (arith, span-few s ks ls cs os fk fl t r)
 
 module _ (s : State) (ks ls cs os : List ℕ) (fk : Fit ks) (fl : Fit ls) (t : Started s ks ls cs os) (a : ℕ) (used : Used os (s .count) a) where
   -- the store
@@ -43,6 +49,10 @@ module _ (s : State) (ks ls cs os : List ℕ) (fk : Fit ks) (fl : Fit ls) (t : S
   -- the marks
   abbrev m : List Bool
   m = marksOf s ks ls cs os a
+
+  -- a needed point stands at a used place
+  needed-used : (q : ℕ) → needed v a q ≡ true → Used os n q
+  needed-used q h = let (o, (i, l, b, d)) = needed-elim s ks ls cs os fk fl t a used q h in (i, omega (arith, b, below-le ks os n (roundAt ks a + 1)), d)
 
   module _ (r : ℕ) where
     -- the first position of the round
@@ -61,9 +71,8 @@ module _ (s : State) (ks ls cs os : List ℕ) (fk : Fit ks) (fl : Fit ls) (t : S
     at-elim : (q : ℕ) → List·Memᴰ q (linkedIn v a r) → (i : ℕ) × (i < n) × (placeAt os i ≡ q) × (getD m q false ≡ true) × (roundAt ks q ≡ r)
     at-elim q k =
         let (z, h, e) = linked-elim v a r q k in
-        let (o, (i, l, b, d)) = needed-elim s ks ls cs os fk fl t a used q h in
-        let u : i < n = omega (arith, b, below-le ks os n (roundAt ks a + 1)) in
-        (i, u, d, o, sym (used-round s ks ls cs os fk fl t q (i, u, d)) ∙ e)
+        let (i, l, d) = needed-used q h in
+        (i, l, d, needed-elim s ks ls cs os fk fl t a used q h .0, sym (used-round s ks ls cs os fk fl t q (i, l, d)) ∙ e)
 
     -- one of the round's
     list-elim : (q : ℕ) → List·Memᴰ q (linkedIn v a r) → List·Memᴰ q (linkedBy os m low (high - low))
@@ -135,23 +144,72 @@ module _ (s : State) (ks ls cs os : List ℕ) (fk : Fit ks) (fl : Fit ls) (t : S
       unfolding countBy
       count-is = ap length (sym linked-is)
 
-  -- k rounds from r down
-  counts-same : (r k : ℕ) → r ≤ roundAt ks a → k ≤ suc r - lowestOf s (roundAt ks a) → countsBy ks os n m (downFrom r k) ≡ map (λ x. length (linkedIn v a x)) (downFrom r k)
+    -- what a right list makes of its points: their committed marks are those of the words
+    out-is : (l : List ℕ) → eachOnce (length (linkedIn v a r)) l ≡ true → outBy cs (linkedIn v a r) l ≡ roundOut v (linkedIn v a r) l
+    unfolding outBy roundOut
+    out-is l ok =
+        ap reverse (keep-same _ _ (map (λ k. getD (linkedIn v a r) k 0) l) (λ q k.
+        let (i, j, e) = mem-map (λ k. getD (linkedIn v a r) k 0) l q k in
+        let (z, h, d) = linked-elim v a r q (subst (λ x. List·Memᴰ x (linkedIn v a r)) e (getD-in (linkedIn v a r) i 0 (each-below (length (linkedIn v a r)) l ok i j))) in
+        ap not (sym (used-done s ks ls cs os fk fl t q (needed-used q h)))))
+
+  -- the counts of k rounds from r down
+  counts-same : (r k : ℕ) → r ≤ roundAt ks a → k ≤ suc r - lowestOf s (roundAt ks a) → countsBy ks os n m (downFrom r k) ≡ countsIn v a (downFrom r k)
   unfolding downFrom
   counts-same r zero h l = refl
   counts-same r (suc k) h l =
       ap (λ x. x ∷ countsBy ks os n m (downFrom (r - 1) k)) (count-is r (omega arith) h)
       ∙ ap (λ x. length (linkedIn v a r) ∷ x) (counts-same (r - 1) k (omega arith) (omega arith))
 
+  -- their points, by right lists
+  drawn-same : (r k : ℕ) (l : List ℕ) → r ≤ roundAt ks a → k ≤ suc r - lowestOf s (roundAt ks a) → listsOk (countsIn v a (downFrom r k)) l ≡ true → drawnBy ks os n cs m (downFrom r k) l ≡ drawn v a (downFrom r k) l
+  unfolding downFrom drawnBy drawn
+  drawn-same r zero l h b ok = refl
+  drawn-same r (suc k) l h b ok =
+      let c : ℕ = length (linkedIn v a r) in
+      let rs : List ℕ = downFrom (r - 1) k in
+      let (x, y) = lists-head c (countsIn v a rs) l ok in
+      ap (λ z. drawnBy ks os n cs m rs (drop z l) ++ outBy cs (ranksBy ks os n m r) (take z l)) (count-is r (omega arith) h)
+      ∙ (ap (λ z. drawnBy ks os n cs m rs (drop c l) ++ outBy cs z (take c l)) (sym (linked-is r (omega arith) h))
+      ∙ ap₂ _++_ (drawn-same (r - 1) k (drop c l) (omega arith) (omega arith) y) (out-is r (take c l) x))
+
+  -- the number of rounds of its history
+  abbrev total : ℕ
+  total = roundAt ks a + 1 - lowestOf s (roundAt ks a)
+
+  -- they lie in it
+  all : total ≤ suc (roundAt ks a) - lowestOf s (roundAt ks a)
+  all = omega arith
+
   -- the rounds of its history
+  rounds-are : downFrom (roundAt ks a) total ≡ roundsOf v a
+  rounds-are =
+      ap (λ x. downFrom (roundAt ks a) (x - lowestOf s (roundAt ks a))) (add-one (roundAt ks a))
+      ∙ (ap (λ x. downFrom (roundAt ks a) (suc (roundAt ks a) - x)) (sym (lowest-is s ks ls cs os fk fl t a used))
+      ∙ ap (λ x. downFrom x (suc x - lowest v a)) (sym (used-round s ks ls cs os fk fl t a used)))
+
+  -- how many points each of them has
   pub counts-are : countsBy ks os n m (downFrom (roundAt ks a) (roundAt ks a + 1 - lowestOf s (roundAt ks a))) ≡ linkedCounts v a
-  counts-are =
-      ap (λ x. countsBy ks os n m (downFrom (roundAt ks a) (x - lowestOf s (roundAt ks a)))) (add-one (roundAt ks a))
-      ∙ (counts-same (roundAt ks a) (suc (roundAt ks a) - lowestOf s (roundAt ks a)) (omega arith) (omega arith)
-      ∙ (ap (λ x. map (λ y. length (linkedIn v a y)) (downFrom (roundAt ks a) (suc (roundAt ks a) - x))) (sym (lowest-is s ks ls cs os fk fl t a used))
-      ∙ ap (λ x. map (λ y. length (linkedIn v a y)) (downFrom x (suc x - lowest v a))) (sym (used-round s ks ls cs os fk fl t a used))))
+  counts-are = counts-same (roundAt ks a) total (omega arith) all ∙ ap (countsIn v a) rounds-are
 
   -- what the lists of this anchor leave
   pub rest-is : (l : List ℕ) (from end : ℕ) → end ≡ from + weigh (λ x. x) (countsBy ks os n m (downFrom (roundAt ks a) (roundAt ks a + 1 - lowestOf s (roundAt ks a)))) → drop end l ≡ afterLists v a (drop from l)
   unfolding afterLists
   rest-is l from end e = ap (λ x. drop x l) (e ∙ ap (λ x. from + weigh (λ y. y) x) counts-are) ∙ sym (drop-drop (weigh (λ y. y) (linkedCounts v a)) from l)
+
+  module _ (l : List ℕ) (ok : listsOk (linkedCounts v a) l ≡ true) where
+    -- the points of its history in the order in which they come out
+    pub drawn-is : drawnBy ks os n cs m (downFrom (roundAt ks a) (roundAt ks a + 1 - lowestOf s (roundAt ks a))) l ≡ drawn v a (roundsOf v a) l
+    drawn-is =
+        drawn-same (roundAt ks a) total l (omega arith) all (ap (λ x. listsOk (countsIn v a x) l) rounds-are ∙ ok)
+        ∙ ap (λ x. drawn v a x l) rounds-are
+
+    -- their ids
+    pub order-is : inOrder v a l ≡ map (idAt v) (drawnBy ks os n cs m (downFrom (roundAt ks a) (roundAt ks a + 1 - lowestOf s (roundAt ks a))) l)
+    unfolding inOrder
+    order-is = ap (map (idAt v)) (sym drawn-is)
+
+    -- each stands at a used place
+    pub drawn-used : (q : ℕ) → List·Memᴰ q (drawnBy ks os n cs m (downFrom (roundAt ks a) (roundAt ks a + 1 - lowestOf s (roundAt ks a))) l) → Used os n q
+    unfolding inHistory
+    drawn-used q k = needed-used q (and-l _ _ (drawn-elim v a (roundsOf v a) l ok q (subst (List·Memᴰ q) drawn-is k) .1))

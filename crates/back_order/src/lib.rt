@@ -52,7 +52,7 @@ pub fn rank_round(marks: &[bool; 4096], order: &[u64], low: usize, high: usize) 
 }
 
 // One byte of the lists.
-fn byte_at(lists: &[u8], at: usize) -> usize
+pub fn byte_at(lists: &[u8], at: usize) -> usize
     requires { ⌜ at < length (now lists) ⌝ }
     ensures { λ r. ⌜ (r ≡ getD (now (lists .entry)) at 0) × (r < 256) ⌝ }
 {

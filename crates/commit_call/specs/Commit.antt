@@ -40,17 +40,17 @@ unfoldable pub outcomeOf : Left → Outcome
 outcomeOf l = record { answer = answerFrom (l .stopped) (l .finished); state = l .state }
 
 -- what is left after the walk
-unfoldable pub afterWalk : List ℕ → List ℕ → List ℕ → State → List ℕ → List ℕ → Out (List EnqueuedAnchor) → Left
-afterWalk ks ls os s cs b (bad r) = record { state = s; certs = cs; buffer = b; finished = 0; stopped = Failed (refusalFrom r) }
-afterWalk ks ls os s cs b (good es) = allOf ks ls os s cs b 0 0 es
+unfoldable pub afterWalk : List ℕ → List ℕ → List ℕ → State → List ℕ → List ℕ → List ℕ → Out (List EnqueuedAnchor) → Left
+afterWalk ks ls os s cs l b (bad r) = record { state = s; certs = cs; buffer = b; finished = 0; stopped = Failed (refusalFrom r) }
+afterWalk ks ls os s cs l b (good es) = allOf ks ls os s cs l 0 b 0 0 es
 
--- what the call leaves
-unfoldable pub committed : State → List ℕ → List ℕ → List ℕ → List ℕ → Id → List ℕ → Left
-committed s ks ls cs os i b = afterWalk ks ls os s cs b (walked (view s ks ls cs os) i)
+-- what the call leaves; l: the lent lists, b: the lent buffer
+unfoldable pub committed : State → List ℕ → List ℕ → List ℕ → List ℕ → Id → List ℕ → List ℕ → Left
+committed s ks ls cs os i l b = afterWalk ks ls os s cs l b (walked (view s ks ls cs os) i)
 
 -- the same as the record of a call has it
-abbrev pub commitLeft : Id → List ℕ → Tables → answers.Left
-commitLeft i b d = let x = committed (d .state) (d .keys) (d .links) (d .certs) (d .order) i b in left (outcomeOf x) (d .keys) (d .links) (x .certs) (d .order) (x .buffer)
+abbrev pub commitLeft : Id → List ℕ → List ℕ → Tables → answers.Left
+commitLeft i l b d = let x = committed (d .state) (d .keys) (d .links) (d .certs) (d .order) i l b in left (outcomeOf x) (d .keys) (d .links) (x .certs) (d .order) (x .buffer)
 
 -- ---- answers
 
@@ -75,42 +75,42 @@ ended-by-check c d s n e = rw e refl
 -- ---- the anchors
 
 -- what the anchors of a chain leave, with the outcome o
-abbrev pub Ended : List ℕ → List ℕ → List ℕ → State → List ℕ → List ℕ → List EnqueuedAnchor → Outcome → List ℕ → List ℕ → Type 0
-Ended ks ls os s cs b es o cs′ b′ =
-    let x = allOf ks ls os s cs b 0 0 es in
-    (o ≡ outcomeOf x) × (cs′ ≡ x .certs) × (b′ ≡ x .buffer) × (finishedOf ks ls os x ≡ commitAll (view s ks ls cs os) b 0 0 es)
+abbrev pub Ended : List ℕ → List ℕ → List ℕ → State → List ℕ → List ℕ → List ℕ → List EnqueuedAnchor → Outcome → List ℕ → List ℕ → Type 0
+Ended ks ls os s cs l b es o cs′ b′ =
+    let x = allOf ks ls os s cs l 0 b 0 0 es in
+    (o ≡ outcomeOf x) × (cs′ ≡ x .certs) × (b′ ≡ x .buffer) × (finishedOf ks ls os x ≡ commitAll (view s ks ls cs os) l b 0 0 es)
 
-pub ended-by : (ks ls os : List ℕ) (s : State) (cs b : List ℕ) (es : List EnqueuedAnchor) (c : Check) (s′ : State) (cs′ b′ : List ℕ) (n : ℕ) → leftOf c s′ cs′ b′ n ≡ allOf ks ls os s cs b 0 0 es
-    → finishedOf ks ls os (leftOf c s′ cs′ b′ n) ≡ commitAll (view s ks ls cs os) b 0 0 es → (o : Outcome) → o ≡ endedOf c s′ n → Ended ks ls os s cs b es o cs′ b′
+pub ended-by : (ks ls os : List ℕ) (s : State) (cs l b : List ℕ) (es : List EnqueuedAnchor) (c : Check) (s′ : State) (cs′ b′ : List ℕ) (n : ℕ) → leftOf c s′ cs′ b′ n ≡ allOf ks ls os s cs l 0 b 0 0 es
+    → finishedOf ks ls os (leftOf c s′ cs′ b′ n) ≡ commitAll (view s ks ls cs os) l b 0 0 es → (o : Outcome) → o ≡ endedOf c s′ n → Ended ks ls os s cs l b es o cs′ b′
 unfolding outcomeOf endedOf
-ended-by ks ls os s cs b es c s′ cs′ b′ n w f o g =
-    (g ∙ ap outcomeOf w, ap (λ (y : Left). y .certs) w, ap (λ (y : Left). y .buffer) w, subst (λ (y : Left). finishedOf ks ls os y ≡ commitAll (view s ks ls cs os) b 0 0 es) w f)
+ended-by ks ls os s cs l b es c s′ cs′ b′ n w f o g =
+    (g ∙ ap outcomeOf w, ap (λ (y : Left). y .certs) w, ap (λ (y : Left). y .buffer) w, subst (λ (y : Left). finishedOf ks ls os y ≡ commitAll (view s ks ls cs os) l b 0 0 es) w f)
 
 -- ---- the call
 
-module _ (s : State) (ks ls cs os : List ℕ) (i : Id) (b : List ℕ) where
+module _ (s : State) (ks ls cs os : List ℕ) (i : Id) (l b : List ℕ) where
   abbrev v : Store
   v = view s ks ls cs os
 
   -- what 01 leaves after the walk
   abbrev leaveBy : Out (List EnqueuedAnchor) → calls.Outcome
   leaveBy (bad r) = record { answer = calls.refused r 0; store = v; buffer = b }
-  leaveBy (good es) = commitEnd (commitAll v b 0 0 es)
+  leaveBy (good es) = commitEnd (commitAll v l b 0 0 es)
 
-  call-is : call v (calls.commit i b) ≡ leaveBy (walked v i)
+  call-is : call v (calls.commit i l b) ≡ leaveBy (walked v i)
   unfolding isStart perform bufferOf byTables walked doCommit
-  call-is = call-by v (calls.commit i b) refl ∙ byTest (countsAsStarted v) (λ t. rw t (by (anchorsOf v i) refl)) (λ f. rw f refl)
+  call-is = call-by v (calls.commit i l b) refl ∙ byTest (countsAsStarted v) (λ t. rw t (by (anchorsOf v i) refl)) (λ f. rw f refl)
     where
-      by : (o : Out (List EnqueuedAnchor)) → anchorsOf v i ≡ o → doCommit v i b ≡ leaveBy (anchorsOf v i)
+      by : (o : Out (List EnqueuedAnchor)) → anchorsOf v i ≡ o → doCommit v i l b ≡ leaveBy (anchorsOf v i)
       by (bad r) e = rw (e, doCommit) refl
       by (good es) e = rw (e, doCommit) refl
 
   -- what the contract says of an outcome, the certificate words and the buffer
   abbrev Says : Outcome → List ℕ → List ℕ → Type 0
-  Says o cs′ b′ = Did (calls.commit i b) (commitLeft i b) (tables s ks ls cs os) (left o ks ls cs′ os b′)
+  Says o cs′ b′ = Did (calls.commit i l b) (commitLeft i l b) (tables s ks ls cs os) (left o ks ls cs′ os b′)
 
   -- from what is left
-  says : (x : Left) → x ≡ committed s ks ls cs os i b → answers.outcomeOf (left (outcomeOf x) ks ls (x .certs) os (x .buffer)) ≡ call v (calls.commit i b)
+  says : (x : Left) → x ≡ committed s ks ls cs os i l b → answers.outcomeOf (left (outcomeOf x) ks ls (x .certs) os (x .buffer)) ≡ call v (calls.commit i l b)
       → (x .finished ≡ 0 → (x .state ≡ s) × (x .certs ≡ cs) × (x .buffer ≡ b)) → (o : Outcome) → o ≡ outcomeOf x → Says o (x .certs) (x .buffer)
   unfolding outcomeOf bufferOf
   says x is h k o f = record {
@@ -126,13 +126,13 @@ module _ (s : State) (ks ls cs os : List ℕ) (i : Id) (b : List ℕ) where
   unfolding committed afterWalk answers.outcomeOf answerOf answerFrom outcomeOf refusal
   says-refused r e o f =
       says (record { state = s; certs = cs; buffer = b; finished = 0; stopped = Failed r })
-      (sym (ap (afterWalk ks ls os s cs b) e ∙ ap (λ (y : Refusal). record { state = s; certs = cs; buffer = b; finished = 0; stopped = Failed y }) (refusal-from-of r)))
+      (sym (ap (afterWalk ks ls os s cs l b) e ∙ ap (λ (y : Refusal). record { state = s; certs = cs; buffer = b; finished = 0; stopped = Failed y }) (refusal-from-of r)))
       (sym (call-is ∙ ap leaveBy e)) (λ z. (refl, refl, refl)) o f
 
   -- the anchors of the chain were gone through
-  pub says-ended : (es : List EnqueuedAnchor) → walked v i ≡ good es → (o : Outcome) (cs′ b′ : List ℕ) → Ended ks ls os s cs b es o cs′ b′ → Says o cs′ b′
+  pub says-ended : (es : List EnqueuedAnchor) → walked v i ≡ good es → (o : Outcome) (cs′ b′ : List ℕ) → Ended ks ls os s cs l b es o cs′ b′ → Says o cs′ b′
   unfolding committed afterWalk answers.outcomeOf outcomeOf finishedOf
   says-ended es e o cs′ b′ (f, c, d, g) =
-      let x = allOf ks ls os s cs b 0 0 es in
-      let h = says x (sym (ap (afterWalk ks ls os s cs b) e)) (end-is (x .stopped) (finishedOf ks ls os x) refl ∙ (ap commitEnd g ∙ sym (call-is ∙ ap leaveBy e))) (all-kept ks ls os s cs b 0 0 es) o f in
+      let x = allOf ks ls os s cs l 0 b 0 0 es in
+      let h = says x (sym (ap (afterWalk ks ls os s cs l b) e)) (end-is (x .stopped) (finishedOf ks ls os x) refl ∙ (ap commitEnd g ∙ sym (call-is ∙ ap leaveBy e))) (all-kept ks ls os s cs l 0 b 0 0 es) o f in
       subst (λ (y : List ℕ). Says o cs′ y) (sym d) (subst (λ (y : List ℕ). Says o y (x .buffer)) (sym c) h)

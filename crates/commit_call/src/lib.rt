@@ -47,23 +47,24 @@ fn commit_chain(
     links: &[u64],
     certs: &mut [u64],
     order: &[u64],
+    lists: &[u8],
     b: &mut [u8],
     c: Chain,
 ) -> Outcome
     requires { ⌜ countsAsStarted (view s (now keys) (now links) (now certs) (now order)) ≡ true ⌝ }
     requires { ⌜ Rising (view s (now keys) (now links) (now certs) (now order)) 0 (chainOf (c .list) (c .count)) ⌝ }
     requires { ⌜ c .count ≤ 511 ⌝ }
-    ensures { λ r. ⌜ Ended (now (keys .entry)) (now (links .entry)) (now (order .entry)) s (now (certs .entry)) (now (b .entry)) (chainOf (c .list) (c .count)) r
-        (now (certs .exit)) (now (b .exit)) ⌝ }
+    ensures { λ r. ⌜ Ended (now (keys .entry)) (now (links .entry)) (now (order .entry)) s (now (certs .entry)) (now (lists .entry)) (now (b .entry))
+        (chainOf (c .list) (c .count)) r (now (certs .exit)) (now (b .exit)) ⌝ }
 {
     let list = c.list;
-    let all = commit_all(s, keys, links, certs, order, b, list, c.count);
+    let all = commit_all(s, keys, links, certs, order, lists, b, list, c.count);
     let check = all.check;
     ended(check, all.state, all.finished)
 }
 
-// Commits the anchors that a trigger yields: their records go into the buffer, their histories are marked. A refusal says how many
-// anchors are finished; they stay so.
+// Commits the anchors that a trigger yields: their records go into the buffer, their histories are marked. The lists say the order
+// inside each round, anchor by anchor. A refusal says how many anchors are finished; they stay so.
 pub fn commit(
     s: State,
     keys: &[u64],
@@ -71,9 +72,10 @@ pub fn commit(
     certs: &mut [u64],
     order: &[u64],
     id: PointId,
+    lists: &[u8],
     b: &mut [u8],
 ) -> Outcome
-    ensures { λ r. ⌜ Did (calls.commit (idOf id) (now (b .entry))) (commitLeft (idOf id) (now (b .entry)))
+    ensures { λ r. ⌜ Did (calls.commit (idOf id) (now (lists .entry)) (now (b .entry))) (commitLeft (idOf id) (now (lists .entry)) (now (b .entry)))
         (tables s (now (keys .entry)) (now (links .entry)) (now (certs .entry)) (now (order .entry)))
         (left r (now (keys .entry)) (now (links .entry)) (now (certs .exit)) (now (order .entry)) (now (b .exit))) ⌝ }
 {
@@ -85,5 +87,5 @@ pub fn commit(
     if let Check::Failed(r) = check {
         return refused(s, r);
     }
-    commit_chain(s, keys, links, certs, order, b, c)
+    commit_chain(s, keys, links, certs, order, lists, b, c)
 }

@@ -21,7 +21,7 @@ pub struct All {
     pub finished: u32,
 }
 
-// The `count` anchors of the list, which has the newest first, their records from the buffer's first byte on. Finished anchors stay
+// The `count` anchors of the list, which has the newest first, their lists and records from the first byte on. Finished anchors stay
 // finished if a later one is refused.
 pub fn commit_all(
     s: State,
@@ -29,6 +29,7 @@ pub fn commit_all(
     links: &[u64],
     certs: &mut [u64],
     order: &[u64],
+    lists: &[u8],
     b: &mut [u8],
     list: [EnqueuedAnchor; 512],
     count: usize,
@@ -37,19 +38,20 @@ pub fn commit_all(
     requires { ⌜ Rising (view s (now keys) (now links) (now certs) (now order)) 0 (chainOf list count) ⌝ }
     requires { ⌜ count ≤ 512 ⌝ }
     ensures words { λ r. ⌜ leftOf (r .check) (r .state) (now (certs .exit)) (now (b .exit)) (r .finished) ≡ allOf (now (keys .entry)) (now (links .entry))
-        (now (order .entry)) s (now (certs .entry)) (now (b .entry)) 0 0 (chainOf list count) ⌝ }
+        (now (order .entry)) s (now (certs .entry)) (now (lists .entry)) 0 (now (b .entry)) 0 0 (chainOf list count) ⌝ }
     ensures finished { λ r. ⌜ finishedOf (now (keys .entry)) (now (links .entry)) (now (order .entry))
         (leftOf (r .check) (r .state) (now (certs .exit)) (now (b .exit)) (r .finished)) ≡ commitAll
-        (view s (now (keys .entry)) (now (links .entry)) (now (certs .entry)) (now (order .entry))) (now (b .entry)) 0 0 (chainOf list count) ⌝ }
+        (view s (now (keys .entry)) (now (links .entry)) (now (certs .entry)) (now (order .entry))) (now (lists .entry)) (now (b .entry)) 0 0 (chainOf list count) ⌝ }
 {
     let mut cur = s;
+    let mut from: usize = 0;
     let mut end: usize = 0;
     let mut finished: u32 = 0;
     let mut k = count;
     while 0 < k {
         k -= 1;
         let e = list[k];
-        let o = dequeue_anchor(cur, keys, links, certs, order, b, end, e);
+        let o = dequeue_anchor(cur, keys, links, certs, order, lists, from, b, end, e);
         cur = o.state;
         let check = o.check;
         if let Check::Failed(r) = check {
@@ -59,6 +61,7 @@ pub fn commit_all(
                 finished,
             };
         }
+        from = o.lists_end;
         end = o.end;
         finished += 1;
     }

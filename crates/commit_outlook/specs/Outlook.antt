@@ -1,5 +1,6 @@
 -- The call outlook (01: 'Outlook'): "for each anchor a trigger would yield, its id and the number of points in its history", "refused as the
--- commit would be, by 20 never, by 21 for its own buffer", "with nothing written".
+-- commit would be, by 20 never, by 21 for its own buffer", "with nothing written"; 02, N1: "each of its records ends with how many such
+-- points each of those rounds has".
 use Prim.Native.Nat.{ℕ, suc}
 use mathlib.Core.Path.{_≡_, refl, sym, ap, _∙_}
 use mathlib.Core.List.{List, [], _∷_}

@@ -1,29 +1,26 @@
 // Origin: dag/commit/mod.rs (commit).
-// Added by document 01, 'Outlook': the anchors of a chain, oldest first. Nothing is written unless all of them pass.
+// Added by document 01, 'Outlook': the anchors of a chain, oldest first. Nothing is written unless all of them pass, so they are tested
+// first and told in a second walk.
 ghost use mathlib.Core.Path.{_≡_};
 ghost use mathlib.Core.Bool.{true};
-ghost use Prim.Native.Nat.{_*_, _≤_};
+ghost use Prim.Native.Nat.{_≤_};
 ghost use lib.ListN.{length};
 ghost use Rattle.laws.specs.Bytes.{written};
+ghost use Rattle.spec.specs.Chain.{good};
 ghost use Rattle.spec.specs.Rules.{countsAsStarted};
+ghost use Rattle.spec.specs.History.{outlookAll};
 ghost use Rattle.spec.specs.Walk.{Rising};
+ghost use Rattle.models.specs.Refusal.{unlessFailed};
 ghost use Rattle.tables_test.specs.View.{view};
 ghost use Rattle.back_chain.specs.Chain.{chainOf};
-ghost use Rattle.commit_outlook.specs.Chain.{looksIn, Placed, Looked, ChainLooked};
+ghost use Rattle.commit_outlook.specs.Chain.{chainBytes, ChainLooked};
 use crate::look::look_one;
-use answer_bytes::put_id;
-use answer_bytes::put_number;
+use crate::look::put_look;
 use back_walk::EnqueuedAnchor;
 use commit_state::state::State;
 use models::refusal::Check;
 
-// What stopped the anchors, if anything did; the number of points of each, in the list's order.
-pub struct Looks {
-    pub check: Check,
-    pub numbers: [u32; 512],
-}
-
-// The `count` anchors of the list, which has the newest first, with `room` bytes for them; up to the first that is refused.
+// The tests of the `count` anchors of the list, which has the newest first, with `room` bytes for them; up to the first that is refused.
 pub fn look_all(
     s: State,
     keys: &[u64],
@@ -33,13 +30,13 @@ pub fn look_all(
     list: [EnqueuedAnchor; 512],
     count: usize,
     room: usize,
-) -> Looks
+) -> Check
     requires { ⌜ countsAsStarted (view s (now keys) (now links) (now certs) (now order)) ≡ true ⌝ }
     requires { ⌜ Rising (view s (now keys) (now links) (now certs) (now order)) 0 (chainOf list count) ⌝ }
     requires { ⌜ count ≤ 512 ⌝ }
-    ensures { λ r. ⌜ Looked (view s (now (keys .entry)) (now (links .entry)) (now (certs .entry)) (now (order .entry))) (now (keys .entry)) room list count (r .check) (r .numbers) ⌝ }
+    ensures { λ r. ⌜ unlessFailed r (good (chainBytes (view s (now (keys .entry)) (now (links .entry)) (now (certs .entry)) (now (order .entry))) (chainOf list count)))
+        ≡ outlookAll (view s (now (keys .entry)) (now (links .entry)) (now (certs .entry)) (now (order .entry))) room (chainOf list count) ⌝ }
 {
-    let mut numbers: [u32; 512] = [0; 512];
     let mut left = room;
     let mut k = count;
     while 0 < k {
@@ -48,41 +45,36 @@ pub fn look_all(
         let o = look_one(s, keys, links, certs, order, e, left);
         let check = o.check;
         if let Check::Failed(r) = check {
-            return Looks {
-                check: Check::Failed(r),
-                numbers,
-            };
+            return Check::Failed(r);
         }
-        numbers[k] = o.count;
-        left -= 41;
+        left -= o.size;
     }
-    Looks {
-        check: Check::Passed,
-        numbers,
-    }
+    Check::Passed
 }
 
-// The id and the number of each anchor, oldest first, from the buffer's first byte on.
+// The bytes of the anchors, oldest first, from the buffer's first byte on.
 pub fn put_looks(
+    s: State,
     keys: &[u64],
+    links: &[u64],
+    certs: &[u64],
+    order: &[u64],
     b: &mut [u8],
     list: [EnqueuedAnchor; 512],
     count: usize,
-    numbers: [u32; 512],
 )
-    requires { ⌜ count ≤ 512 ⌝ }
-    requires { ⌜ count * 41 ≤ length (now b) ⌝ }
-    requires { ⌜ Placed (now keys) list count ⌝ }
-    ensures { λ r. ⌜ now (b .exit) ≡ written (now (b .entry)) 0 (looksIn (now (keys .entry)) list numbers count) ⌝ }
+    requires { ⌜ countsAsStarted (view s (now keys) (now links) (now certs) (now order)) ≡ true ⌝ }
+    requires { ⌜ Rising (view s (now keys) (now links) (now certs) (now order)) 0 (chainOf list count) ⌝ }
+    requires { ⌜ (count ≤ 512) × (length (chainBytes (view s (now keys) (now links) (now certs) (now order)) (chainOf list count)) ≤ length (now b)) ⌝ }
+    ensures { λ r. ⌜ now (b .exit) ≡ written (now (b .entry)) 0
+        (chainBytes (view s (now (keys .entry)) (now (links .entry)) (now (certs .entry)) (now (order .entry))) (chainOf list count)) ⌝ }
 {
     let mut at: usize = 0;
     let mut k = count;
     while 0 < k {
         k -= 1;
         let e = list[k];
-        let n = numbers[k];
-        let m = put_id(b, at, keys, e.anchor as usize);
-        at = put_number(b, m, 4, n as u64);
+        at = put_look(s, keys, links, certs, order, b, at, e);
     }
 }
 
@@ -102,12 +94,10 @@ pub fn look_chain(
     requires { ⌜ count ≤ 512 ⌝ }
     ensures { λ r. ⌜ ChainLooked (view s (now (keys .entry)) (now (links .entry)) (now (certs .entry)) (now (order .entry))) (now (b .entry)) (chainOf list count) r (now (b .exit)) ⌝ }
 {
-    let looks = look_all(s, keys, links, certs, order, list, count, b.len());
-    let check = looks.check;
+    let check = look_all(s, keys, links, certs, order, list, count, b.len());
     if let Check::Failed(r) = check {
         return Check::Failed(r);
     }
-    let numbers = looks.numbers;
-    put_looks(keys, b, list, count, numbers);
+    put_looks(s, keys, links, certs, order, b, list, count);
     Check::Passed
 }

@@ -1,27 +1,51 @@
 // Origin: dag/commit/mod.rs (dequeue_anchor).
-// Added by document 01, 'Outlook': one anchor is tested as for a commit, but for the gap question, and its history's points are counted.
+// Added by document 01, 'Outlook': one anchor is tested as for a commit, but for the gap question and the lists, and told: its id, the
+// number of points in its history, and how many points it needs in each round.
 ghost use mathlib.Core.Path.{_≡_};
 ghost use mathlib.Core.Bool.{true};
+ghost use Prim.Native.Nat.{_+_, _*_, _-_, _≤_};
 ghost use lib.ListN.{length};
+ghost use Rattle.laws.specs.Lists.{joined};
+ghost use Rattle.laws.specs.Bytes.{be, written};
 ghost use Rattle.spec.specs.Chain.{good};
 ghost use Rattle.spec.specs.Rules.{countsAsStarted};
-ghost use Rattle.spec.specs.History.{history};
+ghost use Rattle.spec.specs.History.{downFrom, outlookBytes};
+ghost use Rattle.spec.specs.Outlook.{lookSize};
 ghost use Rattle.spec.specs.Walk.{Anchored};
-ghost use Rattle.tables_test.specs.View.{view};
-ghost use Rattle.back_walk.specs.Refines.{enqueuedOf};
+ghost use Rattle.models.specs.Tables.{Inside};
 ghost use Rattle.models.specs.Refusal.{unlessFailed};
+ghost use Rattle.dag_round_keys.specs.Sorted.{Sorted};
+ghost use Rattle.tables_test.specs.View.{view};
+ghost use Rattle.back_order.specs.Counts.{countsBy};
+ghost use Rattle.back_walk.specs.Refines.{enqueuedOf};
 ghost use Rattle.commit_outlook.specs.Look.{lookAt};
+use answer_bytes::put_id;
+use answer_bytes::put_number;
 use back_committable::anchor::test_anchor;
+use back_committable::fault::round_at;
+use back_order::count_round;
 use back_walk::EnqueuedAnchor;
 use commit_state::state::State;
+use models::parts::Round;
 use models::refusal::Check;
 use models::refusal::NO_ROOM;
 use models::refusal::Refusal;
 
-// The tests of one anchor, and the number of points in its history.
+// The tests of one anchor, and the number of its bytes.
 pub struct Look {
     pub check: Check,
-    pub count: u32,
+    pub size: usize,
+}
+
+// The bytes of an anchor: its id, the number of points, a count for each round down to the lowest.
+fn look_size(round: Round, lowest: Round) -> usize
+    requires { ⌜ round .0 ≤ 4000000000 ⌝ }
+    ensures { λ r. ⌜ r ≡ 41 + (round .0 + 1 - lowest .0) * 4 ⌝ }
+{
+    let above = round.plus(1);
+    let rounds = above.minus(lowest.0);
+    let n = rounds.0 as usize;
+    41 + n * 4
 }
 
 // One anchor, with `left` bytes of the buffer left.
@@ -37,25 +61,86 @@ pub fn look_one(
     requires { ⌜ countsAsStarted (view s (now keys) (now links) (now certs) (now order)) ≡ true ⌝ }
     requires { ⌜ Anchored (view s (now keys) (now links) (now certs) (now order)) (enqueuedOf e) ⌝ }
     ensures outcome { λ r. ⌜ unlessFailed (r .check) (good (e .anchor)) ≡ lookAt (view s (now (keys .entry)) (now (links .entry)) (now (certs .entry)) (now (order .entry))) left (e .anchor) ⌝ }
-    ensures points { λ r. ⌜ r .count ≡ length (history (view s (now (keys .entry)) (now (links .entry)) (now (certs .entry)) (now (order .entry))) (e .anchor)) ⌝ }
+    ensures bytes { λ r. ⌜ r .size ≡ lookSize (view s (now (keys .entry)) (now (links .entry)) (now (certs .entry)) (now (order .entry))) (e .anchor) ⌝ }
 {
-    let t = test_anchor(s, keys, links, certs, order, e.anchor as usize);
-    let count = t.count as u32;
+    let a = e.anchor as usize;
+    let t = test_anchor(s, keys, links, certs, order, a);
+    let round = round_at(keys, a);
+    let lowest = t.lowest;
+    let size = look_size(round, lowest);
     let check = t.check;
     if let Check::Failed(r) = check {
         return Look {
             check: Check::Failed(r),
-            count,
+            size,
         };
     }
-    if left < 41 {
+    if left < size {
         return Look {
             check: Check::Failed(Refusal::Number(NO_ROOM)),
-            count,
+            size,
         };
     }
     Look {
         check: Check::Passed,
-        count,
+        size,
     }
+}
+
+// How many places are marked in each round, from `round` down to `lowest`.
+fn put_counts(
+    b: &mut [u8],
+    at: usize,
+    keys: &[u64],
+    order: &[u64],
+    n: usize,
+    marks: &[bool; 4096],
+    round: Round,
+    lowest: Round,
+) -> usize
+    requires { ⌜ (length (now keys) ≡ length (now order) * 8) × (n ≤ length (now order)) × (length (now order) ≤ 4096) × Inside (now order) n (length (now order)) ⌝ }
+    requires { ⌜ Sorted (now keys) (now order) n × (round .0 ≤ 4000000000) × (at + (round .0 + 1 - lowest .0) * 4 ≤ length (now b)) ⌝ }
+    ensures next { λ r. ⌜ r ≡ at + (round .0 + 1 - lowest .0) * 4 ⌝ }
+    ensures bytes { λ r. ⌜ now (b .exit) ≡ written (now (b .entry)) at
+        (joined (be 4) (countsBy (now (keys .entry)) (now (order .entry)) n (now (marks .entry)) (downFrom (round .0) (round .0 + 1 - lowest .0)))) ⌝ }
+{
+    let top = round.0;
+    let low = lowest.0;
+    let mut next = at;
+    let mut k: u32 = 0;
+    while low + k <= top {
+        let r = Round(top - k);
+        let count = count_round(keys, order, n, marks, r);
+        next = put_number(b, next, 4, count as u64);
+        k += 1;
+    }
+    next
+}
+
+// The bytes of an anchor that passed, from byte `at` on. Its marks are made again: they are too many to keep for all anchors.
+pub fn put_look(
+    s: State,
+    keys: &[u64],
+    links: &[u64],
+    certs: &[u64],
+    order: &[u64],
+    b: &mut [u8],
+    at: usize,
+    e: EnqueuedAnchor,
+) -> usize
+    requires { ⌜ countsAsStarted (view s (now keys) (now links) (now certs) (now order)) ≡ true ⌝ }
+    requires { ⌜ Anchored (view s (now keys) (now links) (now certs) (now order)) (enqueuedOf e) ⌝ }
+    requires { ⌜ at + lookSize (view s (now keys) (now links) (now certs) (now order)) (e .anchor) ≤ length (now b) ⌝ }
+    ensures next { λ r. ⌜ r ≡ at + lookSize (view s (now (keys .entry)) (now (links .entry)) (now (certs .entry)) (now (order .entry))) (e .anchor) ⌝ }
+    ensures bytes { λ r. ⌜ now (b .exit) ≡ written (now (b .entry)) at
+        (outlookBytes (view s (now (keys .entry)) (now (links .entry)) (now (certs .entry)) (now (order .entry))) (e .anchor)) ⌝ }
+{
+    let a = e.anchor as usize;
+    let t = test_anchor(s, keys, links, certs, order, a);
+    let round = round_at(keys, a);
+    let lowest = t.lowest;
+    let marks = t.marks;
+    let m = put_id(b, at, keys, a);
+    let c = put_number(b, m, 4, t.count as u64);
+    put_counts(b, c, keys, order, s.count, &marks, round, lowest)
 }

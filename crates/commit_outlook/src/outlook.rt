@@ -52,8 +52,8 @@ fn outlook_chain(
     }
 }
 
-// Tells the anchors that a commit of this trigger would yield, each with the number of points in its history; nothing changes but the
-// buffer. A refusal writes nothing.
+// Tells the anchors that a commit of this trigger would yield, each with the number of points in its history and in each round how many
+// it needs; nothing changes but the buffer. A refusal writes nothing.
 pub fn outlook(
     s: State,
     keys: &[u64],

@@ -18,7 +18,7 @@ use committer_reply::reply::reply_of;
 use models::parts::PointId;
 use models::parts::Round;
 
-// b: the buffer for the anchor records.
+// lists: the places of each anchor's rounds. b: the buffer for the anchor records.
 #[no_mangle]
 pub extern "C" fn committer_commit(
     s: State,
@@ -27,17 +27,18 @@ pub extern "C" fn committer_commit(
     certs: &mut [u64],
     order: &[u64],
     id: PointId,
+    lists: &[u8],
     b: &mut [u8],
 ) -> Reply
-    ensures { λ r. ⌜ Replies (calls.commit (idOf id) (now (b .entry))) (commitLeft (idOf id) (now (b .entry)))
+    ensures { λ r. ⌜ Replies (calls.commit (idOf id) (now (lists .entry)) (now (b .entry))) (commitLeft (idOf id) (now (lists .entry)) (now (b .entry)))
         (tables s (now (keys .entry)) (now (links .entry)) (now (certs .entry)) (now (order .entry))) r
         (tables (r .state) (now (keys .entry)) (now (links .entry)) (now (certs .exit)) (now (order .entry))) (now (b .exit)) ⌝ }
 {
-    let o = commit(s, keys, links, certs, order, id, b);
+    let o = commit(s, keys, links, certs, order, id, lists, b);
     reply_of(o)
 }
 
-// b: the buffer for the anchors' ids and numbers of points.
+// b: the buffer for the anchors' ids, numbers of points and linked points of each round.
 #[no_mangle]
 pub extern "C" fn committer_outlook(
     s: State,

@@ -69,12 +69,12 @@ FirstHalf = (s : Made) (b : StartArgs) (ms : List Made) → s .what ≡ start b 
     → NoDup (joined (λ (h : History). h .ids) (historiesIn ms)) × AllExact (resolutionsIn ms) [] (historiesIn ms) × AllSaid ms × ((r : ℕ) → retained (viewOf (s .left .tables)) r ≡ eqb r (b .bottom))
 
 -- "The second list begins at any tables that count as started", of 64-bit words. "The commit after it is compared with the same one made
--- there at once: the whole answer, every byte of the buffer."
+-- there at once: the whole answer, every byte of the buffer." 02, N1: "when the lists are the same too"
 abbrev pub SecondHalf : Type 0
-SecondHalf = (d : Tables) → Fit (d .keys) → Fit (d .links) → countsAsStarted (viewOf d) ≡ true → (i : Id) (b : List ℕ) (n : ℕ) (m l : Made) (ms : List Made)
-    → m .before ≡ d → m .what ≡ commit i b → answerOf (m .left .answer) ≡ anchors (suc n)
+SecondHalf = (d : Tables) → Fit (d .keys) → Fit (d .links) → countsAsStarted (viewOf d) ≡ true → (i : Id) (ls b : List ℕ) (n : ℕ) (m l : Made) (ms : List Made)
+    → m .before ≡ d → m .what ≡ commit i ls b → answerOf (m .left .answer) ≡ anchors (suc n)
     → Chained d ms → AllArrive (viewOf d) (callsOf ms)
-    → l .before ≡ lastTables d ms → l .what ≡ commit i b
+    → l .before ≡ lastTables d ms → l .what ≡ commit i ls b
     → (l .left .answer ≡ m .left .answer) × (l .left .buffer ≡ m .left .buffer)
 
 -- ---- the code's lists are the definitions'
@@ -158,12 +158,12 @@ first-half s b ms f a r i =
     )
 
 second-half : SecondHalf
-second-half d fk fl c i b n m l ms m0 m1 a r v l0 l1 =
+second-half d fk fl c i ls b n m l ms m0 m1 a r v l0 l1 =
     let t = counted (d .state) (d .keys) (d .links) (d .certs) (d .order) fk fl c in
     let z : Sized (viewOf d) = sized (d .state) (d .keys) (d .links) (d .certs) (d .order) fk fl (t .shaped) (t .facts .inside) in
-    let x : outcome m ≡ call (viewOf d) (commit i b) = made-is m (viewOf d) (commit i b) (ap viewOf m0) m1 in
-    let y : outcome l ≡ call (after (viewOf d) (callsOf ms)) (commit i b) = made-is l (after (viewOf d) (callsOf ms)) (commit i b) (ap viewOf l0 ∙ last-is (viewOf d) d ms refl r) l1 in
-    let k = demand-3 .1 (viewOf d) z c i b n (ap (λ (o : calls.Outcome). o .answer) (sym x) ∙ (answer-is m ∙ a)) (callsOf ms) v in (
+    let x : outcome m ≡ call (viewOf d) (commit i ls b) = made-is m (viewOf d) (commit i ls b) (ap viewOf m0) m1 in
+    let y : outcome l ≡ call (after (viewOf d) (callsOf ms)) (commit i ls b) = made-is l (after (viewOf d) (callsOf ms)) (commit i ls b) (ap viewOf l0 ∙ last-is (viewOf d) d ms refl r) l1 in
+    let k = demand-3 .1 (viewOf d) z c i ls b n (ap (λ (o : calls.Outcome). o .answer) (sym x) ∙ (answer-is m ∙ a)) (callsOf ms) v in (
       answer-same (l .left .answer) (m .left .answer) (sym (answer-is l) ∙ (ap (λ (o : calls.Outcome). o .answer) y ∙ (k .0 ∙ (ap (λ (o : calls.Outcome). o .answer) (sym x) ∙ answer-is m)))),
       sym (buffer-is l) ∙ (ap (λ (o : calls.Outcome). o .buffer) y ∙ (k .1 ∙ (ap (λ (o : calls.Outcome). o .buffer) (sym x) ∙ buffer-is m))),
     )

@@ -1,7 +1,7 @@
 -- Demand 3 (01: 'Demand 3') of the code's loop over recorded calls, the ten of 01's lists and resets: for all bytes, tables and buffers that it
 -- is given, with no premise about their widths.
 use Prim.Native.Nat.{ℕ, zero, suc, _+_, _<_, _^_}
-use mathlib.Core.Path.{_≡_, refl, sym, _∙_, subst, ap}
+use mathlib.Core.Path.{_≡_, refl, sym, _∙_, subst, ap, ap₂}
 use mathlib.Core.Bool.{Bool, true, false, cond}
 use mathlib.Core.List.{List, [], _∷_, _++_}
 use native.Mathlib.Omega.{arith}
@@ -21,7 +21,7 @@ use Rattle.models.specs.Digest.{words, words-length}
 use Rattle.commit_answer.specs.Answer.{Tables, viewOf, Left, outcomeOf, answerOf, Did, byTables, call-by}
 use Rattle.commit_answer.specs.declared.answer.Outcome.{Outcome}
 use Rattle.trace.specs.Numbers.{numberAt, idAt}
-use Rattle.trace.specs.Head.{known, part, headAt}
+use Rattle.trace.specs.Head.{known, part, headAt, listsIn}
 use Rattle.trace.specs.Fields.{callBy}
 use Rattle.trace.specs.declared.head.Kind.{Kind}
 use Rattle.trace.specs.declared.head.Kind.the-variants as kind
@@ -58,9 +58,9 @@ abbrev pub NoReset : List Made → Type 0
 NoReset [] = Unit {0}
 NoReset (m ∷ ms) = (isResetCall (m .what) ≡ false) × NoReset ms
 
--- the record of bs at p is a commit of the point i
-abbrev pub CommitAt : List ℕ → ℕ → Id → Type 0
-CommitAt bs p i = (headAt bs p .kind ≡ kind.Commit) × (idAt (fieldsAt bs p) 0 ≡ i)
+-- the record of bs at p is a commit of the point i with the lists ls
+abbrev pub CommitAt : List ℕ → ℕ → Id → List ℕ → Type 0
+CommitAt bs p i ls = (headAt bs p .kind ≡ kind.Commit) × (idAt (fieldsAt bs p) 0 ≡ i) × (listsIn (fieldsAt bs p) ≡ ls)
 
 -- ---- one call after another
 
@@ -104,7 +104,7 @@ run-chained bs b w p e v (one-more {p = x} {c = c} {u = u} o d z r l q) =
 
 -- "a digest has 32 bytes"
 abbrev DigestFits : Call → Type 0
-DigestFits c = elim c [ start a ↦ Unit {0} | resetAll ↦ Unit {0} | round r peers ↦ Unit {0} | name i ↦ i .digest < 256 ^ 32 | resolve i t ↦ Unit {0} | certify i ↦ Unit {0} | gapQuestion ↦ Unit {0} | commit i b ↦ Unit {0} | outlook i b ↦ Unit {0} | remove r from b ↦ Unit {0} | drop r ↦ Unit {0} ]
+DigestFits c = elim c [ start a ↦ Unit {0} | resetAll ↦ Unit {0} | round r peers ↦ Unit {0} | name i ↦ i .digest < 256 ^ 32 | resolve i t ↦ Unit {0} | certify i ↦ Unit {0} | gapQuestion ↦ Unit {0} | commit i l b ↦ Unit {0} | outlook i b ↦ Unit {0} | remove r from b ↦ Unit {0} | drop r ↦ Unit {0} ]
 
 abbrev AllFit : List Made → Type 0
 AllFit [] = Unit {0}
@@ -167,7 +167,7 @@ in-list (name i) f n = f
 in-list (resolve i t) f n = tt
 in-list (certify i) f n = tt
 in-list gapQuestion f n = tt
-in-list (commit i b) f n = tt
+in-list (commit i l b) f n = tt
 in-list (outlook i b) f n = tt
 in-list (remove r s b) f n = tt
 in-list (drop r) f n = tt
@@ -179,11 +179,11 @@ all-in (m ∷ ms) (f, fs) (n, ns) = (in-list (m .what) f n, all-in ms fs ns)
 -- ---- commits
 
 -- the call of a commit's record
-commit-did : (k : Kind) (f : List ℕ) (d : Tables) (w : List ℕ) (o : Outcome) (e : Tables) (v : List ℕ) (i : Id) → k ≡ kind.Commit → idAt f 0 ≡ i → Plays k f d w o e v
-    → Did (commit i w) (modelBy kind.Commit f w) d (record { answer = o .answer; tables = e; buffer = v })
+commit-did : (k : Kind) (f : List ℕ) (d : Tables) (w : List ℕ) (o : Outcome) (e : Tables) (v : List ℕ) (i : Id) (ls : List ℕ) → k ≡ kind.Commit → idAt f 0 ≡ i → listsIn f ≡ ls → Plays k f d w o e v
+    → Did (commit i ls w) (modelBy kind.Commit f w) d (record { answer = o .answer; tables = e; buffer = v })
 unfolding callBy
-commit-did k f d w o e v i g h q =
-    subst (λ (j : Id). Did (commit j w) (modelBy kind.Commit f w) d (record { answer = o .answer; tables = e; buffer = v })) h
+commit-did k f d w o e v i ls g h y q =
+    subst (λ (c : Call). Did c (modelBy kind.Commit f w) d (record { answer = o .answer; tables = e; buffer = v })) (ap₂ (λ (j : Id) (l : List ℕ). commit j l w) h y)
     (subst (λ (j : Kind). known j ≡ true → Did (callBy j f w) (modelBy j f w) d (leftBy j o e v)) g (q .makes .made) refl)
 
 -- whether anchors are handed out
@@ -194,11 +194,11 @@ handsOut (anchors n) = true
 handsOut (refused w n) = false
 
 -- by tables that count as started alone
-counts-is : (s : Store) (i : Id) (b : List ℕ) (n : ℕ) → call s (commit i b) .answer ≡ anchors n → countsAsStarted s ≡ true
+counts-is : (s : Store) (i : Id) (ls b : List ℕ) (n : ℕ) → call s (commit i ls b) .answer ≡ anchors n → countsAsStarted s ≡ true
 unfolding handsOut byTables isStart
-counts-is s i b n e =
+counts-is s i ls b n e =
     byTest (countsAsStarted s) (λ t. t)
-    (λ f. absurd (clash (ap handsOut e) (ap (λ (o : calls.Outcome). handsOut (o .answer)) (call-by s (commit i b) refl ∙ ap (λ (y : Bool). byTables y s (commit i b)) f))))
+    (λ f. absurd (clash (ap handsOut e) (ap (λ (o : calls.Outcome). handsOut (o .answer)) (call-by s (commit i ls b) refl ∙ ap (λ (y : Bool). byTables y s (commit i ls b)) f))))
 
 -- ---- the theorem
 
@@ -211,16 +211,16 @@ first bs d w p e v r xs ys zs s a g f k n =
     let t : AllFit (xs ++ (s ∷ (ys ++ zs))) = subst (λ (ms : List Made). AllFit ms) g (run-fits bs d w p e v r) in
     demand-3-of-code .0 s a ys f k (chained-left (s .left .tables) ys zs (chained-right d xs (s ∷ (ys ++ zs)) h .1)) (all-in ys (fit-left ys zs (fit-right xs (s ∷ (ys ++ zs)) t .1)) n)
 
--- a commit that is played after a run of late calls, and the same one played before it: demand 3's second half
+-- a commit that is played after a run of late calls, and the same one, with the same lists, played before it: demand 3's second half
 pub second : (bs : List ℕ) (d : Tables) (w : List ℕ) (p : ℕ) (e : Tables) (v : List ℕ) (r : Runs bs d w p e v) → AllArrive (viewOf d) (callsOf (madeIn bs d w p e v r))
-    → (i : Id) (n : ℕ) (b bs₁ bs₂ : List ℕ) (p₁ p₂ : ℕ) (o₁ o₂ : Outcome) (d₁ d₂ : Tables) (v₁ v₂ : List ℕ)
-    → CommitAt bs₁ p₁ i → PlaysAt bs₁ p₁ d b o₁ d₁ v₁ → CommitAt bs₂ p₂ i → PlaysAt bs₂ p₂ e b o₂ d₂ v₂
+    → (i : Id) (n : ℕ) (ls b bs₁ bs₂ : List ℕ) (p₁ p₂ : ℕ) (o₁ o₂ : Outcome) (d₁ d₂ : Tables) (v₁ v₂ : List ℕ)
+    → CommitAt bs₁ p₁ i ls → PlaysAt bs₁ p₁ d b o₁ d₁ v₁ → CommitAt bs₂ p₂ i ls → PlaysAt bs₂ p₂ e b o₂ d₂ v₂
     → answerOf (o₁ .answer) ≡ anchors (suc n) → (o₂ .answer ≡ o₁ .answer) × (v₂ ≡ v₁)
 unfolding outcomeOf
-second bs d w p e v r arrive i n b bs₁ bs₂ p₁ p₂ o₁ o₂ d₁ d₂ v₁ v₂ c₁ q₁ c₂ q₂ a =
-    let m : Did (commit i b) (modelBy kind.Commit (fieldsAt bs₁ p₁) b) d (record { answer = o₁ .answer; tables = d₁; buffer = v₁ }) = commit-did _ (fieldsAt bs₁ p₁) d b o₁ d₁ v₁ i (c₁ .0) (c₁ .1) q₁ in
-    let l : Did (commit i b) (modelBy kind.Commit (fieldsAt bs₂ p₂) b) e (record { answer = o₂ .answer; tables = d₂; buffer = v₂ }) = commit-did _ (fieldsAt bs₂ p₂) e b o₂ d₂ v₂ i (c₂ .0) (c₂ .1) q₂ in
+second bs d w p e v r arrive i n ls b bs₁ bs₂ p₁ p₂ o₁ o₂ d₁ d₂ v₁ v₂ c₁ q₁ c₂ q₂ a =
+    let m : Did (commit i ls b) (modelBy kind.Commit (fieldsAt bs₁ p₁) b) d (record { answer = o₁ .answer; tables = d₁; buffer = v₁ }) = commit-did _ (fieldsAt bs₁ p₁) d b o₁ d₁ v₁ i ls (c₁ .0) (c₁ .1) (c₁ .2) q₁ in
+    let l : Did (commit i ls b) (modelBy kind.Commit (fieldsAt bs₂ p₂) b) e (record { answer = o₂ .answer; tables = d₂; buffer = v₂ }) = commit-did _ (fieldsAt bs₂ p₂) e b o₂ d₂ v₂ i ls (c₂ .0) (c₂ .1) (c₂ .2) q₂ in
     let h = run-chained bs d w p e v r in
-    demand-3-of-code .1 d (q₁ .words .0) (q₁ .words .1) (counts-is (viewOf d) i b (suc n) (sym (ap (λ (o : calls.Outcome). o .answer) (m .answer)) ∙ a)) i b n
-    (record { what = commit i b; before = d; left = _; model = _; did = m }) (record { what = commit i b; before = e; left = _; model = _; did = l }) (madeIn bs d w p e v r)
+    demand-3-of-code .1 d (q₁ .words .0) (q₁ .words .1) (counts-is (viewOf d) i ls b (suc n) (sym (ap (λ (o : calls.Outcome). o .answer) (m .answer)) ∙ a)) i ls b n
+    (record { what = commit i ls b; before = d; left = _; model = _; did = m }) (record { what = commit i ls b; before = e; left = _; model = _; did = l }) (madeIn bs d w p e v r)
     refl refl a (h .0) arrive (sym (h .1)) refl

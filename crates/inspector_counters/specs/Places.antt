@@ -1,20 +1,22 @@
 -- The places of one round by rising position are those of document 01 by rising digest (01: inspector.rs, 'Forms of the Rust').
-use Prim.Native.Nat.{ℕ, _+_, _-_, _<_, _≤_}
+use Prim.Native.Nat.{ℕ, zero, suc, _+_, _-_, _<_, _≤_}
 use mathlib.Core.Path.{_≡_, refl, sym, ap, subst, _∙_}
-use mathlib.Core.List.{List, List·Memᴰ}
+use mathlib.Core.List.{List, [], _∷_, List·Memᴰ}
 use mathlib.Core.Bool.{true, _&&_}
 use mathlib.Core.Logic.{⊎-elim}
 use native.Mathlib.Omega.{arith}
 use lib.Dec.{eqb, leb}
+use lib.ListN.{length, length-append}
 use borrow.Author.Tests.{eqb-true, eq-eqb, leb-true, leb-false, le-leb}
 use Rattle.laws.specs.Test.{both, and-l, and-r, sameOr, leOr}
 use Rattle.laws.specs.Scan.{those, those-elim, those-intro, those-nodup}
-use Rattle.laws.specs.Lists.{Pairs}
+use Rattle.laws.specs.Lists.{Pairs, upTo}
 use Rattle.laws.specs.Sort.{sort-mem, sort-once, sort-rises}
 use Rattle.spec.specs.Order.{strict}
 use Rattle.spec.specs.Store as store
 use Rattle.spec.specs.Store.{Store, idAt}
 use Rattle.spec.specs.Inspect.{placesIn}
+use Rattle.spec.specs.Inspection.{round-few}
 use Rattle.models.specs.Digest.{Fit}
 use Rattle.models.specs.Tables.{roundAt, placeAt, Used}
 use Rattle.commit_state.specs.declared.state.State.{State}
@@ -23,11 +25,17 @@ use Rattle.tables_test.specs.Whole.{places-is}
 use Rattle.tables_test.specs.Refines.{Started}
 use Rattle.back_drain.specs.Model.{below, below-le, below-low, below-high}
 use Rattle.back_history.specs.RefinesNeeded.{named-used, used-named, used-round}
-use Rattle.back_history.specs.Refines.{ordered-one, picked, picked-elim, picked-intro, picked-pairs, well, ids-rise}
+use Rattle.back_history.specs.Refines.{ordered-one, one, picked, picked-elim, picked-intro, picked-pairs, well, ids-rise}
 
 -- the places at the k positions from low on
 abbrev pub between : List ℕ → ℕ → ℕ → List ℕ
 between os low k = picked os (λ q. true) low k
+
+-- as many places as positions
+between-length : (os : List ℕ) (low k : ℕ) → length (between os low k) ≡ k
+unfolding picked upTo one
+between-length os low zero = refl
+between-length os low (suc k) = length-append (between os low k) (placeAt os (low + k) ∷ []) ∙ omega (arith, between-length os low k)
 
 -- the first position of round r, of the n used ones
 abbrev pub lowOf : State → List ℕ → List ℕ → ℕ → ℕ
@@ -144,3 +152,7 @@ module _ (s : State) (ks ls cs os : List ℕ) (fk : Fit ks) (fl : Fit ls) (t : S
   -- the places of round r are those from its first position to the next round's
   pub places-in : placesIn v r ≡ between os low (high - low)
   places-in = ordered-one upward (λ p q a b. omega (arith, a, b)) (placesIn v r) (between os low (high - low)) list-rises between-rises list-elim list-intro
+
+  -- they are at most 128
+  pub span-few : below ks os (s .count) (r + 1) - below ks os (s .count) r ≤ 128
+  span-few = rw (between-length os low (high - low)) at (subst (λ (x : List ℕ). length x ≤ 128) places-in (round-few v (well s ks ls cs os fk fl t) r))

@@ -1,7 +1,7 @@
 -- What the loops pass, as the lists of 01.
 use Prim.Native.Nat.{ℕ, zero, suc, _+_, _*_, _≤_, _<_}
 use mathlib.Core.Path.{_≡_, refl, sym, ap, ap₂, _∙_}
-use mathlib.Core.List.{List, [], _∷_, _++_, map, List·Memᴰ, List·Memᴰ·head, List·Memᴰ·tail, append-nil, append-assoc, map-append}
+use mathlib.Core.List.{List, [], _∷_, _++_, map, append-nil, append-assoc, map-append}
 use mathlib.Core.Bool.{Bool, true}
 use native.Mathlib.Omega.{arith}
 use lib.ListN.{length, getD, length-append}
@@ -39,12 +39,6 @@ upto-map : {A B : Type 0} (f : A → B) (n : ℕ) (g : ℕ → List A) → map f
 unfolding upTo
 upto-map f zero g = refl
 upto-map f (suc n) g = map-append f (upTo n g) (g n) ∙ ap (λ z. z ++ map f (g n)) (upto-map f n g)
-
--- the k-th element is one of them
-pub getD-in : {A : Type 0} (z : A) (l : List A) (k : ℕ) → k < length l → List·Memᴰ (getD l k z) l
-getD-in z [] k h = absurd (omega arith)
-getD-in z (x ∷ xs) zero h = List·Memᴰ·head refl
-getD-in z (x ∷ xs) (suc k) h = List·Memᴰ·tail (getD-in z xs k (omega arith))
 
 -- one image after another
 pub map-twice : {A B C : Type 0} (g : B → C) (f : A → B) (l : List A) → map g (map f l) ≡ map (λ a. g (f a)) l

@@ -10,7 +10,7 @@ use lib.ListN.{length, getD, take, replicate, length-replicate, List·getD-map}
 use lib.Seq.{getD-take}
 use borrow.Author.Tests.{lt-ltb, le-ltb}
 use Rattle.laws.specs.Test.{byTest, leOr}
-use Rattle.laws.specs.Lists.{Pairs}
+use Rattle.laws.specs.Lists.{Pairs, getD-in}
 use Rattle.spec.specs.Store as store
 use Rattle.spec.specs.Store.{Store}
 use Rattle.spec.specs.Rules.{countsAsStarted}
@@ -26,7 +26,6 @@ use Rattle.commit_state.specs.declared.state.State.{State}
 use Rattle.tables_test.specs.View.{view}
 use Rattle.tables_test.specs.Refines.{Started, counted}
 use Rattle.back_history.specs.Refines.{well}
-use Rattle.inspector_references.specs.Trusted.{getD-in}
 use Rattle.inspector_rows.specs.Rows.{entryAt, entriesOf, entries-length, entries-at, RowsFit}
 use Rattle.inspector_rows.specs.Memory.{memoryFrom, memory-is}
 use Rattle.inspector_inspect.specs.Filled.{trustedOf, roundRows, RoundRows, round-left}

@@ -1,5 +1,5 @@
 -- The rows that a round leaves, and those that it meets (01: inspector.rs).
-use Prim.Native.Nat.{ℕ, suc, _+_, _-_, _*_, _<_, _≤_}
+use Prim.Native.Nat.{ℕ, suc, _-_, _*_, _<_, _≤_}
 use mathlib.Core.Path.{_≡_, refl, sym, ap, subst, _∙_}
 use mathlib.Core.List.{List, _++_}
 use mathlib.Core.Bool.{Bool, true, cond}
@@ -26,9 +26,10 @@ use Rattle.tables_test.specs.Refines.{Started, counted}
 use Rattle.back_walk.specs.Words.{Placed}
 use Rattle.back_history.specs.Model.{Range}
 use Rattle.back_history.specs.Refines.{well}
+use Rattle.inspector_counters.specs.Places.{span-few}
 use Rattle.inspector_counters.specs.Count.{spanOf, span-ready, span-range}
 use Rattle.inspector_counters.specs.declared.round.Span.{Span}
-use Rattle.inspector_references.specs.Trusted.{Listed, trustedIn, trusted-is, span-few}
+use Rattle.inspector_references.specs.Trusted.{Listed, trustedIn, trusted-is}
 use Rattle.inspector_references.specs.Referring.{rowAuthor, RowOf, Retained, trusted-placed}
 use Rattle.inspector_rows.specs.Rows.{entriesOf, RowsFit}
 use Rattle.inspector_rows.specs.Must.{mustRows, must-same, must-is, must-rows, must-fit}

@@ -1,25 +1,24 @@
 -- The trusted points of one round, as places in the order of their digests (01: inspector.rs).
-use Prim.Native.Nat.{ℕ, zero, suc, _+_, _-_, _*_, _<_, _≤_}
+use Prim.Native.Nat.{ℕ, zero, suc, _+_, _-_, _<_, _≤_}
 use mathlib.Core.Path.{_≡_, refl, sym, ap, subst, _∙_}
-use mathlib.Core.List.{List, [], _∷_, _++_, append-nil, List·Memᴰ, List·Memᴰ·head, List·Memᴰ·tail}
+use mathlib.Core.List.{List, [], _∷_, _++_, append-nil, List·Memᴰ}
 use mathlib.Core.Bool.{Bool, true, false, _&&_, _||_}
 use native.Mathlib.Omega.{arith}
 use native.Mathlib.Numerals.{add-one}
-use lib.ListN.{length, getD, set, take, replicate, length-replicate, length-set, length-append}
+use lib.ListN.{length, getD, set, take, replicate, length-replicate, length-set}
 use lib.Seq.{take-suc, take-suc-set, length-take-le, getD-take}
 use Rattle.laws.specs.Test.{byTest}
 use Rattle.laws.specs.Scan.{any}
-use Rattle.laws.specs.Lists.{has, has-append, keep, upTo}
+use Rattle.laws.specs.Lists.{has, has-append, keep, getD-in, upTo}
 use Rattle.spec.specs.Store.{Store}
 use Rattle.spec.specs.Inspect.{isTrusted, placesIn}
-use Rattle.spec.specs.Inspection.{round-few}
 use Rattle.models.specs.Digest.{Fit}
 use Rattle.models.specs.Tables.{placeAt}
 use Rattle.commit_state.specs.declared.state.State.{State}
 use Rattle.tables_test.specs.View.{view}
 use Rattle.tables_test.specs.Refines.{Started}
-use Rattle.back_history.specs.Refines.{one, picked, well}
-use Rattle.inspector_counters.specs.Places.{between, lowOf, highOf, places-in, round-used}
+use Rattle.back_history.specs.Refines.{one, picked}
+use Rattle.inspector_counters.specs.Places.{lowOf, highOf, places-in, round-used}
 use Rattle.inspector_counters.specs.Count.{keep-between, picked-same}
 use Rattle.inspector_counters.specs.Tests.{versionAt, inspected, chosen, testOf, test-is}
 use Rattle.inspector_counters.specs.declared.tests.PointTest.the-variants as test
@@ -68,12 +67,6 @@ module _ (ks cs os : List ℕ) (low : ℕ) where
 
 -- ---- what they hold
 
--- an element of a list
-pub getD-in : {A : Type 0} (l : List A) (k : ℕ) (z : A) → k < length l → List·Memᴰ (getD l k z) l
-getD-in [] k z m = absurd (omega arith)
-getD-in (x ∷ xs) zero z m = List·Memᴰ·head refl
-getD-in (x ∷ xs) (suc k) z m = List·Memᴰ·tail (getD-in xs k z (omega arith))
-
 -- a cell holds one of the places
 pub listed-in : (l : List ℕ) (n : ℕ) (qs : List ℕ) → Listed l n qs → (j : ℕ) → j < n → List·Memᴰ (getD l j 0) qs
 listed-in l n qs h j m =
@@ -92,12 +85,6 @@ has-take f l z (suc n) m =
     swap true false = refl
     swap false true = refl
     swap false false = refl
-
--- as many places as positions
-between-length : (os : List ℕ) (low k : ℕ) → length (between os low k) ≡ k
-unfolding picked upTo one
-between-length os low zero = refl
-between-length os low (suc k) = length-append (between os low k) (placeAt os (low + k) ∷ []) ∙ omega (arith, between-length os low k)
 
 -- of those kept one passes
 pub has-keep : {A : Type 0} (f g : A → Bool) (l : List A) → has g (keep f l) ≡ has (λ x. f x && g x) l
@@ -121,7 +108,3 @@ module _ (s : State) (ks ls cs os : List ℕ) (fk : Fit ks) (fl : Fit ls) (t : S
   trusted-is =
       picked-same os (trustedAt ks cs) (isTrusted v) low (high - low) (λ j l. test-is s ks ls cs os fk fl t (placeAt os (low + j)) (round-used s ks ls cs os fk fl t r (low + j) (omega arith)) test.Trusted)
       ∙ (sym (keep-between (isTrusted v) os low (high - low)) ∙ ap (keep (isTrusted v)) (sym (places-in s ks ls cs os fk fl t r)))
-
-  -- a round has no more than 128 points
-  pub span-few : high - low ≤ 128
-  span-few = rw (between-length os low (high - low)) at (subst (λ (x : List ℕ). length x ≤ 128) (places-in s ks ls cs os fk fl t r) (round-few v (well s ks ls cs os fk fl t) r))

@@ -9,7 +9,7 @@ use lib.ListN.{length, getD, take}
 use lib.Seq.{length-take-le, getD-take}
 use borrow.Author.Tests.{eqb-true}
 use Rattle.laws.specs.Test.{byTest, and-yes}
-use Rattle.laws.specs.Lists.{keep, keep-in, upTo}
+use Rattle.laws.specs.Lists.{keep, keep-in, getD-in, upTo}
 use Rattle.laws.specs.Peers.{member}
 use Rattle.spec.specs.Ids.{Id}
 use Rattle.spec.specs.Store.{Entry, Memory, Store, idAt}
@@ -23,7 +23,7 @@ use Rattle.tables_test.specs.Refines.{Started}
 use Rattle.answer_bytes.specs.Bytes.{placeId}
 use Rattle.back_history.specs.RefinesNeeded.{named-used}
 use Rattle.inspector_events.specs.Told.{oneIf, passing}
-use Rattle.inspector_events.specs.Passing.{upto-same, getD-in, map-twice, passing-keep}
+use Rattle.inspector_events.specs.Passing.{upto-same, map-twice, passing-keep}
 use Rattle.inspector_signers.specs.Signers.{rowAuthor, rowDigest, rowId, rowPasses, rowIds, pointIds, signerOf, signersOf}
 use Rattle.inspector_events.specs.Refines.{id-used}
 
@@ -68,7 +68,7 @@ module _ (s : State) (ks ls cs os : List ℕ) (fk : Fit ks) (fl : Fit ls) (t : S
     -- it is a used one, of the round
     at : (k : ℕ) → k < n → Used os (s .count) (getD qs k 0) × (idAt v (getD qs k 0) .round ≡ r)
     at k h =
-        let (a, b) = place-elim v r (getD qs k 0) (keep-in (isTrusted v) (placesIn v r) (getD qs k 0) .0 (getD-in 0 qs k (omega (arith, h, size))) .0) in
+        let (a, b) = place-elim v r (getD qs k 0) (keep-in (isTrusted v) (placesIn v r) (getD qs k 0) .0 (getD-in qs k 0 (omega (arith, h, size))) .0) in
         (named-used s ks ls cs os fk fl t (getD qs k 0) a, b)
 
     -- its id

@@ -71,6 +71,9 @@ pub const AT_GENESIS: u32 = 22;
 // A remove above the last anchor handed out.
 pub const REMOVE_AHEAD: u32 = 23;
 
+// A place list that isn't each place from 0 once.
+pub const BAD_LISTS: u32 = 24;
+
 // Document 01's number of a refusal; 13, the history conflict, holds its round.
 pub enum Refusal {
     Number(u32),

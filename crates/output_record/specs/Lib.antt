@@ -1,5 +1,6 @@
 pub mod Picked
 pub mod Model
+pub mod Listed
 pub mod Marks
 pub mod ModelState
 pub mod History

@@ -1,22 +1,19 @@
 -- The anchor record (01: output.rs).
 use Prim.Native.Nat.{ℕ, _+_, _*_, _-_, _≤_, _<_}
 use mathlib.Core.Path.{_≡_, refl, sym, ap, _∙_}
-use mathlib.Core.List.{List, [], _∷_, _++_, map, map-append, append-nil, append-assoc}
+use mathlib.Core.List.{List, [], _∷_, _++_, map, map-append, append-nil}
 use mathlib.Core.Bool.{Bool, true, false, not, _&&_, cond}
 use native.Mathlib.Omega.{arith}
 use lib.Dec.{leb, ltb}
 use lib.ListN.{length, length-append, length-map}
 use borrow.Author.Tests.{lt-ltb, le-ltb}
 use Rattle.laws.specs.Test.{and-no, and-yes, cond-yes, cond-no, both}
-use Rattle.laws.specs.Lists.{joined}
-use Rattle.laws.specs.Bytes.{be, be-length, written, written-append, andThen}
+use Rattle.laws.specs.Lists.{joined, joined-append}
+use Rattle.laws.specs.Bytes.{be, be-length, written, andThen}
 use Rattle.spec.specs.Ids.{idBytes, prev}
 use Rattle.spec.specs.Records.{id-length, ids-length}
-use Rattle.models.specs.Tables.{placeAt}
 use Rattle.commit_state.specs.declared.state.State.{State}
 use Rattle.answer_bytes.specs.Bytes.{placeId}
-use Rattle.back_history.specs.Refines.{picked}
-use Rattle.output_record.specs.Picked.{picked-none, picked-yes, picked-no, snoc-length}
 
 -- the byte of a flag
 unfoldable pub flagOf : Bool → ℕ
@@ -43,44 +40,44 @@ pointsOf ks l = joined idBytes (map (placeId ks) l)
 unfoldable pub recordOf : List ℕ → ℕ → ℕ → Bool → ℕ → List ℕ → List ℕ
 recordOf ks a p x r l = headOf ks a p x r (length l) ++ pointsOf ks l
 
--- ---- the loop over positions
+-- ---- ids after ids
 
--- one more list
-joined-snoc : {A B : Type 0} (f : A → List B) (l : List A) (x : A) → joined f (l ++ x ∷ []) ≡ joined f l ++ f x
-unfolding joined
-joined-snoc f [] x = append-nil (f x)
-joined-snoc f (y ∷ l) x = ap (λ t. f y ++ t) (joined-snoc f l x) ∙ sym (append-assoc (f y) (joined f l) (f x))
-
--- one more id
-points-snoc : (ks l : List ℕ) (q : ℕ) → pointsOf ks (l ++ q ∷ []) ≡ pointsOf ks l ++ idBytes (placeId ks q)
+-- more ids
+points-append : (ks xs ys : List ℕ) → pointsOf ks (xs ++ ys) ≡ pointsOf ks xs ++ pointsOf ks ys
 unfolding pointsOf
-points-snoc ks l q = ap (joined idBytes) (map-append (placeId ks) l (q ∷ [])) ∙ joined-snoc idBytes (map (placeId ks) l) (placeId ks q)
+points-append ks xs ys = ap (joined idBytes) (map-append (placeId ks) xs ys) ∙ joined-append idBytes (map (placeId ks) xs) (map (placeId ks) ys)
 
 -- 37 bytes each
 points-length : (ks l : List ℕ) → length (pointsOf ks l) ≡ length l * 37
 unfolding pointsOf
 points-length ks l = ids-length (map (placeId ks) l) ∙ ap (λ (n : ℕ). n * 37) (length-map l (placeId ks))
 
--- what the positions up to i gave: the offset and the buffer
-abbrev pub Sofar : List ℕ → List ℕ → (ℕ → Bool) → ℕ → ℕ → List ℕ → ℕ → List ℕ → ℕ → Type 0
-Sofar ks os f low at b₀ i b end = (end ≡ at + length (picked os f low (i - low)) * 37) × (b ≡ written b₀ at (pointsOf ks (picked os f low (i - low))))
+-- b is b₀ with the ids of the places l from `at` on, and `end` the offset after them
+abbrev pub Wrote : List ℕ → ℕ → List ℕ → List ℕ → List ℕ → ℕ → Type 0
+Wrote ks at b₀ l b end = (end ≡ at + length l * 37) × (b ≡ written b₀ at (pointsOf ks l))
 
-module _ (ks os : List ℕ) (f : ℕ → Bool) (low at : ℕ) (b₀ : List ℕ) where
-  -- at first; a position that passes; one that fails
-  pub sofar-none : Sofar ks os f low at b₀ low b₀ at
+module _ (ks : List ℕ) (at : ℕ) (b₀ : List ℕ) where
+  -- none
+  pub wrote-none : (l b : List ℕ) (end : ℕ) → l ≡ [] → end ≡ at → b ≡ b₀ → Wrote ks at b₀ l b end
   unfolding pointsOf written joined
-  sofar-none = rw (picked-none os f low) (omega arith, refl)
+  wrote-none l b end n e d = rw n (omega arith, d)
 
-  pub sofar-yes : (i q : ℕ) (b b′ : List ℕ) (end end′ : ℕ) → low ≤ i → Sofar ks os f low at b₀ i b end → q ≡ placeAt os i → f q ≡ true → end′ ≡ end + 37 → b′ ≡ written b end (idBytes (placeId ks q))
-      → Sofar ks os f low at b₀ (i + 1) b′ end′
-  sofar-yes i q b b′ end end′ l (e, d) is t g h =
-      rw (picked-yes os f low i l (rw is at t), snoc-length (picked os f low (i - low)) (placeAt os i), points-snoc ks (picked os f low (i - low)) (placeAt os i)) (
-        omega arith,
-        h ∙ (rw (d, is) refl ∙ sym (written-append b₀ at (pointsOf ks (picked os f low (i - low))) (idBytes (placeId ks (placeAt os i))) end (e ∙ ap (λ (n : ℕ). at + n) (sym (points-length ks (picked os f low (i - low))))))),
+  -- one
+  pub wrote-one : (q : ℕ) (l b : List ℕ) (end : ℕ) → l ≡ q ∷ [] → end ≡ at + 37 → b ≡ written b₀ at (idBytes (placeId ks q)) → Wrote ks at b₀ l b end
+  unfolding pointsOf joined
+  wrote-one q l b end n e d = rw n (omega arith, d ∙ ap (written b₀ at) (sym (append-nil (idBytes (placeId ks q)))))
+
+  -- the same places
+  pub wrote-is : (xs ys b : List ℕ) (end : ℕ) → xs ≡ ys → Wrote ks at b₀ xs b end → Wrote ks at b₀ ys b end
+  wrote-is xs ys b end is w = rw is at w
+
+  -- some more
+  pub wrote-more : (xs ys zs b b′ : List ℕ) (end end′ : ℕ) → Wrote ks at b₀ xs b end → Wrote ks end b ys b′ end′ → zs ≡ xs ++ ys → Wrote ks at b₀ zs b′ end′
+  wrote-more xs ys zs b b′ end end′ (e, d) (f, g) is =
+      rw is (
+        omega (arith, e, f, length-append xs ys),
+        rw (points-append ks xs ys) (andThen b₀ b b′ at end (pointsOf ks xs) (pointsOf ks ys) (length xs * 37) (points-length ks xs) e d g),
       )
-
-  pub sofar-no : (i q : ℕ) (b b′ : List ℕ) (end end′ : ℕ) → low ≤ i → Sofar ks os f low at b₀ i b end → q ≡ placeAt os i → f q ≡ false → end′ ≡ end → b′ ≡ b → Sofar ks os f low at b₀ (i + 1) b′ end′
-  sofar-no i q b b′ end end′ l (e, d) is t g h = rw (picked-no os f low i l (rw is at t)) (g ∙ e, h ∙ d)
 
 -- ---- the whole record
 
@@ -101,10 +98,10 @@ record-length ks a p x r l = length-append (headOf ks a p x r (length l)) (point
 
 -- the points after the head
 module _ (ks : List ℕ) (a p : ℕ) (x : Bool) (r n : ℕ) (l : List ℕ) where
-  pub record-then : (b b₁ b₂ : List ℕ) (at e end : ℕ) → n ≡ length l → e ≡ at + 83 → b₁ ≡ written b at (headOf ks a p x r n) → end ≡ e + length l * 37 → b₂ ≡ written b₁ e (pointsOf ks l)
+  pub record-then : (b b₁ b₂ : List ℕ) (at e end : ℕ) → n ≡ length l → e ≡ at + 83 → b₁ ≡ written b at (headOf ks a p x r n) → Wrote ks e b₁ l b₂ end
       → (end ≡ at + 83 + n * 37) × (b₂ ≡ written b at (recordOf ks a p x r l))
   unfolding recordOf
-  record-then b b₁ b₂ at e end c d h f g =
+  record-then b b₁ b₂ at e end c d h (f, g) =
       (omega arith, andThen b b₁ b₂ at e (headOf ks a p x r (length l)) (pointsOf ks l) 83 (head-length ks a p x r (length l)) d (rw c at h) g)
 
 -- ---- executable, the previous anchor

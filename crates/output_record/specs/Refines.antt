@@ -9,14 +9,16 @@ use lib.Dec.{eqb, leb, ltb}
 use lib.ListN.{length, getD, length-map}
 use borrow.Author.Tests.{ltb-true}
 use Rattle.laws.specs.Test.{byTest, clash, and-l}
-use Rattle.laws.specs.Lists.{joined}
+use Rattle.laws.specs.Lists.{joined, map-same}
 use Rattle.laws.specs.Bytes.{be}
 use Rattle.spec.specs.Ids.{Id, idBytes, prev}
 use Rattle.spec.specs.Store as store
 use Rattle.spec.specs.Store.{Store, idAt}
 use Rattle.spec.specs.Rules.{isPeer, countsAsStarted}
 use Rattle.spec.specs.Chain.{EnqueuedAnchor}
-use Rattle.spec.specs.History.{isExecutable, isFirstExecutable, prevAnchor, recordBytes, inHistory, history, setCommitted, gapAfter, useProof, dequeued}
+use Rattle.spec.specs.History.{isExecutable, isFirstExecutable, prevAnchor, downFrom, linkedCounts, listsOk, inOrder, recordBytes, inHistory, history, setCommitted, gapAfter, useProof, dequeued}
+use Rattle.spec.specs.OrderInRound.{order-length}
+use Rattle.spec.specs.Records.{record-length}
 use Rattle.spec.specs.WellFormed.{Wf, countsAsStarted-elim, countsAsStarted-intro}
 use Rattle.spec.specs.Walk.{Anchored, Tested}
 use Rattle.spec.specs.Preservation.{mark-kept}
@@ -35,8 +37,11 @@ use Rattle.tables_test.specs.Whole.{sized}
 use Rattle.tables_test.specs.Refines.{Started, counted}
 use Rattle.answer_bytes.specs.Bytes.{placeId}
 use Rattle.back_history.specs.Model.{isUncommitted}
+use Rattle.back_history.specs.RefinesNeeded.{lowestOf, marksOf}
 use Rattle.back_history.specs.Refines.{picked}
-use Rattle.output_record.specs.Model.{record-length, flagOf, headOf, pointsOf, recordOf, executes, isFirstOf, previousOf}
+use Rattle.back_order.specs.Drawn.{drawnBy}
+use Rattle.back_order.specs.Refines.{order-is, drawn-used}
+use Rattle.output_record.specs.Model.{flagOf, headOf, pointsOf, recordOf, executes, isFirstOf, previousOf}
 use Rattle.output_record.specs.Marks.{Small, committedWord, marksAll, marks-length, marks-at, marks-small}
 use Rattle.output_record.specs.ModelState.{afterState, option-is, asked-is, gap-reads, after-rounds}
 use Rattle.output_record.specs.History.{Picks, id-seen, used-named, history-used, history-is}
@@ -123,27 +128,48 @@ module _ (s : State) (ks ls cs os : List ℕ) (fk : Fit ks) (fl : Fit ls) (h : c
           subst (λ x. x < length cs) (up .2) (inside (up .0) (up .1)),
         )
 
+    -- the places of its history in the order of the lists
+    abbrev drawnFor : List ℕ → List ℕ
+    drawnFor l = drawnBy ks os (s .count) cs (marksOf s ks ls cs os (e .anchor)) (downFrom ar (ar + 1 - lowestOf s ar)) l
+
+    -- their ids
+    order-named : (l : List ℕ) → listsOk (linkedCounts v (e .anchor)) l ≡ true → inOrder v (e .anchor) l ≡ map (placeId ks) (drawnFor l)
+    order-named l ok =
+        order-is s ks ls cs os fk fl t (e .anchor) ua l ok
+        ∙ map-same (idAt v) (placeId ks) (drawnFor l) (λ q k. id-is q (drawn-used s ks ls cs os fk fl t (e .anchor) ua l ok q k))
+
+    -- the record's bytes are those of 01, in the order of 02, N1
+    pub record-is : (l : List ℕ) → listsOk (linkedCounts v (e .anchor)) l ≡ true
+        → recordOf ks (e .anchor) (e .proof) (executes s (roundAt ks (e .anchor))) (previousOf s (roundAt ks (e .anchor)) (e .prevProofRound))
+        (drawnBy ks os (s .count) cs (marksOf s ks ls cs os (e .anchor)) (downFrom (roundAt ks (e .anchor)) (roundAt ks (e .anchor) + 1 - lowestOf s (roundAt ks (e .anchor)))) l) ≡ recordBytes v l e
+    unfolding recordOf headOf pointsOf recordBytes flagOf
+    record-is l ok =
+        let is = sym (order-named l ok) in
+        let anchor = sym (id-is (e .anchor) ua) in
+        let proof = sym (id-is (e .proof) up) in
+        let flag = ap (λ (b : Bool). be 1 (cond b 1 0)) (sym executable-is) in
+        let before = ap (be 4) (sym previous-is) in
+        let number = ap (be 4) (sym (length-map (drawnFor l) (placeId ks)) ∙ ap length is) in
+        six-parts (idBytes (placeId ks (e .anchor))) (idBytes (placeId ks (e .proof))) (be 1 (cond (executes s ar) 1 0)) (be 4 (previousOf s ar (e .prevProofRound))) (be 4 (length (drawnFor l))) (joined idBytes (map (placeId ks) (drawnFor l)))
+        ∙ (λ i. idBytes (anchor i) ++ (idBytes (proof i) ++ (flag i ++ (before i ++ (number i ++ joined idBytes (is i))))))
+
     module _ (m : List Bool) (low high : ℕ) (lh : high ≤ s .count) (pk : Picks v (e .anchor) os (s .count) m cs low high) where
-      -- the ids of its history
-      listed : history v (e .anchor) ≡ map (placeId ks) (picked os (isUncommitted cs m) low (high - low))
-      listed = history-is s ks ls cs os fk w (t .facts .sorted) (e .anchor) ua m low high lh pk
+      -- how many points its history has
+      number-is : length (history v (e .anchor)) ≡ length (picked os (isUncommitted cs m) low (high - low))
+      number-is =
+          ap length (history-is s ks ls cs os fk w (t .facts .sorted) (e .anchor) ua m low high lh pk)
+          ∙ length-map (picked os (isUncommitted cs m) low (high - low)) (placeId ks)
 
-      -- the record's bytes are those of 01
-      pub record-is : recordOf ks (e .anchor) (e .proof) (executes s (roundAt ks (e .anchor))) (previousOf s (roundAt ks (e .anchor)) (e .prevProofRound)) (picked os (isUncommitted cs m) low (high - low)) ≡ recordBytes v e
-      unfolding recordOf headOf pointsOf recordBytes flagOf
-      record-is =
-          let is = sym listed in
-          let anchor = sym (id-is (e .anchor) ua) in
-          let proof = sym (id-is (e .proof) up) in
-          let flag = ap (λ (b : Bool). be 1 (cond b 1 0)) (sym executable-is) in
-          let before = ap (be 4) (sym previous-is) in
-          let number = ap (be 4) (sym (length-map (picked os (isUncommitted cs m) low (high - low)) (placeId ks)) ∙ ap length is) in
-          six-parts (idBytes (placeId ks (e .anchor))) (idBytes (placeId ks (e .proof))) (be 1 (cond (executes s ar) 1 0)) (be 4 (previousOf s ar (e .prevProofRound))) (be 4 (length (picked os (isUncommitted cs m) low (high - low)))) (joined idBytes (map (placeId ks) (picked os (isUncommitted cs m) low (high - low))))
-          ∙ (λ i. idBytes (anchor i) ++ (idBytes (proof i) ++ (flag i ++ (before i ++ (number i ++ joined idBytes (is i))))))
+      module _ (l : List ℕ) (ok : listsOk (linkedCounts v (e .anchor)) l ≡ true) where
+        -- as many come out
+        pub drawn-length : length (drawnBy ks os (s .count) cs (marksOf s ks ls cs os (e .anchor)) (downFrom (roundAt ks (e .anchor)) (roundAt ks (e .anchor) + 1 - lowestOf s (roundAt ks (e .anchor)))) l) ≡ length (picked os (isUncommitted cs m) low (high - low))
+        drawn-length =
+            sym (length-map (drawnFor l) (placeId ks))
+            ∙ (ap length (sym (order-named l ok)) ∙ (order-length v w (e .anchor) (used-named s ks ls cs os fk w (t .facts .sorted) (e .anchor) ua) l ok ∙ number-is))
 
-      -- its length
-      pub record-size : length (recordBytes v e) ≡ 83 + length (picked os (isUncommitted cs m) low (high - low)) * 37
-      record-size = ap length (sym record-is) ∙ record-length ks (e .anchor) (e .proof) (executes s ar) (previousOf s ar (e .prevProofRound)) (picked os (isUncommitted cs m) low (high - low))
+        -- the record's length
+        pub record-size : length (recordBytes v l e) ≡ 83 + length (picked os (isUncommitted cs m) low (high - low)) * 37
+        record-size = record-length v w l e (used-named s ks ls cs os fk w (t .facts .sorted) (e .anchor) ua) ok ∙ ap (λ (k : ℕ). 83 + k * 37) number-is
 
       -- what the code is given: the tables
       pub tables-ready : (high ≤ length os) × (length cs ≤ 4096) × (length cs * 8 ≤ length ks) × Inside os high (length cs) × Small os cs high

@@ -1,24 +1,114 @@
-// Origin: models/output.rs (AnchorData), dag/commit/mod.rs (dequeue_anchor).
-// An anchor's record. `marks` are the places that the anchor needs, and positions low to high - 1 of the order are looked at.
+// Origin: models/output.rs (AnchorData), dag/commit/mod.rs (dequeue_anchor), dag/commit/back.rs (gather_uncommitted: shuffle, push_front).
+// An anchor's record. `marks` are the places that the anchor needs, and the place lists say the order inside each round.
 ghost use mathlib.Core.Path.{_≡_};
-ghost use mathlib.Core.List.{map};
-ghost use Prim.Native.Nat.{_+_, _*_, _<_, _≤_, _-_};
-ghost use lib.ListN.{length};
+ghost use mathlib.Core.Bool.{true};
+ghost use Prim.Native.Nat.{ℕ, _+_, _*_, _<_, _≤_, _-_};
+ghost use lib.ListN.{length, getD, take, drop};
 ghost use Rattle.laws.specs.Bytes.{written};
-ghost use Rattle.laws.specs.Lists.{joined};
-ghost use Rattle.spec.specs.Ids.{idBytes};
-ghost use Rattle.models.specs.Tables.{Inside};
-ghost use Rattle.answer_bytes.specs.Bytes.{placeId};
-ghost use Rattle.back_history.specs.Model.{isUncommitted};
-ghost use Rattle.back_history.specs.Refines.{picked};
-ghost use Rattle.output_record.specs.Model.{flagOf, headOf, recordOf, executes, isFirstOf, previousOf};
+ghost use Rattle.spec.specs.History.{eachOnce};
+ghost use Rattle.back_order.specs.Counts.{countBy};
+ghost use Rattle.back_order.specs.Drawn.{newOf, outBy};
+ghost use Rattle.output_record.specs.Model.{flagOf, headOf, Wrote, recordOf, executes, isFirstOf, previousOf};
+ghost use Rattle.output_record.specs.Listed.{historyBy, Listable, roundBy, RoundListed};
 use answer_bytes::put_id;
 use answer_bytes::put_number;
-use back_history::is_uncommitted;
+use back_order::byte_at;
+use back_order::count_linked;
+use back_order::rank_round;
 use commit_state::state::State;
+use inspector_counters::round::span_at;
+use models::cert::Cert;
 use models::parts::Round;
 
-// The ids of the history, by rising position.
+fn index(place: u16) -> usize
+    ensures { λ r. ⌜ r ≡ place ⌝ }
+{
+    place as usize
+}
+
+// The place of the rank that a byte of the lists names.
+fn place_of(ranks: &[u16; 256], lists: &[u8], at: usize) -> usize
+    requires { ⌜ at < length (now lists) ⌝ }
+    ensures { λ r. ⌜ r ≡ getD (now (ranks .entry)) (getD (now (lists .entry)) at 0) 0 ⌝ }
+{
+    let rank = byte_at(lists, at);
+    index(ranks[rank])
+}
+
+// The id of place q, if it isn't committed.
+fn put_new(b: &mut [u8], at: usize, keys: &[u64], certs: &[u64], q: usize) -> usize
+    requires { ⌜ (q < length (now certs)) × (length (now certs) * 8 ≤ length (now keys)) × (at + length (newOf (now certs) q) * 37 ≤ length (now b)) ⌝ }
+    ensures { λ r. ⌜ Wrote (now (keys .entry)) at (now (b .entry)) (newOf (now (certs .entry)) q) (now (b .exit)) r ⌝ }
+{
+    let cert = Cert(certs[q]);
+    if cert.is_committed() {
+        return at;
+    }
+    put_id(b, at, keys, q)
+}
+
+// The new ids of a round with n ranked places, from the last byte of its list to the first.
+fn put_round(
+    b: &mut [u8],
+    at: usize,
+    keys: &[u64],
+    certs: &[u64],
+    ranks: &[u16; 256],
+    lists: &[u8],
+    from: usize,
+    n: usize,
+) -> usize
+    requires { ⌜ (from + n ≤ length (now lists)) × (eachOnce n (take n (drop from (now lists))) ≡ true) × (length (now certs) * 8 ≤ length (now keys)) ⌝ }
+    requires { ⌜ ((k : ℕ) → k < n → getD (now ranks) k 0 < length (now certs)) × (at + length (outBy (now certs) (take n (now ranks)) (take n (drop from (now lists)))) * 37 ≤ length (now b)) ⌝ }
+    ensures { λ r. ⌜ Wrote (now (keys .entry)) at (now (b .entry)) (outBy (now (certs .entry)) (take n (now (ranks .entry))) (take n (drop from (now (lists .entry))))) (now (b .exit)) r ⌝ }
+{
+    let mut end = at;
+    let mut j: usize = 0;
+    while j < n {
+        let k = n - 1 - j;
+        let q = place_of(ranks, lists, from + k);
+        end = put_new(b, end, keys, certs, q);
+        j += 1;
+    }
+    end
+}
+
+// The offsets after a round: of the record, and of the lists of the rounds above.
+struct Offsets {
+    at: usize,
+    end: usize,
+}
+
+// The new ids of one round, whose list ends at `end`.
+fn put_one(
+    b: &mut [u8],
+    at: usize,
+    keys: &[u64],
+    marks: &[bool; 4096],
+    order: &[u64],
+    certs: &[u64],
+    n: usize,
+    lists: &[u8],
+    end: usize,
+    round: Round,
+) -> Offsets
+    requires { ⌜ RoundListed (now keys) (now order) n (now certs) (now marks) (now lists) end (round .0) ⌝ }
+    requires { ⌜ at + length (roundBy (now keys) (now order) n (now certs) (now marks) (now lists) end (round .0)) * 37 ≤ length (now b) ⌝ }
+    ensures { λ r. ⌜ (r .end ≡ end - countBy (now (keys .entry)) (now (order .entry)) n (now (marks .entry)) (round .0)) × Wrote (now (keys .entry)) at (now (b .entry))
+        (roundBy (now (keys .entry)) (now (order .entry)) n (now (certs .entry)) (now (marks .entry)) (now (lists .entry)) end (round .0)) (now (b .exit)) (r .at) ⌝ }
+{
+    let span = span_at(keys, order, n, round);
+    let count = count_linked(marks, order, span.low, span.high);
+    let ranks = rank_round(marks, order, span.low, span.high);
+    let from = end - count;
+    let next = put_round(b, at, keys, certs, &ranks, lists, from, count);
+    Offsets {
+        at: next,
+        end: from,
+    }
+}
+
+// The ids of the history, rounds rising from `lowest` to `round`; their lists lie backwards from `end`.
 pub fn put_points(
     b: &mut [u8],
     at: usize,
@@ -26,25 +116,31 @@ pub fn put_points(
     marks: &[bool; 4096],
     order: &[u64],
     certs: &[u64],
-    low: usize,
-    high: usize,
+    n: usize,
+    lists: &[u8],
+    end: usize,
+    round: Round,
+    lowest: Round,
 ) -> usize
-    requires { ⌜ (low ≤ high) × (high ≤ length (now order)) × (length (now certs) ≤ 4096) × (length (now certs) * 8 ≤ length (now keys)) × Inside (now order) high (length (now certs)) ⌝ }
-    requires { ⌜ at + length (picked (now order) (isUncommitted (now certs) (now marks)) low (high - low)) * 37 ≤ length (now b) ⌝ }
-    ensures { λ r. ⌜ (r ≡ at + length (picked (now (order .entry)) (isUncommitted (now (certs .entry)) (now (marks .entry))) low (high - low)) * 37) ×
-        (now (b .exit) ≡ written (now (b .entry)) at (joined idBytes (map (placeId (now (keys .entry))) (picked (now (order .entry)) (isUncommitted (now (certs .entry))
-        (now (marks .entry))) low (high - low))))) ⌝ }
+    requires { ⌜ Listable (now keys) (now order) n (now certs) (now marks) (now lists) end (round .0) (lowest .0) ⌝ }
+    requires { ⌜ at + length (historyBy (now keys) (now order) n (now certs) (now marks) (now lists) end (round .0) (lowest .0)) * 37 ≤ length (now b) ⌝ }
+    ensures { λ r. ⌜ Wrote (now (keys .entry)) at (now (b .entry))
+        (historyBy (now (keys .entry)) (now (order .entry)) n (now (certs .entry)) (now (marks .entry)) (now (lists .entry)) end (round .0) (lowest .0)) (now (b .exit)) r ⌝ }
 {
-    let mut end = at;
-    let mut i = low;
-    while i < high {
-        let q = laws::slot(order[i]);
-        if is_uncommitted(marks, certs, q) {
-            end = put_id(b, end, keys, q);
-        }
-        i += 1;
+    let above = round.plus(1);
+    let rounds = above.minus(lowest.0);
+    let total = rounds.0;
+    let mut next = at;
+    let mut from = end;
+    let mut k: u32 = 0;
+    while k < total {
+        let r = lowest.plus(k);
+        let done = put_one(b, next, keys, marks, order, certs, n, lists, from, r);
+        next = done.at;
+        from = done.end;
+        k += 1;
     }
-    end
+    next
 }
 
 fn flag(x: bool) -> u64
@@ -88,22 +184,37 @@ pub fn put_record(
     marks: &[bool; 4096],
     order: &[u64],
     certs: &[u64],
-    low: usize,
-    high: usize,
+    n: usize,
+    lists: &[u8],
+    end: usize,
+    round: Round,
+    lowest: Round,
     anchor: usize,
     proof: usize,
     executable: bool,
     previous: Round,
     count: usize,
 ) -> usize
-    requires { ⌜ (low ≤ high) × (high ≤ length (now order)) × (length (now certs) ≤ 4096) × (length (now certs) * 8 ≤ length (now keys)) × Inside (now order) high (length (now certs)) ⌝ }
+    requires { ⌜ Listable (now keys) (now order) n (now certs) (now marks) (now lists) end (round .0) (lowest .0) ⌝ }
     requires { ⌜ (anchor < length (now certs)) × (proof < length (now certs)) × (count ≡ length
-        (picked (now order) (isUncommitted (now certs) (now marks)) low (high - low))) × (at + 83 + count * 37 ≤ length (now b)) ⌝ }
-    ensures { λ r. ⌜ (r ≡ at + 83 + count * 37) × (now (b .exit) ≡ written (now (b .entry)) at
-        (recordOf (now (keys .entry)) anchor proof executable (previous .0) (picked (now (order .entry)) (isUncommitted (now (certs .entry)) (now (marks .entry))) low (high - low)))) ⌝ }
+        (historyBy (now keys) (now order) n (now certs) (now marks) (now lists) end (round .0) (lowest .0))) × (at + 83 + count * 37 ≤ length (now b)) ⌝ }
+    ensures { λ r. ⌜ (r ≡ at + 83 + count * 37) × (now (b .exit) ≡ written (now (b .entry)) at (recordOf (now (keys .entry)) anchor proof executable (previous .0)
+        (historyBy (now (keys .entry)) (now (order .entry)) n (now (certs .entry)) (now (marks .entry)) (now (lists .entry)) end (round .0) (lowest .0)))) ⌝ }
 {
     let next = put_head(b, at, keys, anchor, proof, executable, previous, count);
-    put_points(b, next, keys, marks, order, certs, low, high)
+    put_points(
+        b,
+        next,
+        keys,
+        marks,
+        order,
+        certs,
+        n,
+        lists,
+        end,
+        round,
+        lowest,
+    )
 }
 
 // Whether an anchor of this round is executable.

@@ -44,7 +44,7 @@ module _ (k : Kind) (f : List ℕ) (s : Sized k f) where
 
   pub commit-long : k ≡ Commit → 37 ≤ length f
   unfolding sizeOf
-  commit-long e = long k Commit f s e refl
+  commit-long e = omega (arith, long k Commit f s e refl)
 
   pub outlook-long : k ≡ Outlook → 37 ≤ length f
   unfolding sizeOf

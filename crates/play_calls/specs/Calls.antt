@@ -28,7 +28,7 @@ use Rattle.commit_call.specs.Commit.{commitLeft}
 use Rattle.commit_outlook.specs.Outlook.{outlookLeft}
 use Rattle.commit_remove.specs.Remove.{removeLeft}
 use Rattle.trace.specs.Numbers.{numberAt, idAt, pointIdAt, id-read}
-use Rattle.trace.specs.Head.{linksIn}
+use Rattle.trace.specs.Head.{linksIn, listsIn}
 use Rattle.trace.specs.Fields.{callBy, startArgsIn, infoIn, sinceIn, start-read}
 use Rattle.trace.specs.Links.{linksWords, info-read, links-are, links-taken}
 use Rattle.trace.specs.declared.head.Kind.{Kind}
@@ -46,7 +46,7 @@ modelBy kind.Round f b = roundLeft (numberAt f 0 4) (numberAt f 4 4)
 modelBy kind.Name f b = nameLeft (pointIdAt f 0)
 modelBy kind.Resolve f b = resolveLeft (pointIdAt f 0) (infoIn f) (linksWords f (linksIn f))
 modelBy kind.Certify f b = certifyLeft (pointIdAt f 0)
-modelBy kind.Commit f b = commitLeft (idAt f 0) b
+modelBy kind.Commit f b = commitLeft (idAt f 0) (listsIn f) b
 modelBy kind.Remove f b = removeLeft (sinceIn f) (numberAt f 0 4) b
 modelBy kind.Drop f b = dropLeft (numberAt f 0 4)
 modelBy kind.Gap f b = gapLeft
@@ -91,9 +91,9 @@ module _ (d : Tables) (o : Left) where
       unfolding callBy modelBy
       certify-made h = made (λ (z : PointId). calls.certify (idOf z)) certifyLeft i (pointIdAt f 0) _ e (ap calls.certify (id-read f 0 (pointIdAt f 0) refl)) h
 
-      pub commit-made : Did (calls.commit (idOf i) w) (commitLeft (idOf i) w) d o → Did (callBy kind.Commit f w) (modelBy kind.Commit f w) d o
+      pub commit-made : (l : List ℕ) → l ≡ listsIn f → Did (calls.commit (idOf i) l w) (commitLeft (idOf i) l w) d o → Did (callBy kind.Commit f w) (modelBy kind.Commit f w) d o
       unfolding callBy modelBy
-      commit-made h = made (λ (z : Id). calls.commit z w) (λ (z : Id). commitLeft z w) (idOf i) (idAt f 0) _ (id-read f 0 i e) refl h
+      commit-made l g h = made-two (λ (z : Id) (y : List ℕ). calls.commit z y w) (λ (z : Id) (y : List ℕ). commitLeft z y w) (idOf i) (idAt f 0) l (listsIn f) _ (id-read f 0 i e) g refl h
 
       pub outlook-made : Did (calls.outlook (idOf i) w) (outlookLeft (idOf i) w) d o → Did (callBy kind.Outlook f w) (modelBy kind.Outlook f w) d o
       unfolding callBy modelBy

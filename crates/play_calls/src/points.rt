@@ -78,7 +78,7 @@ pub fn play_certify(
     certify(s, keys, links, certs, order, id)
 }
 
-// Commits the anchors that the point of the fields triggers; b: the buffer for their records.
+// Commits the anchors that the point of the fields triggers, with the place lists after it; b: the buffer for their records.
 pub fn play_commit(
     s: State,
     keys: &[u64],
@@ -94,7 +94,7 @@ pub fn play_commit(
         (left r (now (keys .entry)) (now (links .entry)) (now (certs .exit)) (now (order .entry)) (now (b .exit))) ⌝ }
 {
     let id = id_of(f, 0);
-    commit(s, keys, links, certs, order, id, b)
+    commit(s, keys, links, certs, order, id, &f[37..], b)
 }
 
 // Tells the anchors that a commit of the point of the fields would yield; b: the buffer for them.

@@ -7,6 +7,7 @@ ghost use Rattle.play.specs.Runs.{Runs, Ends};
 use crate::anchors::anchors_of;
 use crate::anchors::write_anchors;
 use crate::lines::write_line;
+use crate::looks::Reach;
 use crate::looks::write_looks;
 use crate::removal::write_removal;
 use commit_answer::answer::Answer;
@@ -22,11 +23,22 @@ pub struct Part {
     pub broken: bool,
 }
 
+// Which rounds a history has, by the state.
+fn reach_of(s: State) -> Reach {
+    let genesis = s.genesis;
+    let bottom = s.bottom;
+    Reach {
+        genesis,
+        rounds: s.commit_history_rounds,
+        bottom,
+    }
+}
+
 // The lines of what stands in the buffer: an outlook's anchors, a remove's peers and events, or the records of a commit.
-fn write_answered(kind: Kind, b: &[u8], answer: Answer) {
+fn write_answered(kind: Kind, b: &[u8], answer: Answer, reach: Reach) {
     match kind {
         Kind::Outlook => {
-            write_looks(b, anchors_of(answer));
+            write_looks(b, anchors_of(answer), reach);
         }
         Kind::Remove => {
             write_removal(b, answer);
@@ -67,7 +79,7 @@ pub fn play_part(
         let next = outcome.state;
         let end = played.end;
         now = next;
-        write_answered(kind, b, answer);
+        write_answered(kind, b, answer, reach_of(now));
         write_line(kind, answer, std::num::wrapping_add_u64(base, at as u64));
         if end <= at {
             broken = true;

@@ -213,11 +213,11 @@ commitEnd f = record { answer = ended (f .stopped); store = f .store; buffer = f
     ended none = anchors (f .anchors)
     ended (some r) = refused r (f .anchors)
 
--- "A commit does its whole walk first"
-unfoldable pub doCommit : Store → Id → List ℕ → Outcome
-doCommit s i b = elim (anchorsOf s i) [
+-- "A commit does its whole walk first"; l: the lent lists, b: the lent buffer
+unfoldable pub doCommit : Store → Id → List ℕ → List ℕ → Outcome
+doCommit s i l b = elim (anchorsOf s i) [
   | bad r ↦ record { answer = refused r 0; store = s; buffer = b }
-  | good es ↦ commitEnd (commitAll s b 0 0 es)
+  | good es ↦ commitEnd (commitAll s l b 0 0 es)
 ]
 
 -- "It changes nothing in the store. It is refused as the commit would be .. with nothing written and 0 finished anchors."
@@ -292,7 +292,7 @@ pub data Call : Type 0 where
   resolve : Id → Resolution → Call
   certify : Id → Call
   gapQuestion : Call
-  commit : Id → List ℕ → Call
+  commit : Id → List ℕ → List ℕ → Call
   outlook : Id → List ℕ → Call
   remove : ℕ → Option ℕ → List ℕ → Call
   drop : ℕ → Call
@@ -306,7 +306,7 @@ bufferOf (name i) = []
 bufferOf (resolve i t) = []
 bufferOf (certify i) = []
 bufferOf gapQuestion = []
-bufferOf (commit i b) = b
+bufferOf (commit i l b) = b
 bufferOf (outlook i b) = b
 bufferOf (remove r from b) = b
 bufferOf (drop r) = []
@@ -320,14 +320,14 @@ perform s (name i) = finish s (doName s i)
 perform s (resolve i t) = finish s (doResolve s i t)
 perform s (certify i) = finish s (doCertify s i)
 perform s gapQuestion = doGapQuestion s
-perform s (commit i b) = doCommit s i b
+perform s (commit i l b) = doCommit s i l b
 perform s (outlook i b) = doOutlook s i b
 perform s (remove r from b) = doRemove s r from b
 perform s (drop r) = doDrop s r
 
 -- 2: "not started"; of the calls only start is for tables that don't count as started
 unfoldable pub isStart : Call → Bool
-isStart c = elim c [ start b ↦ true | resetAll ↦ false | round r peers ↦ false | name i ↦ false | resolve i t ↦ false | certify i ↦ false | gapQuestion ↦ false | commit i b ↦ false | outlook i b ↦ false | remove r from b ↦ false | drop r ↦ false ]
+isStart c = elim c [ start b ↦ true | resetAll ↦ false | round r peers ↦ false | name i ↦ false | resolve i t ↦ false | certify i ↦ false | gapQuestion ↦ false | commit i l b ↦ false | outlook i b ↦ false | remove r from b ↦ false | drop r ↦ false ]
 
 abbrev pub unstarted : Store → Call → Outcome
 unstarted s c = record { answer = refused (number 2) 0; store = s; buffer = bufferOf c }

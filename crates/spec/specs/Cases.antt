@@ -1,4 +1,4 @@
--- The cases of 01 as one table of rows with one theorem (01: 'Cases'; K9 goes through a program).
+-- The cases of 01 as one table of rows with one theorem (01: 'Cases'; K9 goes through a program). K13 is lent lists (02: N1).
 use Prim.Native.Nat.{ℕ}
 use mathlib.Core.Path.{_≡_, refl}
 use mathlib.Core.List.{List, [], _∷_, _++_, map, List·Memᴰ}
@@ -31,7 +31,7 @@ thirteen =
     ∷ certify (id 13 0 130) ∷ []
 
 abbrev k13 : Outcome
-k13 = call (after (blank 6) thirteen) (commit (id 15 0 150) (replicate 300 0))
+k13 = call (after (blank 6) thirteen) (commit (id 15 0 150) (0 ∷ 0 ∷ 1 ∷ 0 ∷ []) (replicate 300 0))
 
 -- the number of points of the first record
 abbrev points : List ℕ → ℕ
@@ -90,7 +90,7 @@ rows =
     ∷ record { case = 8; given = numbers (k8 .answer) ++ bounds (k8 .store); expected = 1 ∷ 20 ∷ 12 ∷ 17 ∷ [] }
     ∷ record { case = 10; given = score (record { wasLeader = 0; skippedRounds = 10; validPoints = 0; pointsProved = 0; equivocated = 2; transInvalid = 0; invalid = 0; illFormed = 0; referencesSkipped = 0 }) ∷ []; expected = 70 ∷ [] }
     ∷ record { case = 11; given = prevAnchor (blank 6) (link 11) ∷ prevAnchor (blank 6) (link 12) ∷ []; expected = 0 ∷ 11 ∷ [] }
-    ∷ record { case = 12; given = numbers (call proved12 (commit (id 12 0 120) []) .answer); expected = 3 ∷ 0 ∷ [] }
+    ∷ record { case = 12; given = numbers (call proved12 (commit (id 12 0 120) [] []) .answer); expected = 3 ∷ 0 ∷ [] }
     ∷ record { case = 13; given = numbers (k13 .answer) ++ (points (k13 .buffer) ∷ []); expected = 3 ∷ 1 ∷ 4 ∷ [] }
     ∷ []
 

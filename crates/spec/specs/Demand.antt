@@ -14,7 +14,7 @@ use Rattle.spec.specs.Store.{Resolution, Store, idAt, find, statusAt, re
 use Rattle.spec.specs.Paths.{Path}
 use Rattle.spec.specs.Rules.{countsAsStarted}
 use Rattle.spec.specs.Chain.{Refusal, number, Out, bad, good, EnqueuedAnchor, anchorsOf}
-use Rattle.spec.specs.History.{limit, recordBytes, testAnchor, dequeued}
+use Rattle.spec.specs.History.{limit, afterLists, recordBytes, testAnchor, dequeued}
 use Rattle.spec.specs.Calls.{Answer, done, flag, anchors, refused, Outcome, withoutBuffer, StartArgs, Call, start, resetAll, round, name, resolve, certify, gapQuestion, commit, outlook, remove, drop as dropTo, call}
 use Rattle.spec.specs.HeightEquations.{Sized}
 
@@ -22,7 +22,7 @@ use Rattle.spec.specs.HeightEquations.{Sized}
 
 -- "The list holds no reset"; a digest has 32 bytes
 abbrev pub InList : Call → Type 0
-InList c = elim c [ start b ↦ Unit {0} | resetAll ↦ ⊥ | round r peers ↦ Unit {0} | name i ↦ i .digest < 256 ^ 32 | resolve i t ↦ Unit {0} | certify i ↦ Unit {0} | gapQuestion ↦ Unit {0} | commit i b ↦ Unit {0} | outlook i b ↦ Unit {0} | remove r from b ↦ Unit {0} | dropTo r ↦ Unit {0} ]
+InList c = elim c [ start b ↦ Unit {0} | resetAll ↦ ⊥ | round r peers ↦ Unit {0} | name i ↦ i .digest < 256 ^ 32 | resolve i t ↦ Unit {0} | certify i ↦ Unit {0} | gapQuestion ↦ Unit {0} | commit i l b ↦ Unit {0} | outlook i b ↦ Unit {0} | remove r from b ↦ Unit {0} | dropTo r ↦ Unit {0} ]
 
 abbrev pub AllInList : List Call → Type 0
 AllInList [] = Unit {0}
@@ -62,7 +62,7 @@ unfoldable pub finished : Answer → ℕ
 finished a = elim a [ done ↦ 0 | flag b ↦ 0 | anchors n ↦ n | refused r n ↦ n ]
 
 unfoldable pub wrote : Store → Call → Outcome → List History
-wrote s c o = elim c [ start b ↦ [] | resetAll ↦ [] | round r peers ↦ [] | name i ↦ [] | resolve i t ↦ [] | certify i ↦ [] | gapQuestion ↦ [] | commit i b ↦ readRecords s (finished (o .answer)) (o .buffer) | outlook i b ↦ [] | remove r from b ↦ [] | dropTo r ↦ [] ]
+wrote s c o = elim c [ start b ↦ [] | resetAll ↦ [] | round r peers ↦ [] | name i ↦ [] | resolve i t ↦ [] | certify i ↦ [] | gapQuestion ↦ [] | commit i l b ↦ readRecords s (finished (o .answer)) (o .buffer) | outlook i b ↦ [] | remove r from b ↦ [] | dropTo r ↦ [] ]
 
 unfoldable pub histories : Store → List Call → List History
 histories s [] = []
@@ -79,7 +79,7 @@ unfoldable pub accepted : Id → Resolution → Answer → List Given
 accepted i t a = elim a [ done ↦ record { who = i; links = linksOf (t .includes) (t .witness) } ∷ [] | flag b ↦ [] | anchors n ↦ [] | refused r n ↦ [] ]
 
 unfoldable pub gave : Call → Answer → List Given
-gave c a = elim c [ start b ↦ [] | resetAll ↦ [] | round r peers ↦ [] | name i ↦ [] | resolve i t ↦ accepted i t a | certify i ↦ [] | gapQuestion ↦ [] | commit i b ↦ [] | outlook i b ↦ [] | remove r from b ↦ [] | dropTo r ↦ [] ]
+gave c a = elim c [ start b ↦ [] | resetAll ↦ [] | round r peers ↦ [] | name i ↦ [] | resolve i t ↦ accepted i t a | certify i ↦ [] | gapQuestion ↦ [] | commit i l b ↦ [] | outlook i b ↦ [] | remove r from b ↦ [] | dropTo r ↦ [] ]
 
 unfoldable pub resolutions : Store → List Call → List Given
 resolutions s [] = []
@@ -97,31 +97,32 @@ pub record Edge (G : List Given) (x y : Id) : Type 0 where
 -- ---- what each call of the list does
 
 -- "each anchor, oldest first, is tested for 22, for 13 to 15 over its history downwards, then 17, 18, 20, 21 .. Finished anchors keep their
--- records and marks": the tests of the anchor e, on the store and with the bytes of the buffer that the anchors before it leave
-unfoldable pub testAfter : Store → ℕ → List EnqueuedAnchor → EnqueuedAnchor → Out ℕ
-testAfter s left [] e = testAnchor s left (length (recordBytes s e)) (e .anchor)
-testAfter s left (x ∷ before) e = testAfter (dequeued s x) (left - length (recordBytes s x)) before e
+-- records and marks", 24 "after 20 and before 21" (02, N1): the tests of the anchor e, on the store, with the lists and with the bytes of the
+-- buffer that the anchors before it leave
+unfoldable pub testAfter : Store → List ℕ → ℕ → List EnqueuedAnchor → EnqueuedAnchor → Out ℕ
+testAfter s l left [] e = testAnchor s l left (length (recordBytes s l e)) (e .anchor)
+testAfter s l left (x ∷ before) e = testAfter (dequeued s x) (afterLists s (x .anchor) l) (left - length (recordBytes s l x)) before e
 
 -- "stopping before one that the tests above refuse", with just that refusal; where none is refused, all anchors of the chain are finished
-abbrev pub Stops : Store → ℕ → List EnqueuedAnchor → List EnqueuedAnchor → Answer → Type 0
-Stops s left first [] a = a ≡ anchors (length first)
-Stops s left first (e ∷ more) a = (r : Refusal) × (testAfter s left first e ≡ bad r) × (a ≡ refused r (length first))
+abbrev pub Stops : Store → List ℕ → ℕ → List EnqueuedAnchor → List EnqueuedAnchor → Answer → Type 0
+Stops s l left first [] a = a ≡ anchors (length first)
+Stops s l left first (e ∷ more) a = (r : Refusal) × (testAfter s l left first e ≡ bad r) × (a ≡ refused r (length first))
 
 -- "one for each anchor of its chain, oldest first": the records in the buffer are those of the chain's first anchors, and these pass the tests
-pub record OneForEach (s : Store) (b : List ℕ) (chain : List EnqueuedAnchor) (o : Outcome) : Type 0 where
+pub record OneForEach (s : Store) (l b : List ℕ) (chain : List EnqueuedAnchor) (o : Outcome) : Type 0 where
   pub first : List EnqueuedAnchor
   pub others : List EnqueuedAnchor
   pub oldest : chain ≡ first ++ others
   pub one : map (λ (h : History). h .anchor) (readRecords s (finished (o .answer)) (o .buffer)) ≡ map (λ (e : EnqueuedAnchor). idAt s (e .anchor)) first
-  pub pass : (before more : List EnqueuedAnchor) (e : EnqueuedAnchor) → first ≡ before ++ (e ∷ more) → (n : ℕ) × (testAfter s (length b) before e ≡ good n)
-  pub stop : Stops s (length b) first others (o .answer)
+  pub pass : (before more : List EnqueuedAnchor) (e : EnqueuedAnchor) → first ≡ before ++ (e ∷ more) → (n : ℕ) × (testAfter s l (length b) before e ≡ good n)
+  pub stop : Stops s l (length b) first others (o .answer)
 
 -- "A commit turned away, or refused by the end of its walk, writes none; any other writes one for each anchor of its chain, oldest first,
 -- stopping before one that the tests above refuse."
-abbrev pub Writes : Store → List ℕ → Out (List EnqueuedAnchor) → Outcome → Type 0
-Writes s b (good []) o = o ≡ record { answer = anchors 0; store = s; buffer = b }
-Writes s b (bad r) o = o ≡ record { answer = refused r 0; store = s; buffer = b }
-Writes s b (good (e ∷ es)) o = OneForEach s b (e ∷ es) o
+abbrev pub Writes : Store → List ℕ → List ℕ → Out (List EnqueuedAnchor) → Outcome → Type 0
+Writes s l b (good []) o = o ≡ record { answer = anchors 0; store = s; buffer = b }
+Writes s l b (bad r) o = o ≡ record { answer = refused r 0; store = s; buffer = b }
+Writes s l b (good (e ∷ es)) o = OneForEach s l b (e ∷ es) o
 
 -- "a start inside it is refused": by 1, or by 2 as "start twice"
 abbrev pub StartRefused : Store → Outcome → Type 0
@@ -132,11 +133,11 @@ isDone a = elim a [ done ↦ true | flag b ↦ false | anchors n ↦ false | ref
 
 -- the call adds the round r: "Adding a round at or below the top does nothing."
 unfoldable pub adds : Store → Call → Answer → ℕ → Bool
-adds s c a r = elim c [ start b ↦ false | resetAll ↦ false | round x peers ↦ isDone a && (eqb r x && ltb (s .top) x) | name i ↦ false | resolve i t ↦ false | certify i ↦ false | gapQuestion ↦ false | commit i b ↦ false | outlook i b ↦ false | remove x from b ↦ false | dropTo x ↦ false ]
+adds s c a r = elim c [ start b ↦ false | resetAll ↦ false | round x peers ↦ isDone a && (eqb r x && ltb (s .top) x) | name i ↦ false | resolve i t ↦ false | certify i ↦ false | gapQuestion ↦ false | commit i l b ↦ false | outlook i b ↦ false | remove x from b ↦ false | dropTo x ↦ false ]
 
 -- the call drains the round r: a drop what is below its round, a remove, unless refused, what is more than H below its own; never the top
 unfoldable pub drains : Store → Call → Answer → ℕ → Bool
-drains s c a r = elim c [ start b ↦ false | resetAll ↦ false | round x peers ↦ false | name i ↦ false | resolve i t ↦ false | certify i ↦ false | gapQuestion ↦ false | commit i b ↦ false | outlook i b ↦ false | remove x from b ↦ isDone a && (ltb r (x - s .conf .historyRounds) && ltb r (s .top)) | dropTo x ↦ ltb r x && ltb r (s .top) ]
+drains s c a r = elim c [ start b ↦ false | resetAll ↦ false | round x peers ↦ false | name i ↦ false | resolve i t ↦ false | certify i ↦ false | gapQuestion ↦ false | commit i l b ↦ false | outlook i b ↦ false | remove x from b ↦ isDone a && (ltb r (x - s .conf .historyRounds) && ltb r (s .top)) | dropTo x ↦ ltb r x && ltb r (s .top) ]
 
 -- "A round is retained from the start or call that adds it until a drop or remove drains it"
 abbrev pub Retains : Store → Call → Outcome → Type 0
@@ -144,7 +145,7 @@ Retains s c o = (r : ℕ) → retained (o .store) r ≡ ((retained s r || adds s
 
 -- a call that finds the store s and leaves o
 abbrev pub AsSaid : Store → Call → Outcome → Type 0
-AsSaid s c o = ((i : Id) (b : List ℕ) → c ≡ commit i b → Writes s b (anchorsOf s i) o) × ((b : StartArgs) → c ≡ start b → StartRefused s o) × Retains s c o
+AsSaid s c o = ((i : Id) (l b : List ℕ) → c ≡ commit i l b → Writes s l b (anchorsOf s i) o) × ((b : StartArgs) → c ≡ start b → StartRefused s o) × Retains s c o
 
 abbrev pub AllAsSaid : Store → List Call → Type 0
 AllAsSaid s [] = Unit {0}
@@ -175,18 +176,19 @@ FirstHalf = (s : Store) (b : StartArgs) (cs : List Call) → call s (start b) .a
 -- Ours, of the demand: late rounds, names, resolutions and certificates. 01: "No certificate in this list names a point that has status 2
 -- at that call."
 abbrev pub Arrives : Store → Call → Type 0
-Arrives s c = elim c [ start b ↦ ⊥ | resetAll ↦ ⊥ | round r peers ↦ Unit {0} | name i ↦ Unit {0} | resolve i t ↦ Unit {0} | certify i ↦ (q : ℕ) → find s i ≡ some q → statusAt s q ≢ 2 | gapQuestion ↦ ⊥ | commit i b ↦ ⊥ | outlook i b ↦ ⊥ | remove r from b ↦ ⊥ | dropTo r ↦ ⊥ ]
+Arrives s c = elim c [ start b ↦ ⊥ | resetAll ↦ ⊥ | round r peers ↦ Unit {0} | name i ↦ Unit {0} | resolve i t ↦ Unit {0} | certify i ↦ (q : ℕ) → find s i ≡ some q → statusAt s q ≢ 2 | gapQuestion ↦ ⊥ | commit i l b ↦ ⊥ | outlook i b ↦ ⊥ | remove r from b ↦ ⊥ | dropTo r ↦ ⊥ ]
 
 abbrev pub AllArrive : Store → List Call → Type 0
 AllArrive s [] = Unit {0}
 AllArrive s (c ∷ cs) = Arrives s c × AllArrive (call s c .store) cs
 
 -- "The second list begins at any tables that count as started. The commit after it is compared with the same one made there at once: the
--- whole answer, every byte of the buffer." The trigger yields an anchor and no refusal.
+-- whole answer, every byte of the buffer." 02, N1: "late arrivals change no answer when the lists are the same too". The trigger yields an
+-- anchor and no refusal.
 abbrev pub SecondHalf : Type 0
-SecondHalf = (s : Store) → Sized s → countsAsStarted s ≡ true → (i : Id) (b : List ℕ) (n : ℕ) → call s (commit i b) .answer ≡ anchors (suc n)
+SecondHalf = (s : Store) → Sized s → countsAsStarted s ≡ true → (i : Id) (l b : List ℕ) (n : ℕ) → call s (commit i l b) .answer ≡ anchors (suc n)
     → (cs : List Call) → AllArrive s cs
-    → (call (after s cs) (commit i b) .answer ≡ call s (commit i b) .answer) × (call (after s cs) (commit i b) .buffer ≡ call s (commit i b) .buffer)
+    → (call (after s cs) (commit i l b) .answer ≡ call s (commit i l b) .answer) × (call (after s cs) (commit i l b) .buffer ≡ call s (commit i l b) .buffer)
 
 -- "This is a single claim about the whole list, not one for each call."
 abbrev pub Demand3 : Type 0

@@ -19,12 +19,13 @@ use Rattle.spec.specs.Store.{Resolution, Progress, Memory, Store, idAt, 
 use Rattle.spec.specs.Paths.{Path, here, step, LinkedTo}
 use Rattle.spec.specs.Rules.{isPeer, placesOk}
 use Rattle.spec.specs.Chain.{Refusal, Out, bad, good, EnqueuedAnchor, orZero, anchorsOf}
-use Rattle.spec.specs.History.{limit, lowest, inHistory, history, recordBytes, testAnchor, dequeued, Finished, commitAll}
+use Rattle.spec.specs.History.{limit, lowest, inHistory, history, afterLists, recordBytes, testAnchor, dequeued, Finished, commitAll}
 use Rattle.spec.specs.Calls.{Outcome, finish, StartArgs, startOk, memoryKept, doStart, begun, doResolve, commitEnd, doCommit, drained, newBottom, Call, start, resetAll, round, name, resolve, certify, gapQuestion, commit, outlook, remove, drop as dropTo, perform, call}
 use Rattle.spec.specs.Graph.{snoc, path-down}
 use Rattle.spec.specs.Links.{down, linked}
 use Rattle.spec.specs.WellFormed.{Wf}
-use Rattle.spec.specs.Order.{history-elim, history-named, history-once}
+use Rattle.spec.specs.Order.{history-elim, history-named}
+use Rattle.spec.specs.OrderInRound.{order-mem, order-once, order-length}
 use Rattle.spec.specs.Accepted.{finish-store, gapQuestion-way, remove-way, drop-way, round-way, name-way, resolve-way, certify-way}
 use Rattle.spec.specs.Demand.{InList, AllInList, History, readRecords, finished, wrote, histories, Given, accepted, gave, resolutions, Edge, Exact, AllExact, Writes, StartRefused, AsSaid, AllAsSaid, FirstHalf, Demand3}
 use Rattle.spec.specs.Demand3Second.{commit-is, second-half}
@@ -88,6 +89,18 @@ history-length : (s : Store) (a : ℕ) → length (history s a) ≤ s .places
 unfolding history
 history-length s a = subst (λ n. n ≤ s .places) (sym (sort-length rises (map (idAt s) (those (s .places) (inHistory s a))) ∙ length-map (those (s .places) (inHistory s a)) (idAt s))) (those-most (s .places) (inHistory s a))
 
+-- the ids of a finished anchor's record are those of its history
+ids-mem : (hs : List Id) (e : Event) → Right hs e → (x : Id) → List·Memᴰ x (ids e) ↔ List·Memᴰ x (history (e .from) (e .enq .anchor))
+ids-mem hs e r x = order-mem (e .from) (r .inv .wf) (e .enq .anchor) (r .next .there) (e .list) (r .listed) x
+
+-- they are exactly what paths of links reach, down to the lowest round, and no history before held
+ids-are : (hs : List Id) (e : Event) → Right hs e → (x : Id)
+    → List·Memᴰ x (ids e) ↔ ((q : ℕ) × (idAt (e .from) q ≡ x) × Path (LinkedTo (e .from)) (e .enq .anchor) q × (lowest (e .from) (e .enq .anchor) ≤ x .round) × (List·Memᴰ x hs → ⊥))
+ids-are hs e r x =
+    let m = ids-mem hs e r x in
+    let h = history-is (e .from) hs (r .inv) (e .enq .anchor) (r .next) x in
+    ((λ k. h .0 (m .0 k)), λ k. m .1 (h .1 k))
+
 module _ (s : Store) (hs : List Id) (e : Event) (r : Right hs e) (f : Frame s (e .from)) where
   -- what a path reaches down to the limit is resolved
   solid : (q : ℕ) → Path (LinkedTo (e .from)) (e .enq .anchor) q → lowest (e .from) (e .enq .anchor) ≤ roundAt (e .from) q → resolved (e .from .pt q) ≡ true
@@ -102,11 +115,11 @@ module _ (s : Store) (hs : List Id) (e : Event) (r : Right hs e) (f : Frame s (e
   ends-named p q here n = n
   ends-named p q (step {q = x} k w) n = ends-named x q w (linked _ _ k .named-is)
 
-  pub event-exact : (G L : List Given) → Log (e .from) G → New G L → Exact (G ++ L) hs (readAs s (e .from) (e .enq))
+  pub event-exact : (G L : List Given) → Log (e .from) G → New G L → Exact (G ++ L) hs (readAs s (e .from) (e .list) (e .enq))
   event-exact G L g n x = ((λ m. to (is .0 m)), λ (k, l, h, w, o). is .1 (back k l w o))
     where
-      is : List·Memᴰ x (history (e .from) (e .enq .anchor)) ↔ ((q : ℕ) × (idAt (e .from) q ≡ x) × Path (LinkedTo (e .from)) (e .enq .anchor) q × (lowest (e .from) (e .enq .anchor) ≤ x .round) × (List·Memᴰ x hs → ⊥))
-      is = history-is (e .from) hs (r .inv) (e .enq .anchor) (r .next) x
+      is : List·Memᴰ x (ids e) ↔ ((q : ℕ) × (idAt (e .from) q ≡ x) × Path (LinkedTo (e .from)) (e .enq .anchor) q × (lowest (e .from) (e .enq .anchor) ≤ x .round) × (List·Memᴰ x hs → ⊥))
+      is = ids-are hs e r x
 
       same-limit : limit (s .conf) (roundAt (e .from) (e .enq .anchor)) ≡ limit (e .from .conf) (roundAt (e .from) (e .enq .anchor))
       same-limit = ap (λ c. limit c (roundAt (e .from) (e .enq .anchor))) (sym (f .2))
@@ -141,28 +154,28 @@ module _ (s : Store) (hs : List Id) (e : Event) (r : Right hs e) (f : Frame s (e
   pub event-readable : Readable e
   event-readable = record {
     anchor = fit (e .enq .anchor) (r .next .there);
-    points = λ x m. let (q, h, i) = history-elim (e .from) (r .inv .wf) (e .enq .anchor) (r .next .there) x m in subst Fits i (fit q (history-named (e .from) (r .inv .wf) (e .enq .anchor) (r .next .there) q h));
+    points = λ x m. let (q, h, i) = history-elim (e .from) (r .inv .wf) (e .enq .anchor) (r .next .there) x (ids-mem hs e r x .0 m) in subst Fits i (fit q (history-named (e .from) (r .inv .wf) (e .enq .anchor) (r .next .there) q h));
     few = small;
   }
     where
       fit : (q : ℕ) → e .from .pt q .named ≡ true → Fits (idAt (e .from) q)
       fit q n = (omega (arith, r .inv .wf .kept q n, r .inv .wf .high), omega (arith, author-small (e .from) (idAt (e .from) q) (r .inv .wf .peer q n)), r .inv .wide q n)
 
-      small : length (history (e .from) (e .enq .anchor)) < 256 ^ 4
-      small = omega (arith, history-length (e .from) (e .enq .anchor), places-small (e .from .places) (r .inv .wf .places-ok))
+      small : length (ids e) < 256 ^ 4
+      small = omega (arith, order-length (e .from) (r .inv .wf) (e .enq .anchor) (r .next .there) (e .list) (r .listed), history-length (e .from) (e .enq .anchor), places-small (e .from .places) (r .inv .wf .places-ok))
 
 -- ---- the histories of one call
 
 -- what every commit mark keeps holds of each store from which an anchor was committed
-passed-from : (P : Store → Type 0) → ((s : Store) (e : EnqueuedAnchor) → P s → P (dequeued s e)) → (s : Store) (left : ℕ) (es : List EnqueuedAnchor) → P s → (e : Event) → List·Memᴰ e (passed s left es) → P (e .from)
+passed-from : (P : Store → Type 0) → ((s : Store) (e : EnqueuedAnchor) → P s → P (dequeued s e)) → (s : Store) (ls : List ℕ) (left : ℕ) (es : List EnqueuedAnchor) → P s → (e : Event) → List·Memᴰ e (passed s ls left es) → P (e .from)
 unfolding passed
-passed-from P k s left [] h e m = absurd (List·Memᴰ·not-nil m)
-passed-from P k s left (x ∷ xs) h e m = go (testAnchor s left (length (recordBytes s x)) (x .anchor)) m (λ n. passed-from P k (dequeued s x) (left - length (recordBytes s x)) xs (k s x h) e n)
+passed-from P k s ls left [] h e m = absurd (List·Memᴰ·not-nil m)
+passed-from P k s ls left (x ∷ xs) h e m = go (testAnchor s ls left (length (recordBytes s ls x)) (x .anchor)) m (λ n. passed-from P k (dequeued s x) (afterLists s (x .anchor) ls) (left - length (recordBytes s ls x)) xs (k s x h) e n)
   where
     evs : Out ℕ → List Event
-    evs = passedBy s left x xs
+    evs = passedBy s ls left x xs
 
-    go : (o : Out ℕ) → List·Memᴰ e (evs o) → (List·Memᴰ e (passed (dequeued s x) (left - length (recordBytes s x)) xs) → P (e .from)) → P (e .from)
+    go : (o : Out ℕ) → List·Memᴰ e (evs o) → (List·Memᴰ e (passed (dequeued s x) (afterLists s (x .anchor) ls) (left - length (recordBytes s ls x)) xs) → P (e .from)) → P (e .from)
     go (bad r) n i = absurd (List·Memᴰ·not-nil n)
     go (good a) n i = ⊎-elim (λ d. subst (λ (y : Event). P (y .from)) (sym d) h) i (List·Memᴰ·cases-cons n)
 
@@ -175,14 +188,14 @@ events-from P k s (name i) h e m = absurd (List·Memᴰ·not-nil m)
 events-from P k s (resolve i t) h e m = absurd (List·Memᴰ·not-nil m)
 events-from P k s (certify i) h e m = absurd (List·Memᴰ·not-nil m)
 events-from P k s gapQuestion h e m = absurd (List·Memᴰ·not-nil m)
-events-from P k s (commit i b) h e m = go (anchorsOf s i) m
+events-from P k s (commit i ls b) h e m = go (anchorsOf s i) m
   where
     evs : Out (List EnqueuedAnchor) → List Event
-    evs = finishesBy s b
+    evs = finishesBy s ls b
 
     go : (o : Out (List EnqueuedAnchor)) → List·Memᴰ e (evs o) → P (e .from)
     go (bad r) n = absurd (List·Memᴰ·not-nil n)
-    go (good es) n = passed-from P k s (length b) es h e n
+    go (good es) n = passed-from P k s ls (length b) es h e n
 events-from P k s (outlook i b) h e m = absurd (List·Memᴰ·not-nil m)
 events-from P k s (remove r from b) h e m = absurd (List·Memᴰ·not-nil m)
 events-from P k s (dropTo r) h e m = absurd (List·Memᴰ·not-nil m)
@@ -194,7 +207,7 @@ right-in hs (x ∷ xs) (a, b) e m = ⊎-elim (λ d. (hs, subst (Right hs) (sym d
 
 -- the events as histories
 abbrev pub asHistories : Store → List Event → List History
-asHistories s es = map (λ (e : Event). readAs s (e .from) (e .enq)) es
+asHistories s es = map (λ (e : Event). readAs s (e .from) (e .list) (e .enq)) es
 
 end-finished : (s : Store) (b : List ℕ) (n : ℕ) (o : Option Refusal) → finished (commitEnd (record { store = s; buffer = b; anchors = n; stopped = o }) .answer) ≡ n
 unfolding commitEnd finished
@@ -206,34 +219,34 @@ unfolding readRecords
 none-read s b = refl
 
 -- the records of a chain's finished anchors
-read-commit : (s : Store) (hs : List Id) (b : List ℕ) (es : List EnqueuedAnchor) → AllRight hs (passed s (length b) es)
-    → readRecords s (finished (commitEnd (commitAll s b 0 0 es) .answer)) (commitEnd (commitAll s b 0 0 es) .buffer) ≡ asHistories s (passed s (length b) es)
+read-commit : (s : Store) (hs : List Id) (ls b : List ℕ) (es : List EnqueuedAnchor) → AllRight hs (passed s ls (length b) es)
+    → readRecords s (finished (commitEnd (commitAll s ls b 0 0 es) .answer)) (commitEnd (commitAll s ls b 0 0 es) .buffer) ≡ asHistories s (passed s ls (length b) es)
 unfolding commitEnd
-read-commit s hs b es a =
-    ap₂ (readRecords s) (end-finished (f .store) (f .buffer) (f .anchors) (f .stopped) ∙ (c .2 ∙ (zero-add (length (passed s (length b - 0) es)) ∙ ap (λ n. length (passed s n es)) (sub-zero (length b)))))
-    (c .1 ∙ ap (λ n. joined bytesOf (passed s n es) ++ c .0) (sub-zero (length b)))
-    ∙ read-all s (passed s (length b) es) (c .0) (λ e m. let (h, r) = right-in hs _ a e m in event-readable s h e r (passed-from (Frame s) (frame-mark s) s (length b) es (refl, refl, refl) e m))
+read-commit s hs ls b es a =
+    ap₂ (readRecords s) (end-finished (f .store) (f .buffer) (f .anchors) (f .stopped) ∙ (c .2 ∙ (zero-add (length (passed s ls (length b - 0) es)) ∙ ap (λ n. length (passed s ls n es)) (sub-zero (length b)))))
+    (c .1 ∙ ap (λ n. joined bytesOf (passed s ls n es) ++ c .0) (sub-zero (length b)))
+    ∙ read-all s (passed s ls (length b) es) (c .0) (λ e m. let (h, r) = right-in hs _ a e m in event-readable s h e r (passed-from (Frame s) (frame-mark s) s ls (length b) es (refl, refl, refl) e m))
   where
     f : Finished
-    f = commitAll s b 0 0 es
+    f = commitAll s ls b 0 0 es
 
-    c : (rest : List ℕ) × (commitAll s b 0 0 es .buffer ≡ take 0 b ++ (joined bytesOf (passed s (length b - 0) es) ++ rest)) × (commitAll s b 0 0 es .anchors ≡ 0 + length (passed s (length b - 0) es))
-    c = commit-buffer s b 0 0 es (omega arith)
+    c : (rest : List ℕ) × (commitAll s ls b 0 0 es .buffer ≡ take 0 b ++ (joined bytesOf (passed s ls (length b - 0) es) ++ rest)) × (commitAll s ls b 0 0 es .anchors ≡ 0 + length (passed s ls (length b - 0) es))
+    c = commit-buffer s ls b 0 0 es (omega arith)
 
 -- what a commit's buffer says is what it finished
-wrote-commit : (s : Store) (hs : List Id) (i : Id) (b : List ℕ) → AllRight hs (finishes s i b) → readRecords s (finished (doCommit s i b .answer)) (doCommit s i b .buffer) ≡ asHistories s (finishes s i b)
+wrote-commit : (s : Store) (hs : List Id) (i : Id) (ls b : List ℕ) → AllRight hs (finishes s i ls b) → readRecords s (finished (doCommit s i ls b .answer)) (doCommit s i ls b .buffer) ≡ asHistories s (finishes s i ls b)
 unfolding doCommit finishes finished
-wrote-commit s hs i b r = go (anchorsOf s i) r
+wrote-commit s hs i ls b r = go (anchorsOf s i) r
   where
     evs : Out (List EnqueuedAnchor) → List Event
-    evs = finishesBy s b
+    evs = finishesBy s ls b
 
     out : Out (List EnqueuedAnchor) → Outcome
-    out = commitBy s b
+    out = commitBy s ls b
 
     go : (o : Out (List EnqueuedAnchor)) → AllRight hs (evs o) → readRecords s (finished (out o .answer)) (out o .buffer) ≡ asHistories s (evs o)
     go (bad r) a = none-read s b
-    go (good es) a = read-commit s hs b es a
+    go (good es) a = read-commit s hs ls b es a
 
 -- every call writes the histories of the anchors that it finishes
 wrote-is : (s : Store) (c : Call) (hs : List Id) → AllRight hs (eventsOf s c) → wrote s c (perform s c) ≡ asHistories s (eventsOf s c)
@@ -245,7 +258,7 @@ wrote-is s (name i) hs r = refl
 wrote-is s (resolve i t) hs r = refl
 wrote-is s (certify i) hs r = refl
 wrote-is s gapQuestion hs r = refl
-wrote-is s (commit i b) hs r = wrote-commit s hs i b r
+wrote-is s (commit i ls b) hs r = wrote-commit s hs i ls b r
 wrote-is s (outlook i b) hs r = refl
 wrote-is s (remove x from b) hs r = refl
 wrote-is s (dropTo x) hs r = refl
@@ -262,15 +275,15 @@ AllByPaths hs (e ∷ es) = ByPaths hs e × AllByPaths (hs ++ ids e) es
 
 right-paths : (hs : List Id) (es : List Event) → AllRight hs es → AllByPaths hs es
 right-paths hs [] r = tt
-right-paths hs (e ∷ es) (x, r) = (history-is (e .from) hs (x .inv) (e .enq .anchor) (x .next), right-paths (hs ++ ids e) es r)
+right-paths hs (e ∷ es) (x, r) = (ids-are hs e x, right-paths (hs ++ ids e) es r)
 
 -- the ids read from the records that a commit wrote are so, and the store after it meets the invariant again
-pub commit-paths : (s : Store) (hs : List Id) (i : Id) (b : List ℕ) → Inv s hs
-    → (readRecords s (finished (call s (commit i b) .answer)) (call s (commit i b) .buffer) ≡ asHistories s (finishes s i b)) × AllByPaths hs (finishes s i b) × Inv (call s (commit i b) .store) (hs ++ allIds (finishes s i b))
+pub commit-paths : (s : Store) (hs : List Id) (i : Id) (ls b : List ℕ) → Inv s hs
+    → (readRecords s (finished (call s (commit i ls b) .answer)) (call s (commit i ls b) .buffer) ≡ asHistories s (finishes s i ls b)) × AllByPaths hs (finishes s i ls b) × Inv (call s (commit i ls b) .store) (hs ++ allIds (finishes s i ls b))
 unfolding eventsOf perform
-commit-paths s hs i b v =
-    let k = call-keeps s (commit i b) hs v tt in
-    rw (commit-is s (v .wf) i b) (wrote-commit s hs i b (k .right), right-paths hs (finishes s i b) (k .right), k .inv)
+commit-paths s hs i ls b v =
+    let k = call-keeps s (commit i ls b) hs v tt in
+    rw (commit-is s (v .wf) i ls b) (wrote-commit s hs i ls b (k .right), right-paths hs (finishes s i ls b) (k .right), k .inv)
 
 -- ---- the log of one call
 
@@ -301,7 +314,7 @@ call-log s (name i) G w h l = nothing _ G (finish-store (λ t. Log t G) s _ l (�
 call-log s (resolve i t) G w h l = resolve-log s G i t w l
 call-log s (certify i) G w h l = nothing _ G (finish-store (λ t. Log t G) s _ l (λ t k. let c = certify-way s i t k in subst (λ x. Log x G) (c .is) (cert-log s (c .place) G l)))
 call-log s gapQuestion G w h l = nothing _ G (gapQuestion-way (λ t. Log t G) s l (λ p a b. numbers-log s p _ G l))
-call-log s (commit i b) G w h l = nothing _ G (commit-keeps-all (λ u. Log u G) (λ u x. mark-log G u x) s i b l)
+call-log s (commit i ls b) G w h l = nothing _ G (commit-keeps-all (λ u. Log u G) (λ u x. mark-log G u x) s i ls b l)
 call-log s (outlook i b) G w h l = nothing _ G (subst (λ t. Log t G) (sym (outlook-store s i b)) l)
 call-log s (remove r from b) G w h l = nothing _ G (remove-way (λ t. Log t G) s r from b l (λ m. drained-log s (r - s .conf .historyRounds) _ m G w l))
 call-log s (dropTo r) G w h l = nothing _ G (drop-way (λ t. Log t G) s r (λ p a b. drained-log s r p _ G w l))
@@ -325,7 +338,7 @@ gave-new s (name i) G w l g h m k e = List·Memᴰ·not-nil m
 gave-new s (resolve i t) G w l g h m k e = resolve-new s i t G w l g h m k e
 gave-new s (certify i) G w l g h m k e = List·Memᴰ·not-nil m
 gave-new s gapQuestion G w l g h m k e = List·Memᴰ·not-nil m
-gave-new s (commit i b) G w l g h m k e = List·Memᴰ·not-nil m
+gave-new s (commit i ls b) G w l g h m k e = List·Memᴰ·not-nil m
 gave-new s (outlook i b) G w l g h m k e = List·Memᴰ·not-nil m
 gave-new s (remove r from b) G w l g h m k e = List·Memᴰ·not-nil m
 gave-new s (dropTo r) G w l g h m k e = List·Memᴰ·not-nil m
@@ -389,7 +402,7 @@ append-once (x ∷ xs) ys (p, a) b = (p, append-once xs ys a b)
 
 events-once : (s : Store) (hs : List Id) (es : List Event) → AllRight hs es → AllOnce (asHistories s es)
 events-once s hs [] r = tt
-events-once s hs (e ∷ es) (x, r) = (history-once (e .from) (x .inv .wf) (e .enq .anchor) (x .next .there), events-once s (hs ++ ids e) es r)
+events-once s hs (e ∷ es) (x, r) = (order-once (e .from) (x .inv .wf) (e .enq .anchor) (x .next .there) (e .list) (x .listed), events-once s (hs ++ ids e) es r)
 
 run-once : (s : Store) (cs : List Call) (hs : List Id) → Inv s hs → AllInList cs → AllOnce (histories s cs)
 unfolding histories
@@ -420,7 +433,7 @@ written-anchors s (e ∷ es) = ap (λ l. anchorId e ∷ l) (written-anchors s es
 perform-said : (s : Store) (c : Call) (hs : List Id) → Wf s → InList c → AllRight hs (eventsOf s c) → AsSaid s c (perform s c)
 unfolding perform eventsOf wrote
 perform-said s c hs w a r = (
-  λ i b e. subst (λ x. Writes s b (anchorsOf s i) (perform s x)) (sym e) (commit-writes s i b (ap (map (λ (h : History). h .anchor)) (wrote-commit s hs i b (subst (λ x. AllRight hs (eventsOf s x)) e r)) ∙ written-anchors s (finishes s i b))),
+  λ i ls b e. subst (λ x. Writes s ls b (anchorsOf s i) (perform s x)) (sym e) (commit-writes s i ls b (ap (map (λ (h : History). h .anchor)) (wrote-commit s hs i ls b (subst (λ x. AllRight hs (eventsOf s x)) e r)) ∙ written-anchors s (finishes s i ls b))),
   λ b e. subst (λ x. StartRefused s (perform s x)) (sym e) (start-refused s w b),
   perform-retains s w c a,
 )

@@ -16,7 +16,7 @@ use Rattle.spec.specs.Ids.{Id}
 use Rattle.spec.specs.Store.{Resolution, Progress, Memory, Store, idAt, retained, withPoints, withNumbers, withMemory}
 use Rattle.spec.specs.Rules.{lastRound}
 use Rattle.spec.specs.Chain.{Refusal, Out, bad, good, refuse, EnqueuedAnchor, anchorsOf}
-use Rattle.spec.specs.History.{recordBytes, testAnchor, setCommitted, dequeued, Finished, commitAll}
+use Rattle.spec.specs.History.{afterLists, recordBytes, testAnchor, setCommitted, dequeued, Finished, commitAll}
 use Rattle.spec.specs.Inspect.{inspected, memoryAfter, removeBytes}
 use Rattle.spec.specs.Calls.{done, anchors, refused, Outcome, finish, StartArgs, startOk, memoryKept, begun, doStart, addRound, doRound, nameAt, doName, withPathHeights, resolveAt, doResolve, certifyAt, doCertify, doGapQuestion, commitEnd, doCommit, doOutlook, drained, newBottom, removing, doRemove, doDrop, Call, start, resetAll, round, name, resolve, certify, gapQuestion, commit, outlook, remove, drop as dropTo, perform}
 use Rattle.spec.specs.WellFormed.{Wf, countsAsStarted-intro}
@@ -37,25 +37,25 @@ unfolding dequeued
 frame-mark s u e f = f
 
 -- what every commit mark keeps, a chain's commit keeps
-commit-marks : (P : Store → Type 0) → ((s : Store) (e : EnqueuedAnchor) → P s → P (dequeued s e)) → (s : Store) (b : List ℕ) (at n : ℕ) (es : List EnqueuedAnchor) → P s → P (commitAll s b at n es .store)
+commit-marks : (P : Store → Type 0) → ((s : Store) (e : EnqueuedAnchor) → P s → P (dequeued s e)) → (s : Store) (ls b : List ℕ) (at n : ℕ) (es : List EnqueuedAnchor) → P s → P (commitAll s ls b at n es .store)
 unfolding commitAll
-commit-marks P k s b at n [] h = h
-commit-marks P k s b at n (e ∷ es) h = go (testAnchor s (length b - at) (length (recordBytes s e)) (e .anchor)) (λ b at n. commit-marks P k (dequeued s e) b at n es (k s e h))
+commit-marks P k s ls b at n [] h = h
+commit-marks P k s ls b at n (e ∷ es) h = go (testAnchor s ls (length b - at) (length (recordBytes s ls e)) (e .anchor)) (λ b at n. commit-marks P k (dequeued s e) (afterLists s (e .anchor) ls) b at n es (k s e h))
   where
     fin : Out ℕ → Finished
-    fin = finishedBy s b at n e es
+    fin = finishedBy s ls b at n e es
 
-    go : (o : Out ℕ) → ((b : List ℕ) (at n : ℕ) → P (commitAll (dequeued s e) b at n es .store)) → P (fin o .store)
+    go : (o : Out ℕ) → ((b : List ℕ) (at n : ℕ) → P (commitAll (dequeued s e) (afterLists s (e .anchor) ls) b at n es .store)) → P (fin o .store)
     go (bad r) i = h
-    go (good a) i = i (written b at (recordBytes s e)) (at + length (recordBytes s e)) (suc n)
+    go (good a) i = i (written b at (recordBytes s ls e)) (at + length (recordBytes s ls e)) (suc n)
 
-pub commit-keeps-all : (P : Store → Type 0) → ((s : Store) (e : EnqueuedAnchor) → P s → P (dequeued s e)) → (s : Store) (i : Id) (b : List ℕ) → P s → P (doCommit s i b .store)
+pub commit-keeps-all : (P : Store → Type 0) → ((s : Store) (e : EnqueuedAnchor) → P s → P (dequeued s e)) → (s : Store) (i : Id) (ls b : List ℕ) → P s → P (doCommit s i ls b .store)
 unfolding doCommit commitEnd
-commit-keeps-all P k s i b h = go (anchorsOf s i)
+commit-keeps-all P k s i ls b h = go (anchorsOf s i)
   where
-    go : (o : Out (List EnqueuedAnchor)) → P ((elim o as (λ x. Outcome) [ bad r ↦ record { answer = refused r 0; store = s; buffer = b } | good es ↦ commitEnd (commitAll s b 0 0 es) ]) .store)
+    go : (o : Out (List EnqueuedAnchor)) → P ((elim o as (λ x. Outcome) [ bad r ↦ record { answer = refused r 0; store = s; buffer = b } | good es ↦ commitEnd (commitAll s ls b 0 0 es) ]) .store)
     go (bad r) = h
-    go (good es) = commit-marks P k s b 0 0 es h
+    go (good es) = commit-marks P k s ls b 0 0 es h
 
 -- ---- where a commit stops
 
@@ -74,56 +74,56 @@ ids-mark : (s : Store) (x : EnqueuedAnchor) (es : List EnqueuedAnchor) → idsAt
 unfolding dequeued setCommitted
 ids-mark s x es = refl
 
-abbrev StopsBy : Store → ℕ → List EnqueuedAnchor → List EnqueuedAnchor → Option Refusal → Type 0
-StopsBy s left first [] o = o ≡ none
-StopsBy s left first (e ∷ more) o = (r : Refusal) × (testAfter s left first e ≡ bad r) × (o ≡ some r)
+abbrev StopsBy : Store → List ℕ → ℕ → List EnqueuedAnchor → List EnqueuedAnchor → Option Refusal → Type 0
+StopsBy s ls left first [] o = o ≡ none
+StopsBy s ls left first (e ∷ more) o = (r : Refusal) × (testAfter s ls left first e ≡ bad r) × (o ≡ some r)
 
 -- a chain, the anchors of it that were finished, and what stopped it
-record Cut (s : Store) (left : ℕ) (chain : List EnqueuedAnchor) (evs : List Event) (o : Option Refusal) : Type 0 where
+record Cut (s : Store) (ls : List ℕ) (left : ℕ) (chain : List EnqueuedAnchor) (evs : List Event) (o : Option Refusal) : Type 0 where
   first : List EnqueuedAnchor
   others : List EnqueuedAnchor
   oldest : chain ≡ first ++ others
   one : map anchorId evs ≡ idsAt s first
   count : length evs ≡ length first
-  pass : (before more : List EnqueuedAnchor) (e : EnqueuedAnchor) → first ≡ before ++ (e ∷ more) → (n : ℕ) × (testAfter s left before e ≡ good n)
-  stop : StopsBy s left first others o
+  pass : (before more : List EnqueuedAnchor) (e : EnqueuedAnchor) → first ≡ before ++ (e ∷ more) → (n : ℕ) × (testAfter s ls left before e ≡ good n)
+  stop : StopsBy s ls left first others o
 
 none-first : {A : Type 0} (before more : List EnqueuedAnchor) (e : EnqueuedAnchor) → [] ≡ before ++ (e ∷ more) → A
 none-first [] more e h = absurd (let z : _≡_ {A = ℕ} 0 1 = cc in omega arith)
 none-first (x ∷ xs) more e h = absurd (let z : _≡_ {A = ℕ} 0 1 = cc in omega arith)
 
-pass-more : (s : Store) (left : ℕ) (x : EnqueuedAnchor) (xs : List EnqueuedAnchor) (a : ℕ) → testAnchor s left (length (recordBytes s x)) (x .anchor) ≡ good a
-    → ((before more : List EnqueuedAnchor) (e : EnqueuedAnchor) → xs ≡ before ++ (e ∷ more) → (n : ℕ) × (testAfter (dequeued s x) (left - length (recordBytes s x)) before e ≡ good n))
-    → (before more : List EnqueuedAnchor) (e : EnqueuedAnchor) → x ∷ xs ≡ before ++ (e ∷ more) → (n : ℕ) × (testAfter s left before e ≡ good n)
+pass-more : (s : Store) (ls : List ℕ) (left : ℕ) (x : EnqueuedAnchor) (xs : List EnqueuedAnchor) (a : ℕ) → testAnchor s ls left (length (recordBytes s ls x)) (x .anchor) ≡ good a
+    → ((before more : List EnqueuedAnchor) (e : EnqueuedAnchor) → xs ≡ before ++ (e ∷ more) → (n : ℕ) × (testAfter (dequeued s x) (afterLists s (x .anchor) ls) (left - length (recordBytes s ls x)) before e ≡ good n))
+    → (before more : List EnqueuedAnchor) (e : EnqueuedAnchor) → x ∷ xs ≡ before ++ (e ∷ more) → (n : ℕ) × (testAfter s ls left before e ≡ good n)
 unfolding testAfter
-pass-more s left x xs a h i [] more e k = (a, subst (λ (y : EnqueuedAnchor). testAnchor s left (length (recordBytes s y)) (y .anchor) ≡ good a) (cc) h)
-pass-more s left x xs a h i (y ∷ ys) more e k = let (n, t) = i ys more e (cc) in (n, subst (λ (z : EnqueuedAnchor). testAfter (dequeued s z) (left - length (recordBytes s z)) ys e ≡ good n) (cc) t)
+pass-more s ls left x xs a h i [] more e k = (a, subst (λ (y : EnqueuedAnchor). testAnchor s ls left (length (recordBytes s ls y)) (y .anchor) ≡ good a) (cc) h)
+pass-more s ls left x xs a h i (y ∷ ys) more e k = let (n, t) = i ys more e (cc) in (n, subst (λ (z : EnqueuedAnchor). testAfter (dequeued s z) (afterLists s (z .anchor) ls) (left - length (recordBytes s ls z)) ys e ≡ good n) (cc) t)
 
-stop-more : (s : Store) (left : ℕ) (x : EnqueuedAnchor) (xs others : List EnqueuedAnchor) (o : Option Refusal) → StopsBy (dequeued s x) (left - length (recordBytes s x)) xs others o → StopsBy s left (x ∷ xs) others o
+stop-more : (s : Store) (ls : List ℕ) (left : ℕ) (x : EnqueuedAnchor) (xs others : List EnqueuedAnchor) (o : Option Refusal) → StopsBy (dequeued s x) (afterLists s (x .anchor) ls) (left - length (recordBytes s ls x)) xs others o → StopsBy s ls left (x ∷ xs) others o
 unfolding testAfter
-stop-more s left x xs [] o h = h
-stop-more s left x xs (e ∷ more) o h = h
+stop-more s ls left x xs [] o h = h
+stop-more s ls left x xs (e ∷ more) o h = h
 
-cut : (s : Store) (b : List ℕ) (at n : ℕ) (es : List EnqueuedAnchor) → Cut s (length b - at) es (passed s (length b - at) es) (commitAll s b at n es .stopped)
+cut : (s : Store) (ls b : List ℕ) (at n : ℕ) (es : List EnqueuedAnchor) → Cut s ls (length b - at) es (passed s ls (length b - at) es) (commitAll s ls b at n es .stopped)
 unfolding commitAll passed testAfter
-cut s b at n [] = record { first = []; others = []; oldest = refl; one = refl; count = refl; pass = λ before more e h. none-first before more e h; stop = refl }
-cut s b at n (e ∷ es) = go (testAnchor s (length b - at) (length (recordBytes s e)) (e .anchor)) refl (λ b at n. cut (dequeued s e) b at n es)
+cut s ls b at n [] = record { first = []; others = []; oldest = refl; one = refl; count = refl; pass = λ before more e h. none-first before more e h; stop = refl }
+cut s ls b at n (e ∷ es) = go (testAnchor s ls (length b - at) (length (recordBytes s ls e)) (e .anchor)) refl (λ b at n. cut (dequeued s e) (afterLists s (e .anchor) ls) b at n es)
   where
     vs : List ℕ
-    vs = recordBytes s e
+    vs = recordBytes s ls e
 
     left : ℕ
     left = length b - at
 
     fin : Out ℕ → Finished
-    fin = finishedBy s b at n e es
+    fin = finishedBy s ls b at n e es
 
     evs : Out ℕ → List Event
-    evs = passedBy s left e es
+    evs = passedBy s ls left e es
 
-    go : (o : Out ℕ) → testAnchor s left (length vs) (e .anchor) ≡ o
-        → ((b : List ℕ) (at n : ℕ) → Cut (dequeued s e) (length b - at) es (passed (dequeued s e) (length b - at) es) (commitAll (dequeued s e) b at n es .stopped))
-        → Cut s left (e ∷ es) (evs o) (fin o .stopped)
+    go : (o : Out ℕ) → testAnchor s ls left (length vs) (e .anchor) ≡ o
+        → ((b : List ℕ) (at n : ℕ) → Cut (dequeued s e) (afterLists s (e .anchor) ls) (length b - at) es (passed (dequeued s e) (afterLists s (e .anchor) ls) (length b - at) es) (commitAll (dequeued s e) (afterLists s (e .anchor) ls) b at n es .stopped))
+        → Cut s ls left (e ∷ es) (evs o) (fin o .stopped)
     go (bad r) h i = record { first = []; others = e ∷ es; oldest = refl; one = refl; count = refl; pass = λ before more x k. none-first before more x k; stop = (r, h, refl) }
     go (good a) h i = record {
       first = e ∷ c .first;
@@ -131,49 +131,49 @@ cut s b at n (e ∷ es) = go (testAnchor s (length b - at) (length (recordBytes 
       oldest = ap (λ l. e ∷ l) (c .oldest);
       one = ap (λ l. idAt s (e .anchor) ∷ l) (c .one ∙ ids-mark s e (c .first));
       count = ap suc (c .count);
-      pass = pass-more s left e (c .first) a h (c .pass);
-      stop = stop-more s left e (c .first) (c .others) _ (c .stop);
+      pass = pass-more s ls left e (c .first) a h (c .pass);
+      stop = stop-more s ls left e (c .first) (c .others) _ (c .stop);
     }
       where
-        c : Cut (dequeued s e) (left - length vs) es (passed (dequeued s e) (left - length vs) es) (commitAll (dequeued s e) (written b at vs) (at + length vs) (suc n) es .stopped)
-        c = subst (λ k. Cut (dequeued s e) k es (passed (dequeued s e) k es) (commitAll (dequeued s e) (written b at vs) (at + length vs) (suc n) es .stopped))
+        c : Cut (dequeued s e) (afterLists s (e .anchor) ls) (left - length vs) es (passed (dequeued s e) (afterLists s (e .anchor) ls) (left - length vs) es) (commitAll (dequeued s e) (afterLists s (e .anchor) ls) (written b at vs) (at + length vs) (suc n) es .stopped)
+        c = subst (λ k. Cut (dequeued s e) (afterLists s (e .anchor) ls) k es (passed (dequeued s e) (afterLists s (e .anchor) ls) k es) (commitAll (dequeued s e) (afterLists s (e .anchor) ls) (written b at vs) (at + length vs) (suc n) es .stopped))
             (sym (room-left (length b) at (length (written b at vs)) (length vs) (written-length b at vs))) (i (written b at vs) (at + length vs) (suc n))
 
-stop-is : (s : Store) (left : ℕ) (first others : List EnqueuedAnchor) (t : Store) (b : List ℕ) (n : ℕ) (o : Option Refusal) → n ≡ length first → StopsBy s left first others o → Stops s left first others (commitEnd (record { store = t; buffer = b; anchors = n; stopped = o }) .answer)
+stop-is : (s : Store) (ls : List ℕ) (left : ℕ) (first others : List EnqueuedAnchor) (t : Store) (b : List ℕ) (n : ℕ) (o : Option Refusal) → n ≡ length first → StopsBy s ls left first others o → Stops s ls left first others (commitEnd (record { store = t; buffer = b; anchors = n; stopped = o }) .answer)
 unfolding commitEnd
-stop-is s left first [] t b n none e h = ap anchors e
-stop-is s left first [] t b n (some r) e h = absurd (let z : _≡_ {A = ℕ} 0 1 = cc in omega arith)
-stop-is s left first (x ∷ more) t b n none e (r, k, h) = absurd (let z : _≡_ {A = ℕ} 0 1 = cc in omega arith)
-stop-is s left first (x ∷ more) t b n (some q) e (r, k, h) = (r, k, ap₂ refused (cc) e)
+stop-is s ls left first [] t b n none e h = ap anchors e
+stop-is s ls left first [] t b n (some r) e h = absurd (let z : _≡_ {A = ℕ} 0 1 = cc in omega arith)
+stop-is s ls left first (x ∷ more) t b n none e (r, k, h) = absurd (let z : _≡_ {A = ℕ} 0 1 = cc in omega arith)
+stop-is s ls left first (x ∷ more) t b n (some q) e (r, k, h) = (r, k, ap₂ refused (cc) e)
 
-one-for-each : (s : Store) (b : List ℕ) (es : List EnqueuedAnchor) → anchorsIn s (commitEnd (commitAll s b 0 0 es)) ≡ map anchorId (passed s (length b) es) → OneForEach s b es (commitEnd (commitAll s b 0 0 es))
-one-for-each s b es e = record { first = c .first; others = c .others; oldest = c .oldest; one = e ∙ c .one; pass = c .pass; stop = stop-is s (length b) (c .first) (c .others) _ _ _ _ (count ∙ c .count) (c .stop) }
+one-for-each : (s : Store) (ls b : List ℕ) (es : List EnqueuedAnchor) → anchorsIn s (commitEnd (commitAll s ls b 0 0 es)) ≡ map anchorId (passed s ls (length b) es) → OneForEach s ls b es (commitEnd (commitAll s ls b 0 0 es))
+one-for-each s ls b es e = record { first = c .first; others = c .others; oldest = c .oldest; one = e ∙ c .one; pass = c .pass; stop = stop-is s ls (length b) (c .first) (c .others) _ _ _ _ (count ∙ c .count) (c .stop) }
   where
-    c : Cut s (length b) es (passed s (length b) es) (commitAll s b 0 0 es .stopped)
-    c = subst (λ k. Cut s k es (passed s k es) (commitAll s b 0 0 es .stopped)) (sub-zero (length b)) (cut s b 0 0 es)
+    c : Cut s ls (length b) es (passed s ls (length b) es) (commitAll s ls b 0 0 es .stopped)
+    c = subst (λ k. Cut s ls k es (passed s ls k es) (commitAll s ls b 0 0 es .stopped)) (sub-zero (length b)) (cut s ls b 0 0 es)
 
-    count : commitAll s b 0 0 es .anchors ≡ length (passed s (length b) es)
-    count = commit-buffer s b 0 0 es (omega arith) .2 ∙ (zero-add (length (passed s (length b - 0) es)) ∙ ap (λ n. length (passed s n es)) (sub-zero (length b)))
+    count : commitAll s ls b 0 0 es .anchors ≡ length (passed s ls (length b) es)
+    count = commit-buffer s ls b 0 0 es (omega arith) .2 ∙ (zero-add (length (passed s ls (length b - 0) es)) ∙ ap (λ n. length (passed s ls n es)) (sub-zero (length b)))
 
-none-written : (s : Store) (b : List ℕ) → commitEnd (commitAll s b 0 0 []) ≡ record { answer = anchors 0; store = s; buffer = b }
+none-written : (s : Store) (ls b : List ℕ) → commitEnd (commitAll s ls b 0 0 []) ≡ record { answer = anchors 0; store = s; buffer = b }
 unfolding commitAll commitEnd
-none-written s b = refl
+none-written s ls b = refl
 
 -- what a commit writes, if the records' anchors are those that it finished
-pub commit-writes : (s : Store) (i : Id) (b : List ℕ) → anchorsIn s (doCommit s i b) ≡ map anchorId (finishes s i b) → Writes s b (anchorsOf s i) (doCommit s i b)
+pub commit-writes : (s : Store) (i : Id) (ls b : List ℕ) → anchorsIn s (doCommit s i ls b) ≡ map anchorId (finishes s i ls b) → Writes s ls b (anchorsOf s i) (doCommit s i ls b)
 unfolding doCommit finishes
-commit-writes s i b e = go (anchorsOf s i) e
+commit-writes s i ls b e = go (anchorsOf s i) e
   where
     evs : Out (List EnqueuedAnchor) → List Event
-    evs = finishesBy s b
+    evs = finishesBy s ls b
 
     out : Out (List EnqueuedAnchor) → Outcome
-    out = commitBy s b
+    out = commitBy s ls b
 
-    go : (o : Out (List EnqueuedAnchor)) → anchorsIn s (out o) ≡ map anchorId (evs o) → Writes s b o (out o)
+    go : (o : Out (List EnqueuedAnchor)) → anchorsIn s (out o) ≡ map anchorId (evs o) → Writes s ls b o (out o)
     go (bad r) e = refl
-    go (good []) e = none-written s b
-    go (good (x ∷ es)) e = one-for-each s b (x ∷ es) e
+    go (good []) e = none-written s ls b
+    go (good (x ∷ es)) e = one-for-each s ls b (x ∷ es) e
 
 -- ---- a start
 
@@ -287,7 +287,7 @@ perform-retains s w (name i) h = frame-retained s (finish s (doName s i) .store)
 perform-retains s w (resolve i resolution) h = frame-retained s (finish s (doResolve s i resolution) .store) (finish-store (Frame s) s _ (refl, refl, refl) (λ t k. subst (Frame s) (resolve-way s i resolution t k .is) (resolve-frame s resolution _)))
 perform-retains s w (certify i) h = frame-retained s (finish s (doCertify s i) .store) (finish-store (Frame s) s _ (refl, refl, refl) (λ t k. subst (Frame s) (certify-way s i t k .is) (certify-frame s _)))
 perform-retains s w gapQuestion h = frame-retained s (doGapQuestion s .store) (gapQuestion-way (Frame s) s (refl, refl, refl) (λ p a b. numbers-frame s p _))
-perform-retains s w (commit i b) h = frame-retained s (doCommit s i b .store) (commit-keeps-all (Frame s) (frame-mark s) s i b (refl, refl, refl))
+perform-retains s w (commit i ls b) h = frame-retained s (doCommit s i ls b .store) (commit-keeps-all (Frame s) (frame-mark s) s i ls b (refl, refl, refl))
 perform-retains s w (outlook i b) h = frame-retained s (doOutlook s i b .store) (subst (Frame s) (sym (outlook-store s i b)) (refl, refl, refl))
 perform-retains s w (remove x from b) h = remove-retains s x from b
 perform-retains s w (dropTo x) h = drop-retains s x

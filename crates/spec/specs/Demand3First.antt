@@ -1,9 +1,9 @@
 -- Every call keeps what every store of a list satisfies, and each finished anchor's history is exact.
 use Prim.Native.Nat.{ℕ, suc, _+_, _-_, _^_, _≤_, _<_, max}
 use mathlib.Core.Path.{_≡_, refl, sym, _∙_, subst, ap}
-use mathlib.Core.Logic.{_≢_, ⊎-elim}
+use mathlib.Core.Logic.{_≢_, _↔_, ⊎-elim}
 use mathlib.Core.Bool.{true, false≢true}
-use mathlib.Core.List.{List, [], _∷_, _++_, append-assoc, append-nil, List·Memᴰ}
+use mathlib.Core.List.{List, [], _∷_, _++_, append-assoc, append-nil, List·Memᴰ, List·Memᴰ·append-cases, Memᴰ·append-left, Memᴰ·append-right}
 use lib.ListN.{length}
 use native.Mathlib.Omega.{arith}
 use native.Mathlib.Nat.{le-trans, sub-zero}
@@ -15,12 +15,13 @@ use Rattle.spec.specs.Store.{Resolution, Point, Progress, Memory, Store,
 use Rattle.spec.specs.Paths.{LinkedTo}
 use Rattle.spec.specs.Rules.{lastRound}
 use Rattle.spec.specs.Chain.{Out, bad, good, EnqueuedAnchor, orZero, lowestWalked, anchorsOf}
-use Rattle.spec.specs.History.{limit, needed, inHistory, history, recordBytes, testAnchor, dequeued, Finished, commitAll, outlookAll}
+use Rattle.spec.specs.History.{limit, needed, inHistory, history, linkedCounts, listsOk, inOrder, afterLists, recordBytes, testAnchor, dequeued, Finished, commitAll, outlookAll}
 use Rattle.spec.specs.Calls.{anchors, refused, Outcome, finish, StartArgs, doStart, addRound, doRound, newPoint, nameAt, doName, withPathHeights, resolvedAs, resolveAt, doResolve, setTop, certifyAt, doCertify, commitEnd, doCommit, doOutlook, drained, newBottom, Call, start, resetAll, round, name, resolve, certify, gapQuestion, commit, outlook, remove, drop, perform}
 use Rattle.spec.specs.Links.{linked, resolved-named}
 use Rattle.spec.specs.HeightEquations.{inside}
 use Rattle.spec.specs.Changes.{res-off, res-link, drain-gone, drain-stays, drain-was, drain-link}
 use Rattle.spec.specs.Order.{history-named}
+use Rattle.spec.specs.OrderInRound.{order-mem}
 use Rattle.spec.specs.Walk.{find-some, Anchored, Rising, rising-less, Tested, test-good}
 use Rattle.spec.specs.Accepted.{finish-store, gapQuestion-way, remove-way, drop-way, round-way, Naming, name-way, Resolving, resolve-way, certify-way}
 use Rattle.spec.specs.Demand.{InList}
@@ -168,7 +169,7 @@ module _ (s : Store) (b : ℕ) (up : s .bottom ≤ b) (under : b ≤ s .top) (hs
 -- ---- the anchors of a commit
 
 abbrev pub ids : Event → List Id
-ids e = history (e .from) (e .enq .anchor)
+ids e = inOrder (e .from) (e .enq .anchor) (e .list)
 
 abbrev pub allIds : List Event → List Id
 allIds [] = []
@@ -180,6 +181,7 @@ pub record Right (hs : List Id) (e : Event) : Type 0 where
   pub anchored : Anchored (e .from) (e .enq)
   pub next : Next (e .from) (e .enq .anchor)
   pub tested : Tested (e .from) (e .enq .anchor)
+  pub listed : listsOk (linkedCounts (e .from) (e .enq .anchor)) (e .list) ≡ true
 
 abbrev pub AllRight : List Id → List Event → Type 0
 AllRight hs [] = Unit {0}
@@ -208,11 +210,34 @@ next-of s hs e v l o c = record {
     there : s .pt (e .anchor) .named ≡ true
     there = resolved-named (s .pt (e .anchor)) (o .anchor-done)
 
-one-right : (s : Store) (hs : List Id) (e : EnqueuedAnchor) (es : List EnqueuedAnchor) → Inv s hs → Rising s (lowestWalked s) (e ∷ es) → Tested s (e .anchor) → Right hs (record { from = s; enq = e })
-one-right s hs e es v r c = record { inv = v; anchored = r .1; next = next-of s hs e v (r .0) (r .1) c; tested = c }
+one-right : (s : Store) (ls : List ℕ) (hs : List Id) (e : EnqueuedAnchor) (es : List EnqueuedAnchor) → Inv s hs → Rising s (lowestWalked s) (e ∷ es) → Tested s (e .anchor) → listsOk (linkedCounts s (e .anchor)) ls ≡ true
+    → Right hs (record { from = s; list = ls; enq = e })
+one-right s ls hs e es v r c o = record { inv = v; anchored = r .1; next = next-of s hs e v (r .0) (r .1) c; tested = c; listed = o }
 
-one-inv : (s : Store) (hs : List Id) (e : EnqueuedAnchor) (es : List EnqueuedAnchor) → Inv s hs → Rising s (lowestWalked s) (e ∷ es) → Tested s (e .anchor) → Inv (dequeued s e) (hs ++ history s (e .anchor))
-one-inv s hs e es v r c = mark-inv s hs v e (r .1) c (next-of s hs e v (r .0) (r .1) c)
+-- the ids in another order, or said again
+inv-same : (s : Store) (hs ks : List Id) → ((x : Id) → List·Memᴰ x hs ↔ List·Memᴰ x ks) → Inv s hs → Inv s ks
+inv-same s hs ks h v = record {
+  wf = v .wf;
+  firm = v .firm;
+  closed = v .closed;
+  handed = λ p d. h (idAt s p) .0 (v .handed p d);
+  held = λ x m l. v .held x (h x .1 m) l;
+  wide = v .wide;
+  order = v .order;
+}
+
+same-after : (hs xs ys : List Id) → ((x : Id) → List·Memᴰ x xs ↔ List·Memᴰ x ys) → (x : Id) → List·Memᴰ x (hs ++ xs) ↔ List·Memᴰ x (hs ++ ys)
+same-after hs xs ys h x = (
+  (λ m. ⊎-elim (λ k. Memᴰ·append-left ys k) (λ k. Memᴰ·append-right hs (h x .0 k)) (List·Memᴰ·append-cases hs m)),
+  λ m. ⊎-elim (λ k. Memᴰ·append-left xs k) (λ k. Memᴰ·append-right hs (h x .1 k)) (List·Memᴰ·append-cases hs m),
+)
+
+one-inv : (s : Store) (ls : List ℕ) (hs : List Id) (e : EnqueuedAnchor) (es : List EnqueuedAnchor) → Inv s hs → Rising s (lowestWalked s) (e ∷ es) → Tested s (e .anchor) → listsOk (linkedCounts s (e .anchor)) ls ≡ true
+    → Inv (dequeued s e) (hs ++ inOrder s (e .anchor) ls)
+one-inv s ls hs e es v r c o =
+    let n : Next s (e .anchor) = next-of s hs e v (r .0) (r .1) c in
+    inv-same (dequeued s e) (hs ++ history s (e .anchor)) (hs ++ inOrder s (e .anchor) ls)
+    (same-after hs _ _ (λ x. let m = order-mem s (v .wf) (e .anchor) (n .there) ls o x in (m .1, m .0))) (mark-inv s hs v e (r .1) c n)
 
 mark-lowest : (s : Store) (e : EnqueuedAnchor) → lowestWalked (dequeued s e) ≡ max (roundAt s (e .proof)) (s .bottom)
 unfolding dequeued orZero
@@ -227,54 +252,57 @@ rest-rising s e es (l, o, r) = rising-less (dequeued s e) _ (suc (roundAt s (e .
     fit p b a w e h = omega arith
 
 -- the anchors of a chain are committed rightly
-pub commit-right : (s : Store) (hs : List Id) (b : List ℕ) (at n : ℕ) (es : List EnqueuedAnchor) → Inv s hs → Rising s (lowestWalked s) es
-    → AllRight hs (passed s (length b - at) es) × Inv (commitAll s b at n es .store) (hs ++ allIds (passed s (length b - at) es))
+pub commit-right : (s : Store) (ls : List ℕ) (hs : List Id) (b : List ℕ) (at n : ℕ) (es : List EnqueuedAnchor) → Inv s hs → Rising s (lowestWalked s) es
+    → AllRight hs (passed s ls (length b - at) es) × Inv (commitAll s ls b at n es .store) (hs ++ allIds (passed s ls (length b - at) es))
 unfolding commitAll passed
-commit-right s hs b at n [] v r = (tt, subst (Inv s) (sym (append-nil hs)) v)
-commit-right s hs b at n (e ∷ es) v r = go (testAnchor s (length b - at) (length (recordBytes s e)) (e .anchor)) refl (λ hs b at n. commit-right (dequeued s e) hs b at n es)
+commit-right s ls hs b at n [] v r = (tt, subst (Inv s) (sym (append-nil hs)) v)
+commit-right s ls hs b at n (e ∷ es) v r = go (testAnchor s ls (length b - at) (length (recordBytes s ls e)) (e .anchor)) refl (λ hs b at n. commit-right (dequeued s e) (afterLists s (e .anchor) ls) hs b at n es)
   where
     vs : List ℕ
-    vs = recordBytes s e
+    vs = recordBytes s ls e
 
     fin : Out ℕ → Finished
-    fin = finishedBy s b at n e es
+    fin = finishedBy s ls b at n e es
 
     evs : Out ℕ → List Event
-    evs = passedBy s (length b - at) e es
+    evs = passedBy s ls (length b - at) e es
 
-    go : (o : Out ℕ) → testAnchor s (length b - at) (length vs) (e .anchor) ≡ o
+    go : (o : Out ℕ) → testAnchor s ls (length b - at) (length vs) (e .anchor) ≡ o
         → ((hs : List Id) (b : List ℕ) (at n : ℕ) → Inv (dequeued s e) hs → Rising (dequeued s e) (lowestWalked (dequeued s e)) es
-        → AllRight hs (passed (dequeued s e) (length b - at) es) × Inv (commitAll (dequeued s e) b at n es .store) (hs ++ allIds (passed (dequeued s e) (length b - at) es)))
+        → AllRight hs (passed (dequeued s e) (afterLists s (e .anchor) ls) (length b - at) es) × Inv (commitAll (dequeued s e) (afterLists s (e .anchor) ls) b at n es .store) (hs ++ allIds (passed (dequeued s e) (afterLists s (e .anchor) ls) (length b - at) es)))
         → AllRight hs (evs o) × Inv (fin o .store) (hs ++ allIds (evs o))
     go (bad r) h i = (tt, subst (Inv s) (sym (append-nil hs)) v)
-    go (good x) h i = ((one-right s hs e es v r c, all .0), subst (Inv (commitAll (dequeued s e) (written b at vs) (at + length vs) (suc n) es .store)) (append-assoc hs (history s (e .anchor)) _) (all .1))
+    go (good x) h i = ((one-right s ls hs e es v r c o, all .0), subst (Inv (commitAll (dequeued s e) (afterLists s (e .anchor) ls) (written b at vs) (at + length vs) (suc n) es .store)) (append-assoc hs (inOrder s (e .anchor) ls) _) (all .1))
       where
         c : Tested s (e .anchor)
-        c = test-good s _ _ _ x h .0
+        c = test-good s ls _ _ _ x h .0
+
+        o : listsOk (linkedCounts s (e .anchor)) ls ≡ true
+        o = test-good s ls _ _ _ x h .2
 
         same : length (written b at vs) - (at + length vs) ≡ length b - at - length vs
         same = sym (room-left (length b) at (length (written b at vs)) (length vs) (written-length b at vs))
 
-        all : AllRight (hs ++ history s (e .anchor)) (passed (dequeued s e) (length b - at - length vs) es)
-            × Inv (commitAll (dequeued s e) (written b at vs) (at + length vs) (suc n) es .store) (hs ++ history s (e .anchor) ++ allIds (passed (dequeued s e) (length b - at - length vs) es))
-        all = subst (λ k. AllRight (hs ++ history s (e .anchor)) (passed (dequeued s e) k es) × Inv (commitAll (dequeued s e) (written b at vs) (at + length vs) (suc n) es .store) (hs ++ history s (e .anchor) ++ allIds (passed (dequeued s e) k es))) same
-            (i (hs ++ history s (e .anchor)) (written b at vs) (at + length vs) (suc n) (one-inv s hs e es v r c) (rest-rising s e es r))
+        all : AllRight (hs ++ inOrder s (e .anchor) ls) (passed (dequeued s e) (afterLists s (e .anchor) ls) (length b - at - length vs) es)
+            × Inv (commitAll (dequeued s e) (afterLists s (e .anchor) ls) (written b at vs) (at + length vs) (suc n) es .store) (hs ++ inOrder s (e .anchor) ls ++ allIds (passed (dequeued s e) (afterLists s (e .anchor) ls) (length b - at - length vs) es))
+        all = subst (λ k. AllRight (hs ++ inOrder s (e .anchor) ls) (passed (dequeued s e) (afterLists s (e .anchor) ls) k es) × Inv (commitAll (dequeued s e) (afterLists s (e .anchor) ls) (written b at vs) (at + length vs) (suc n) es .store) (hs ++ inOrder s (e .anchor) ls ++ allIds (passed (dequeued s e) (afterLists s (e .anchor) ls) k es))) same
+            (i (hs ++ inOrder s (e .anchor) ls) (written b at vs) (at + length vs) (suc n) (one-inv s ls hs e es v r c o) (rest-rising s e es r))
 
 -- ---- all calls
 
 -- the anchors that a commit finishes, and what it leaves, by its walk
-abbrev pub finishesBy : Store → List ℕ → Out (List EnqueuedAnchor) → List Event
-finishesBy s b o = elim o [ bad r ↦ [] | good es ↦ passed s (length b) es ]
+abbrev pub finishesBy : Store → List ℕ → List ℕ → Out (List EnqueuedAnchor) → List Event
+finishesBy s ls b o = elim o [ bad r ↦ [] | good es ↦ passed s ls (length b) es ]
 
-abbrev pub commitBy : Store → List ℕ → Out (List EnqueuedAnchor) → Outcome
-commitBy s b o = elim o [ bad r ↦ record { answer = refused r 0; store = s; buffer = b } | good es ↦ commitEnd (commitAll s b 0 0 es) ]
+abbrev pub commitBy : Store → List ℕ → List ℕ → Out (List EnqueuedAnchor) → Outcome
+commitBy s ls b o = elim o [ bad r ↦ record { answer = refused r 0; store = s; buffer = b } | good es ↦ commitEnd (commitAll s ls b 0 0 es) ]
 
 -- the anchors that a call finishes
-unfoldable pub finishes : Store → Id → List ℕ → List Event
-finishes s i b = finishesBy s b (anchorsOf s i)
+unfoldable pub finishes : Store → Id → List ℕ → List ℕ → List Event
+finishes s i ls b = finishesBy s ls b (anchorsOf s i)
 
 unfoldable pub eventsOf : Store → Call → List Event
-eventsOf s c = elim c [ start b ↦ [] | resetAll ↦ [] | round r peers ↦ [] | name i ↦ [] | resolve i t ↦ [] | certify i ↦ [] | gapQuestion ↦ [] | commit i b ↦ finishes s i b | outlook i b ↦ [] | remove r from b ↦ [] | drop r ↦ [] ]
+eventsOf s c = elim c [ start b ↦ [] | resetAll ↦ [] | round r peers ↦ [] | name i ↦ [] | resolve i t ↦ [] | certify i ↦ [] | gapQuestion ↦ [] | commit i l b ↦ finishes s i l b | outlook i b ↦ [] | remove r from b ↦ [] | drop r ↦ [] ]
 
 -- what one call keeps
 pub record Keeps (hs : List Id) (s : Store) (c : Call) : Type 0 where
@@ -285,19 +313,19 @@ pub record Keeps (hs : List Id) (s : Store) (c : Call) : Type 0 where
 plain : (hs : List Id) (t : Store) → Inv t hs → Inv t (hs ++ [])
 plain hs t v = subst (Inv t) (sym (append-nil hs)) v
 
-commit-keeps : (s : Store) (i : Id) (b : List ℕ) (hs : List Id) → Inv s hs → AllRight hs (finishes s i b) × Inv (doCommit s i b .store) (hs ++ allIds (finishes s i b))
+commit-keeps : (s : Store) (i : Id) (ls b : List ℕ) (hs : List Id) → Inv s hs → AllRight hs (finishes s i ls b) × Inv (doCommit s i ls b .store) (hs ++ allIds (finishes s i ls b))
 unfolding finishes doCommit commitEnd
-commit-keeps s i b hs v = go (anchorsOf s i) refl
+commit-keeps s i ls b hs v = go (anchorsOf s i) refl
   where
     evs : Out (List EnqueuedAnchor) → List Event
-    evs = finishesBy s b
+    evs = finishesBy s ls b
 
     out : Out (List EnqueuedAnchor) → Outcome
-    out = commitBy s b
+    out = commitBy s ls b
 
     go : (o : Out (List EnqueuedAnchor)) → anchorsOf s i ≡ o → AllRight hs (evs o) × Inv (out o .store) (hs ++ allIds (evs o))
     go (bad r) e = (tt, plain hs s v)
-    go (good es) e = subst (λ k. AllRight hs (passed s k es) × Inv (commitAll s b 0 0 es .store) (hs ++ allIds (passed s k es))) (sub-zero (length b)) (commit-right s hs b 0 0 es v (anchors-rising s (v .wf) i es e))
+    go (good es) e = subst (λ k. AllRight hs (passed s ls k es) × Inv (commitAll s ls b 0 0 es .store) (hs ++ allIds (passed s ls k es))) (sub-zero (length b)) (commit-right s ls hs b 0 0 es v (anchors-rising s (v .wf) i es e))
 
 -- a start in the list is refused
 start-store : (s : Store) (b : StartArgs) (hs : List Id) → Inv s hs → Inv (doStart s b .store) hs
@@ -349,7 +377,7 @@ call-keeps s (name i) hs v l = record { right = tt; inv = plain hs _ (name-store
 call-keeps s (resolve i t) hs v l = record { right = tt; inv = plain hs _ (resolve-store s i t hs v) }
 call-keeps s (certify i) hs v l = record { right = tt; inv = plain hs _ (certify-store s i hs v) }
 call-keeps s gapQuestion hs v l = record { right = tt; inv = plain hs _ (gapQuestion-way (λ t. Inv t hs) s v (λ p a b. numbers-inv s p _ hs a b v)) }
-call-keeps s (commit i b) hs v l = let (x, y) = commit-keeps s i b hs v in record { right = x; inv = y }
+call-keeps s (commit i ls b) hs v l = let (x, y) = commit-keeps s i ls b hs v in record { right = x; inv = y }
 call-keeps s (outlook i b) hs v l = record { right = tt; inv = plain hs _ (subst (λ t. Inv t hs) (sym (outlook-store s i b)) v) }
 call-keeps s (remove r from b) hs v l = record { right = tt; inv = plain hs _ (remove-way (λ t. Inv t hs) s r from b v (λ m. drained-inv s (r - s .conf .historyRounds) _ m hs (sym (drain-progress s (newBottom s (r - s .conf .historyRounds)) (λ p. p .lastAnchor))) (sym (drain-progress s (newBottom s (r - s .conf .historyRounds)) (λ p. p .lastProof))) v)) }
 call-keeps s (drop r) hs v l = record { right = tt; inv = plain hs _ (drop-way (λ t. Inv t hs) s r (λ p a b. drained-inv s r p _ hs a b v)) }

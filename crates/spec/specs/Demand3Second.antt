@@ -1,4 +1,4 @@
--- Demand 3, second half: late arrivals before a commit change neither its answer nor a byte of its buffer (01: 'Demand 3').
+-- Demand 3, second half: late arrivals before a commit change neither its answer nor a byte of its buffer (01: 'Demand 3'; 02: N1).
 use Prim.Native.Nat.{ℕ, suc, _+_, _-_, _≤_, _<_, max}
 use mathlib.Core.Path.{_≡_, refl, sym, _∙_, subst, ap, ap₂}
 use mathlib.Core.Logic.{_⊎_, inl, inr, ⊎-elim, _≢_}
@@ -115,7 +115,7 @@ perform-late s (name i) h = finish-store (Late s) s _ (late-refl s) (name-arrive
 perform-late s (resolve i t) h = finish-store (Late s) s _ (late-refl s) (resolve-arrives s i t)
 perform-late s (certify i) h = finish-store (Late s) s _ (late-refl s) (λ t. certify-arrives s i t h)
 perform-late s gapQuestion h = absurd h
-perform-late s (commit i b) h = absurd h
+perform-late s (commit i ls b) h = absurd h
 perform-late s (outlook i b) h = absurd h
 perform-late s (remove r from b) h = absurd h
 perform-late s (dropTo r) h = absurd h
@@ -129,7 +129,7 @@ no-reset s (name i) h = refl
 no-reset s (resolve i t) h = refl
 no-reset s (certify i) h = refl
 no-reset s gapQuestion h = refl
-no-reset s (commit i b) h = refl
+no-reset s (commit i ls b) h = refl
 no-reset s (outlook i b) h = refl
 no-reset s (remove r from b) h = refl
 no-reset s (dropTo r) h = refl
@@ -305,38 +305,38 @@ handed-end f n h = go (f .stopped) refl h
     go (some r) e k = absurd (not-handed r _ n k)
 
 -- a commit that hands out an anchor: the anchors of its trigger, none refused
-handed-anchor : (s : Store) (i : Id) (b : List ℕ) (n : ℕ) → doCommit s i b .answer ≡ anchors (suc n)
-    → (e : EnqueuedAnchor) × (es : List EnqueuedAnchor) × (anchorsOf s i ≡ good (e ∷ es)) × (commitAll s b 0 0 (e ∷ es) .stopped ≡ none)
+handed-anchor : (s : Store) (i : Id) (ls b : List ℕ) (n : ℕ) → doCommit s i ls b .answer ≡ anchors (suc n)
+    → (e : EnqueuedAnchor) × (es : List EnqueuedAnchor) × (anchorsOf s i ≡ good (e ∷ es)) × (commitAll s ls b 0 0 (e ∷ es) .stopped ≡ none)
 unfolding doCommit commitAll
-handed-anchor s i b n h = go (anchorsOf s i) refl h
+handed-anchor s i ls b n h = go (anchorsOf s i) refl h
   where
     does : Out (List EnqueuedAnchor) → Outcome
-    does o = elim o [ bad r ↦ record { answer = refused r 0; store = s; buffer = b } | good es ↦ commitEnd (commitAll s b 0 0 es) ]
+    does o = elim o [ bad r ↦ record { answer = refused r 0; store = s; buffer = b } | good es ↦ commitEnd (commitAll s ls b 0 0 es) ]
 
     go : (o : Out (List EnqueuedAnchor)) → anchorsOf s i ≡ o → does o .answer ≡ anchors (suc n)
-        → (e : EnqueuedAnchor) × (es : List EnqueuedAnchor) × (anchorsOf s i ≡ good (e ∷ es)) × (commitAll s b 0 0 (e ∷ es) .stopped ≡ none)
+        → (e : EnqueuedAnchor) × (es : List EnqueuedAnchor) × (anchorsOf s i ≡ good (e ∷ es)) × (commitAll s ls b 0 0 (e ∷ es) .stopped ≡ none)
     go (bad r) e k = absurd (not-handed r 0 (suc n) k)
-    go (good []) e k = absurd (let z = handed-end (commitAll s b 0 0 []) (suc n) k .1 in omega arith)
+    go (good []) e k = absurd (let z = handed-end (commitAll s ls b 0 0 []) (suc n) k .1 in omega arith)
     go (good (x ∷ es)) e k = (x, es, e, handed-end _ (suc n) k .0)
 
 -- a commit of tables that keep their rules
-pub commit-is : (s : Store) → Wf s → (i : Id) (b : List ℕ) → call s (commit i b) ≡ doCommit s i b
+pub commit-is : (s : Store) → Wf s → (i : Id) (ls b : List ℕ) → call s (commit i ls b) ≡ doCommit s i ls b
 unfolding perform
-commit-is s w i b = call-perform s w (commit i b)
+commit-is s w i ls b = call-perform s w (commit i ls b)
 
-commit-answer : (s : Store) → Wf s → (i : Id) (b : List ℕ) (es : List EnqueuedAnchor) → anchorsOf s i ≡ good es → commitAll s b 0 0 es .stopped ≡ none
-    → (call s (commit i b) .answer ≡ anchors (commitAll s b 0 0 es .anchors)) × (call s (commit i b) .buffer ≡ commitAll s b 0 0 es .buffer)
+commit-answer : (s : Store) → Wf s → (i : Id) (ls b : List ℕ) (es : List EnqueuedAnchor) → anchorsOf s i ≡ good es → commitAll s ls b 0 0 es .stopped ≡ none
+    → (call s (commit i ls b) .answer ≡ anchors (commitAll s ls b 0 0 es .anchors)) × (call s (commit i ls b) .buffer ≡ commitAll s ls b 0 0 es .buffer)
 unfolding doCommit
-commit-answer s w i b es h c = rw (commit-is s w i b) (rw (h, doCommit) (ended (commitAll s b 0 0 es) c))
+commit-answer s w i ls b es h c = rw (commit-is s w i ls b) (rw (h, doCommit) (ended (commitAll s ls b 0 0 es) c))
 
 -- demand 3, second half
 pub second-half : SecondHalf
-second-half s z st i b n h cs arrive =
+second-half s z st i ls b n h cs arrive =
     let w : Wf s = countsAsStarted-elim s z st in
     let (wt, la) = after-late s w cs arrive in
-    let (e, es, f, c) = handed-anchor s i b n (ap (λ (o : Outcome). o .answer) (sym (commit-is s w i b)) ∙ h) in
-    let (x, y, v) = commit-late s (after s cs) w wt la (e ∷ es) (lowestWalked s) (anchors-rising s w i (e ∷ es) f) b 0 0 c in
+    let (e, es, f, c) = handed-anchor s i ls b n (ap (λ (o : Outcome). o .answer) (sym (commit-is s w i ls b)) ∙ h) in
+    let (x, y, v) = commit-late s (after s cs) w wt la (e ∷ es) (lowestWalked s) (anchors-rising s w i (e ∷ es) f) ls b 0 0 c in
     let k : anchorsOf (after s cs) i ≡ good (e ∷ es) = fires-back (after s cs) i (e ∷ es) (fires-late s (after s cs) w wt la i (e ∷ es) (fires s i e es f)) in
-    let (a, p) = commit-answer s w i b (e ∷ es) f c in
-    let (a′, p′) = commit-answer (after s cs) wt i b (e ∷ es) k x in
+    let (a, p) = commit-answer s w i ls b (e ∷ es) f c in
+    let (a′, p′) = commit-answer (after s cs) wt i ls b (e ∷ es) k x in
     (a′ ∙ (ap anchors v ∙ sym a), p′ ∙ (y ∙ sym p))

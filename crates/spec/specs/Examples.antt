@@ -1,5 +1,5 @@
 -- Small lists of calls and what they give: each refusal, the order of the tests, chains of several anchors, place lists, remove's bytes.
-use Prim.Native.Nat.{ℕ, suc}
+use Prim.Native.Nat.{ℕ, suc, _+_, _*_}
 use mathlib.Core.Path.{_≡_, refl}
 use mathlib.Core.List.{List, [], _∷_, _++_, map}
 use mathlib.Core.Bool.{Bool, true, false, cond}
@@ -183,8 +183,9 @@ certs = certify (id 13 0 130) ∷ certify (id 15 0 150) ∷ []
 abbrev onTwo : ℕ → Store
 onTwo x = after (blank 6) (two false (some 0) (side x) firing ++ certs)
 
+-- with lists for both anchors: 13; 15, the two points of 14 the other way round, 13
 abbrev fire : Store → ℕ → Outcome
-fire s n = call s (commit (id 17 0 170) (replicate n 0))
+fire s n = call s (commit (id 17 0 170) (0 ∷ 0 ∷ 1 ∷ 0 ∷ 0 ∷ []) (replicate n 0))
 
 -- last proof and last anchor
 abbrev lasts : Store → List ℕ
@@ -201,7 +202,7 @@ commits =
     -- both records: executable, previous anchor, number of points
     row 1 (ended (fire (onTwo 1) 314)) (3 ∷ 2 ∷ 16 ∷ 15 ∷ [])
     ∷ row 2 (bytes (fire (onTwo 1) 315) (74 ∷ 78 ∷ 82 ∷ 194 ∷ 198 ∷ 202 ∷ 314 ∷ [])) (1 ∷ 0 ∷ 1 ∷ 1 ∷ 13 ∷ 3 ∷ 0 ∷ [])
-    -- rounds of the points: 13; 14, 14, 15, in a round by digest
+    -- rounds of the points: 13; 14, 14, 15, in a round as the lists say
     ∷ row 3 (bytes (fire (onTwo 1) 314) (86 ∷ 206 ∷ 239 ∷ 243 ∷ 276 ∷ 280 ∷ [])) (13 ∷ 14 ∷ 140 ∷ 14 ∷ 141 ∷ 15 ∷ [])
     -- 21 against the bytes left; the first anchor keeps its record and marks
     ∷ row 4 (ended (fire (onTwo 1) 313)) (4 ∷ 21 ∷ 1 ∷ 14 ∷ 13 ∷ [])
@@ -301,27 +302,27 @@ missing b =
 
 abbrev others : List Row
 others =
-    -- counted from the marks now: 1 point, then 4; 21 against its own buffer, nothing written; 13, 20 never
-    row 1 (ended (look (onTwo 1) 82)) (3 ∷ 2 ∷ 0 ∷ 0 ∷ [])
-    ∷ row 2 (bytes (look (onTwo 1) 83) (3 ∷ 40 ∷ 44 ∷ 81 ∷ 82 ∷ [])) (13 ∷ 1 ∷ 15 ∷ 4 ∷ 0 ∷ [])
-    ∷ row 3 (numbers (look (onTwo 1) 81 .answer) ++ bytes (look (onTwo 1) 81) (3 ∷ 40 ∷ [])) (4 ∷ 21 ∷ 0 ∷ 0 ∷ 0 ∷ [])
-    ∷ row 4 (numbers (look (onTwo 3) 82 .answer) ++ bytes (look (onTwo 3) 82) (3 ∷ 40 ∷ [])) (4 ∷ 13 ∷ 0 ∷ 0 ∷ 0 ∷ [])
-    ∷ row 5 (numbers (look (after (blank 6) (two true (some 0) (side 1) firing ++ certs)) 82 .answer)) (3 ∷ 2 ∷ [])
+    -- counted from the marks now: 1 point, then 4, with the points of each round; 21 against its own buffer, nothing written; 13, 20 never
+    row 1 (ended (look (onTwo 1) 106)) (3 ∷ 2 ∷ 0 ∷ 0 ∷ [])
+    ∷ row 2 (bytes (look (onTwo 1) 107) (3 ∷ 40 ∷ 44 ∷ 48 ∷ 52 ∷ 56 ∷ 93 ∷ 97 ∷ 101 ∷ 105 ∷ 106 ∷ [])) (13 ∷ 1 ∷ 1 ∷ 0 ∷ 0 ∷ 15 ∷ 4 ∷ 1 ∷ 2 ∷ 1 ∷ 0 ∷ [])
+    ∷ row 3 (numbers (look (onTwo 1) 105 .answer) ++ bytes (look (onTwo 1) 105) (3 ∷ 40 ∷ [])) (4 ∷ 21 ∷ 0 ∷ 0 ∷ 0 ∷ [])
+    ∷ row 4 (numbers (look (onTwo 3) 106 .answer) ++ bytes (look (onTwo 3) 106) (3 ∷ 40 ∷ [])) (4 ∷ 13 ∷ 0 ∷ 0 ∷ 0 ∷ [])
+    ∷ row 5 (numbers (look (after (blank 6) (two true (some 0) (side 1) firing ++ certs)) 106 .answer)) (3 ∷ 2 ∷ [])
     -- 5, no anchors below the bottom, 6
-    ∷ row 6 (numbers (call (onTwo 1) (commit (id 9 32 1) []) .answer)) (stop 5)
-    ∷ row 7 (numbers (call (onTwo 1) (commit (id 9 2 1) []) .answer)) (3 ∷ 0 ∷ [])
-    ∷ row 8 (numbers (call (onTwo 1) (commit (id 18 2 1) []) .answer)) (stop 6)
-    ∷ row 9 (numbers (call (onTwo 1) (commit (id 17 2 170) []) .answer)) (stop 5)
-    ∷ row 10 (numbers (call (onTwo 1) (commit (id 17 1 170) []) .answer)) (stop 9)
+    ∷ row 6 (numbers (call (onTwo 1) (commit (id 9 32 1) [] []) .answer)) (stop 5)
+    ∷ row 7 (numbers (call (onTwo 1) (commit (id 9 2 1) [] []) .answer)) (3 ∷ 0 ∷ [])
+    ∷ row 8 (numbers (call (onTwo 1) (commit (id 18 2 1) [] []) .answer)) (stop 6)
+    ∷ row 9 (numbers (call (onTwo 1) (commit (id 17 2 170) [] []) .answer)) (stop 5)
+    ∷ row 10 (numbers (call (onTwo 1) (commit (id 17 1 170) [] []) .answer)) (stop 9)
     -- 16: a used mark of another author; a used mark ends the walk; 19 where it stands above the lowest round
     ∷ row 11 (numbers (fire (after (blank 6) (two false (some 1) (side 1) firing ++ certs)) 400 .answer)) (stop 16)
     ∷ row 12 (numbers (fire (withUsed (onTwo 1) 14 0) 400 .answer)) (stop 19)
     ∷ row 13 (numbers (fire (withUsed (onTwo 1) 16 0) 400 .answer)) (3 ∷ 0 ∷ [])
     -- 22; 17 before 18 and 20, at its bound; 18 before 20
-    ∷ row 14 (numbers (call (after (blank 6) genesis) (commit (id 12 0 120) []) .answer)) (stop 22)
-    ∷ row 15 (numbers (call (after (blank 6) (missing 10)) (commit (id 23 0 230) []) .answer)) (stop 17)
-    ∷ row 16 (numbers (call (after (blank 6) (missing 17)) (commit (id 23 0 230) []) .answer)) (stop 17)
-    ∷ row 17 (numbers (call (after (blank 6) (missing 18)) (commit (id 23 0 230) []) .answer)) (stop 18)
+    ∷ row 14 (numbers (call (after (blank 6) genesis) (commit (id 12 0 120) [] []) .answer)) (stop 22)
+    ∷ row 15 (numbers (call (after (blank 6) (missing 10)) (commit (id 23 0 230) [] []) .answer)) (stop 17)
+    ∷ row 16 (numbers (call (after (blank 6) (missing 17)) (commit (id 23 0 230) [] []) .answer)) (stop 17)
+    ∷ row 17 (numbers (call (after (blank 6) (missing 18)) (commit (id 23 0 230) [] []) .answer)) (stop 18)
     ∷ []
 
 looked : agree others ≡ true
@@ -330,58 +331,113 @@ looked = refl
 
 -- ---- place lists (02: N1)
 
--- K13's points: 11.0.110, 12.0.120 and 12.1.121, at place 3 the anchor 13.0.130
-abbrev layered : Store
-layered = after (blank 6) (
-    (from 2 10 false (some 0) ∷ rounds 11 5)
+-- K13's points: 11.0.110, 12.0.120 and 12.1.121, anchor 13.0.130, trigger 15.0.150; started after a gap or not
+abbrev layers : Bool → List Call
+layers gap =
+    (from 2 10 gap (some 0) ∷ rounds 11 5)
     ++ (both (id 11 0 110) (gave 1 [] [])
     ++ (both (id 12 0 120) (gave 1 (ref 0 110 ∷ []) [])
     ++ (both (id 12 1 121) (gave 1 (ref 0 110 ∷ []) [])
     ++ (both (id 13 0 130) (gave 1 (ref 0 120 ∷ ref 1 121 ∷ []) [])
     ++ (both (id 14 0 140) (point 1 true false (id 10 0 0) (ref 0 130 ∷ []))
-    ++ (both (id 15 0 150) (point 1 false true (id 10 0 0) (ref 0 140 ∷ [])) ++ (certify (id 13 0 130) ∷ []))))))))
+    ++ (both (id 15 0 150) (point 1 false true (id 10 0 0) (ref 0 140 ∷ [])) ++ (certify (id 13 0 130) ∷ [])))))))
 
--- three points of 11 by three peers, at place 3 the anchor 12.0.120
-abbrev triple : Store
-triple = after (blank 6) (
-    (start (record { conf = conf 2; bottom = 10; peers = 7; afterGap = false; used = some 0 }) ∷ round 11 7 ∷ round 12 7 ∷ [])
+abbrev layered : List ℕ → ℕ → Outcome
+layered l n = call (after (blank 6) (layers false)) (commit (id 15 0 150) l (replicate n 0))
+
+-- the last bytes of the digests in a record of k points that begins at byte `at`
+abbrev digests : Outcome → ℕ → List ℕ → List ℕ
+digests o at ks = map (λ k. getD (o .buffer) (at + 119 + k * 37) 99) ks
+
+abbrev four : Outcome → List ℕ
+four o = numbers (o .answer) ++ digests o 0 (0 ∷ 1 ∷ 2 ∷ 3 ∷ [])
+
+-- three points of 11 by three peers under the anchor 12.0.120, trigger 14.0.140
+abbrev triple : List ℕ → Outcome
+triple l = call (after (blank 6) (
+    (start (record { conf = conf 2; bottom = 10; peers = 7; afterGap = false; used = some 0 }) ∷ round 11 7 ∷ round 12 7 ∷ round 13 7 ∷ round 14 7 ∷ [])
     ++ (both (id 11 0 3) (gave 1 [] [])
     ++ (both (id 11 1 1) (gave 1 [] [])
-    ++ (both (id 11 2 2) (gave 1 [] []) ++ both (id 12 0 120) (gave 1 (ref 0 3 ∷ ref 1 1 ∷ ref 2 2 ∷ []) [])))))
+    ++ (both (id 11 2 2) (gave 1 [] [])
+    ++ (both (id 12 0 120) (gave 1 (ref 0 3 ∷ ref 1 1 ∷ ref 2 2 ∷ []) [])
+    ++ (both (id 13 0 130) (point 1 true false (id 10 0 0) (ref 0 120 ∷ []))
+    ++ (both (id 14 0 140) (point 1 false true (id 10 0 0) (ref 0 130 ∷ [])) ++ (certify (id 12 0 120) ∷ []))))))))) (commit (id 14 0 140) l (replicate 231 0))
 
--- the two anchors 13 and 15, the first committed; the other is at place 3
-abbrev half : Store
-half = fire (onTwo 1) 120 .store
+-- two anchors 12.0.120 and 14.0.140 in one line of includes from 16.0.160 down to 11.0.110
+abbrev ladder : Store
+ladder = after (blank 6) (
+    (from 2 10 false (some 0) ∷ rounds 11 6)
+    ++ (both (id 11 0 110) (gave 1 [] [])
+    ++ (both (id 12 0 120) (point 1 false false (id 10 0 0) (ref 0 110 ∷ []))
+    ++ (both (id 13 0 130) (point 1 true false (id 10 0 0) (ref 0 120 ∷ []))
+    ++ (both (id 14 0 140) (point 1 false false (id 13 0 130) (ref 0 130 ∷ []))
+    ++ (both (id 15 0 150) (point 1 true false (id 10 0 0) (ref 0 140 ∷ []))
+    ++ (both (id 16 0 160) (point 1 false true (id 10 0 0) (ref 0 150 ∷ [])) ++ (certify (id 12 0 120) ∷ certify (id 14 0 140) ∷ []))))))))
 
--- whether these lists of the anchor at place 3 are right
-abbrev right : Store → List ℕ → List ℕ
-right s l = cond (listsOk (linkedCounts s 3) l) 1 0 ∷ []
+abbrev climb : Store → List ℕ → Outcome
+climb s l = call s (commit (id 16 0 160) l (replicate 314 0))
 
--- the same, and the digests in the order in which they come out
-abbrev out : Store → List ℕ → List ℕ
-out s l = right s l ++ map (λ (i : Id). i .digest) (inOrder s 3 l)
+abbrev glance : Store → ℕ → Outcome
+glance s n = call s (outlook (id 16 0 160) (replicate n 0))
+
+-- anchor 13.0.130 over the witness 11.0.110, nothing in 12
+abbrev passing : Store
+passing = after (blank 6) (
+    (from 2 10 false (some 0) ∷ rounds 11 5)
+    ++ (both (id 11 0 110) (gave 1 [] [])
+    ++ (both (id 13 0 130) (gave 1 [] (ref 0 110 ∷ []))
+    ++ (both (id 14 0 140) (point 1 true false (id 10 0 0) (ref 0 130 ∷ []))
+    ++ (both (id 15 0 150) (point 1 false true (id 10 0 0) (ref 0 140 ∷ [])) ++ (certify (id 13 0 130) ∷ []))))))
+
+-- H 4, a start at 15, anchor 16: the bottom is above the limit
+abbrev shallow : Store
+shallow = after (blank 6) (
+    (from 4 15 false none ∷ rounds 16 3)
+    ++ (both (id 16 0 160) (gave 1 [] [])
+    ++ (both (id 17 0 170) (point 1 true false (id 10 0 0) (ref 0 160 ∷ []))
+    ++ (both (id 18 0 180) (point 1 false true (id 10 0 0) (ref 0 170 ∷ [])) ++ (certify (id 16 0 160) ∷ [])))))
 
 abbrev lists : List Row
 lists =
-    -- the counts of 13, 12, 11; the points of 12 in the reverse of their list; further bytes are unread
-    row 1 (linkedCounts layered 3) (1 ∷ 2 ∷ 1 ∷ [])
-    ∷ row 2 (out layered (0 ∷ 0 ∷ 1 ∷ 0 ∷ [])) (1 ∷ 110 ∷ 121 ∷ 120 ∷ 130 ∷ [])
-    ∷ row 3 (out layered (0 ∷ 1 ∷ 0 ∷ 0 ∷ [])) (1 ∷ 110 ∷ 120 ∷ 121 ∷ 130 ∷ [])
-    ∷ row 4 (out layered (0 ∷ 1 ∷ 0 ∷ 0 ∷ 255 ∷ 255 ∷ [])) (1 ∷ 110 ∷ 120 ∷ 121 ∷ 130 ∷ [])
-    -- a place twice, one not below the count, another round's list, too few bytes, none
-    ∷ row 5 (right layered (0 ∷ 0 ∷ 0 ∷ 0 ∷ [])) (0 ∷ [])
-    ∷ row 6 (right layered (0 ∷ 2 ∷ 0 ∷ 0 ∷ [])) (0 ∷ [])
-    ∷ row 7 (right layered (1 ∷ 1 ∷ 0 ∷ 0 ∷ [])) (0 ∷ [])
-    ∷ row 8 (right layered (0 ∷ 0 ∷ 1 ∷ [])) (0 ∷ [])
-    ∷ row 9 (right layered []) (0 ∷ [])
+    -- the points of 12 in the reverse of their list; further bytes are unread; 21 against right lists
+    row 1 (four (layered (0 ∷ 0 ∷ 1 ∷ 0 ∷ []) 231)) (3 ∷ 1 ∷ 110 ∷ 121 ∷ 120 ∷ 130 ∷ [])
+    ∷ row 2 (four (layered (0 ∷ 1 ∷ 0 ∷ 0 ∷ []) 231)) (3 ∷ 1 ∷ 110 ∷ 120 ∷ 121 ∷ 130 ∷ [])
+    ∷ row 3 (four (layered (0 ∷ 1 ∷ 0 ∷ 0 ∷ 255 ∷ 255 ∷ []) 231)) (3 ∷ 1 ∷ 110 ∷ 120 ∷ 121 ∷ 130 ∷ [])
+    ∷ row 4 (numbers (layered (0 ∷ 1 ∷ 0 ∷ 0 ∷ []) 230 .answer) ++ bytes (layered (0 ∷ 1 ∷ 0 ∷ 0 ∷ []) 230) (3 ∷ 82 ∷ 119 ∷ [])) (4 ∷ 21 ∷ 0 ∷ 0 ∷ 0 ∷ 0 ∷ [])
+    -- 24: a place twice, one not below the count, another's list, too few, none; before 21, with nothing written
+    ∷ row 5 (four (layered (0 ∷ 0 ∷ 0 ∷ 0 ∷ []) 231)) (4 ∷ 24 ∷ 0 ∷ 0 ∷ 0 ∷ 0 ∷ 0 ∷ [])
+    ∷ row 6 (numbers (layered (0 ∷ 2 ∷ 0 ∷ 0 ∷ []) 231 .answer)) (stop 24)
+    ∷ row 7 (numbers (layered (1 ∷ 1 ∷ 0 ∷ 0 ∷ []) 231 .answer)) (stop 24)
+    ∷ row 8 (numbers (layered (0 ∷ 0 ∷ 1 ∷ []) 231 .answer)) (stop 24)
+    ∷ row 9 (ended (layered [] 231)) (4 ∷ 24 ∷ 0 ∷ 0 ∷ 0 ∷ [])
+    ∷ row 10 (numbers (layered [] 0 .answer)) (stop 24)
+    ∷ row 11 (numbers (layered (0 ∷ 0 ∷ 1 ∷ 0 ∷ []) 0 .answer)) (stop 21)
+    -- the outlook: 4 points, then the counts of 13, 12, 11; a byte short
+    ∷ row 12 (bytes (call (after (blank 6) (layers false)) (outlook (id 15 0 150) (replicate 53 0))) (3 ∷ 40 ∷ 44 ∷ 48 ∷ 52 ∷ [])) (13 ∷ 4 ∷ 1 ∷ 2 ∷ 1 ∷ [])
+    ∷ row 13 (numbers (call (after (blank 6) (layers false)) (outlook (id 15 0 150) (replicate 52 0)) .answer)) (stop 21)
+    -- 20 before 24
+    ∷ row 14 (numbers (call (after (blank 6) (layers true)) (commit (id 15 0 150) [] []) .answer)) (stop 20)
+    ∷ row 15 (numbers (call (after (blank 6) (layers true ++ (gapQuestion ∷ []))) (commit (id 15 0 150) [] []) .answer)) (stop 24)
     -- three points 1, 2, 3: a byte says who stands there, not where that one went
-    ∷ row 10 (out triple (0 ∷ 1 ∷ 2 ∷ 0 ∷ [])) (1 ∷ 1 ∷ 3 ∷ 2 ∷ 120 ∷ [])
-    ∷ row 11 (out triple (0 ∷ 2 ∷ 0 ∷ 1 ∷ [])) (1 ∷ 2 ∷ 1 ∷ 3 ∷ 120 ∷ [])
-    -- the point of 13 is counted, committed as it is, and doesn't come out; bytes after its list are left
-    ∷ row 12 (linkedCounts half 3) (1 ∷ 2 ∷ 1 ∷ [])
-    ∷ row 13 (out half (0 ∷ 0 ∷ 1 ∷ 0 ∷ [])) (1 ∷ 141 ∷ 140 ∷ 150 ∷ [])
-    ∷ row 14 (right half (0 ∷ 0 ∷ 1 ∷ [])) (0 ∷ [])
-    ∷ row 15 (afterLists half 3 (0 ∷ 0 ∷ 1 ∷ 0 ∷ 7 ∷ [])) (7 ∷ [])
+    ∷ row 16 (four (triple (0 ∷ 1 ∷ 2 ∷ 0 ∷ []))) (3 ∷ 1 ∷ 1 ∷ 3 ∷ 2 ∷ 120 ∷ [])
+    ∷ row 17 (four (triple (0 ∷ 2 ∷ 0 ∷ 1 ∷ []))) (3 ∷ 1 ∷ 2 ∷ 1 ∷ 3 ∷ 120 ∷ [])
+    ∷ row 18 (four (triple (0 ∷ 0 ∷ 1 ∷ 2 ∷ []))) (3 ∷ 1 ∷ 3 ∷ 2 ∷ 1 ∷ 120 ∷ [])
+    -- two anchors, their lists end to end: 2 points and the counts of 12, 11; 3 points and those of 14, 13, 12
+    ∷ row 19 (numbers (glance ladder 102 .answer) ++ bytes (glance ladder 102) (3 ∷ 40 ∷ 44 ∷ 48 ∷ 52 ∷ 89 ∷ 93 ∷ 97 ∷ 101 ∷ [])) (3 ∷ 2 ∷ 12 ∷ 2 ∷ 1 ∷ 1 ∷ 14 ∷ 3 ∷ 1 ∷ 1 ∷ 1 ∷ [])
+    ∷ row 20 (numbers (glance ladder 101 .answer)) (stop 21)
+    -- the point of 12 is needed again, and committed by then: not handed out twice
+    ∷ row 21 (numbers (climb ladder (replicate 5 0) .answer) ++ (digests (climb ladder (replicate 5 0)) 0 (0 ∷ 1 ∷ []) ++ digests (climb ladder (replicate 5 0)) 157 (0 ∷ 1 ∷ []))) (3 ∷ 2 ∷ 110 ∷ 120 ∷ 130 ∷ 140 ∷ [])
+    -- lists of the first anchor only: 24 with 1 finished; then its outlook, and the second one's lists
+    ∷ row 22 (ended (climb ladder (0 ∷ 0 ∷ []))) (4 ∷ 24 ∷ 1 ∷ 13 ∷ 12 ∷ [])
+    ∷ row 23 (bytes (glance (climb ladder (0 ∷ 0 ∷ []) .store) 53) (3 ∷ 40 ∷ 44 ∷ 48 ∷ 52 ∷ [])) (14 ∷ 2 ∷ 1 ∷ 1 ∷ 1 ∷ [])
+    ∷ row 24 (numbers (climb (climb ladder (0 ∷ 0 ∷ []) .store) (0 ∷ 0 ∷ 0 ∷ []) .answer) ++ digests (climb (climb ladder (0 ∷ 0 ∷ []) .store) (0 ∷ 0 ∷ 0 ∷ [])) 0 (0 ∷ 1 ∷ [])) (3 ∷ 1 ∷ 130 ∷ 140 ∷ [])
+    ∷ row 25 (ended (climb ladder (0 ∷ 0 ∷ 1 ∷ 0 ∷ 0 ∷ []))) (4 ∷ 24 ∷ 1 ∷ 13 ∷ 12 ∷ [])
+    -- a round without needed points has no byte; the lowest round is the bottom where that is above the limit
+    ∷ row 26 (bytes (call passing (outlook (id 15 0 150) (replicate 53 9))) (40 ∷ 44 ∷ 48 ∷ 52 ∷ [])) (2 ∷ 1 ∷ 0 ∷ 1 ∷ [])
+    ∷ row 27 (numbers (call passing (commit (id 15 0 150) (0 ∷ 0 ∷ []) (replicate 157 0)) .answer)) (3 ∷ 1 ∷ [])
+    ∷ row 28 (numbers (call passing (commit (id 15 0 150) (0 ∷ []) (replicate 157 0)) .answer)) (stop 24)
+    ∷ row 29 (bytes (call shallow (outlook (id 18 0 180) (replicate 50 9))) (40 ∷ 44 ∷ 48 ∷ 49 ∷ [])) (1 ∷ 1 ∷ 0 ∷ 9 ∷ [])
+    ∷ row 30 (numbers (call shallow (commit (id 18 0 180) (0 ∷ []) (replicate 120 0)) .answer)) (3 ∷ 1 ∷ [])
     ∷ []
 
 listed : agree lists ≡ true

@@ -1,30 +1,31 @@
 -- Late arrivals: what rounds, names, resolutions and certificates leave as it was, and that a commit reads only that.
 use Prim.Native.Nat.{ℕ, zero, suc, _+_, _-_, _≤_, _<_}
-use mathlib.Core.Path.{_≡_, refl, sym, _∙_, subst, subst₂, ap}
+use mathlib.Core.Path.{_≡_, refl, sym, _∙_, subst, subst₂, ap, ap₂}
 use mathlib.Core.Logic.{_⊎_, inl, inr}
 use mathlib.Core.Bool.{Bool, true, false, not, _&&_, _||_, cond}
-use mathlib.Core.List.{List, [], _∷_, _++_, map, List·Memᴰ}
+use mathlib.Core.List.{List, [], _∷_, _++_, map, reverse, List·Memᴰ, Memᴰ·cast}
 use mathlib.Core.Option.{none, some}
 use lib.Dec.{eqb, leb, ltb}
-use lib.ListN.{length}
+use lib.ListN.{length, getD, take, drop}
 use borrow.Author.Tests.{eqb-true, lt-ltb, le-ltb}
 use native.Mathlib.Omega.{arith}
 use Rattle.laws.specs.Test.{byTest, both, and-l, and-r, or-l, or-r, or-cases, same-test}
 use Rattle.laws.specs.Scan.{lowest-finds, those, those-elim, those-same}
-use Rattle.laws.specs.Lists.{map-same, joined}
-use Rattle.laws.specs.Sort.{sort}
+use Rattle.laws.specs.Lists.{map-same, keep-same, mem-map, getD-in, joined, weigh}
+use Rattle.laws.specs.Sort.{sort, sort-same}
 use Rattle.laws.specs.Bytes.{be, written}
-use Rattle.spec.specs.Ids.{Id, sameId, idBytes, rises, prev}
+use Rattle.spec.specs.Ids.{Id, sameId, idBytes, prev}
 use Rattle.spec.specs.Store.{Point, Round, Conf, Store, idAt, roundAt, statusAt, resolved, links, isNamed, find, previous}
 use Rattle.spec.specs.Paths.{Path, here, LinkedTo, Top, heightFrom, height, certified, proved}
 use Rattle.spec.specs.Chain.{Out, bad, good, isCommittable, EnqueuedAnchor, Onward, enqueue, walk}
-use Rattle.spec.specs.History.{limit, lowest, Need, anchor, hand, needed, inHistory, history, roundsMissing, isExecutable, gapAsked, isFirstExecutable, prevAnchor, recordBytes, setCommitted, gapAfter, useProof, dequeued, gapPending, testAnchor, Finished, commitAll}
+use Rattle.spec.specs.History.{limit, lowest, Need, anchor, hand, needed, inHistory, roundsMissing, isExecutable, gapAsked, isFirstExecutable, prevAnchor, recordBytes, setCommitted, gapAfter, useProof, dequeued, gapPending, linkedIn, roundsOf, countsIn, linkedCounts, eachOnce, listsOk, roundOut, drawn, inOrder, afterLists, testAnchor, Finished, commitAll}
 use Rattle.spec.specs.Graph.{carry}
 use Rattle.spec.specs.Links.{linked, link-made, Linked, fits-elim, resolved-named, down}
 use Rattle.spec.specs.HeightEquations.{inside, height-is, Sized}
 use Rattle.spec.specs.Sweep.{needed-is}
 use Rattle.spec.specs.WellFormed.{Wf, Leads}
 use Rattle.spec.specs.Order.{need-named}
+use Rattle.spec.specs.OrderInRound.{each-below, lists-head, linked-elim, drawn-elim}
 use Rattle.spec.specs.Preservation.{mark-kept, rising-mark}
 use Rattle.spec.specs.Walk.{refuse-back, Found, id-same, find-some, Valid, Visited, over, used-up, ends, goes, visit-good, visit-back, Anchored, Rising, Tested, tested-back, test-good}
 
@@ -353,11 +354,63 @@ module _ (s t : Store) (ws : Wf s) (wt : Wf t) (la : Late s t) (e : EnqueuedAnch
       heightsAre : (q : ℕ) → inHistory s (e .anchor) q ≡ true → 0 < height t q
       heightsAre q h = let n = history-needed s (e .anchor) q h in omega (arith, c .heightsAre q (place q n) h, height-late s t ws wt la q (known-needed q n))
 
-  history-late : history t (e .anchor) ≡ history s (e .anchor)
-  unfolding history
-  history-late = ap (sort rises)
-      (ap (map (idAt t)) (ap (λ n. those n (inHistory t (e .anchor))) (la .places) ∙ those-same (s .places) (inHistory t (e .anchor)) (inHistory s (e .anchor)) (λ q l. history-is-same q))
-      ∙ map-same (idAt t) (idAt s) (those (s .places) (inHistory s (e .anchor))) (λ q m. ap (λ z. z .id) (same-at q (history-needed s (e .anchor) q (those-elim _ _ q m .1)) .is)))
+  -- the same points in each round, and the same lists for them
+  linked-late : (r : ℕ) → linkedIn t (e .anchor) r ≡ linkedIn s (e .anchor) r
+  unfolding linkedIn
+  linked-late r =
+      ap (sort (λ p q. leb (idAt t p .digest) (idAt t q .digest)))
+      (ap (λ n. those n (λ q. needed t (e .anchor) q && eqb (roundAt t q) r)) (la .places) ∙ those-same (s .places) (λ q. needed t (e .anchor) q && eqb (roundAt t q) r) (λ q. needed s (e .anchor) q && eqb (roundAt s q) r) (λ q l. same q))
+      ∙ sort-same (λ p q. leb (idAt t p .digest) (idAt t q .digest)) (λ p q. leb (idAt s p .digest) (idAt s q .digest)) (those (s .places) (λ q. needed s (e .anchor) q && eqb (roundAt s q) r))
+      (λ p q m n i. leb (id-of p m i .digest) (id-of q n i .digest))
+    where
+      is-id : (q : ℕ) → needed s (e .anchor) q ≡ true → idAt t q ≡ idAt s q
+      is-id q h = ap (λ z. z .id) (same-at q h .is)
+
+      id-of : (q : ℕ) → List·Memᴰ q (those (s .places) (λ q. needed s (e .anchor) q && eqb (roundAt s q) r)) → idAt t q ≡ idAt s q
+      id-of q m = is-id q (and-l _ _ (those-elim (s .places) (λ q. needed s (e .anchor) q && eqb (roundAt s q) r) q m .1))
+
+      same : (q : ℕ) → (needed t (e .anchor) q && eqb (roundAt t q) r) ≡ (needed s (e .anchor) q && eqb (roundAt s q) r)
+      same q = same-test _ _
+          (λ h. let n : needed s (e .anchor) q ≡ true = needed-was q (and-l _ _ h) in both n (sym (ap (λ (z : Id). eqb (z .round) r) (is-id q n)) ∙ and-r (needed t (e .anchor) q) _ h))
+          (λ h. let n : needed s (e .anchor) q ≡ true = and-l _ _ h in both (needed-up s t ws wt la (e .anchor) (x .anchor-done) fit ready q n) (ap (λ (z : Id). eqb (z .round) r) (is-id q n) ∙ and-r (needed s (e .anchor) q) _ h))
+
+  rounds-late : roundsOf t (e .anchor) ≡ roundsOf s (e .anchor)
+  rounds-late = rw (la .conf, la .bottom, round-is) refl
+
+  countsAsStarted-in-late : (rs : List ℕ) → countsIn t (e .anchor) rs ≡ countsIn s (e .anchor) rs
+  countsAsStarted-in-late [] = refl
+  countsAsStarted-in-late (r ∷ rs) = ap₂ _∷_ (ap length (linked-late r)) (countsAsStarted-in-late rs)
+
+  countsAsStarted-late : linkedCounts t (e .anchor) ≡ linkedCounts s (e .anchor)
+  countsAsStarted-late = ap (countsIn t (e .anchor)) rounds-late ∙ countsAsStarted-in-late (roundsOf s (e .anchor))
+
+  after-late : (ls : List ℕ) → afterLists t (e .anchor) ls ≡ afterLists s (e .anchor) ls
+  unfolding afterLists
+  after-late ls = ap (λ ns. drop (weigh (λ n. n) ns) ls) countsAsStarted-late
+
+  out-late : (r : ℕ) (ls : List ℕ) → eachOnce (length (linkedIn s (e .anchor) r)) ls ≡ true → roundOut t (linkedIn s (e .anchor) r) ls ≡ roundOut s (linkedIn s (e .anchor) r) ls
+  unfolding roundOut
+  out-late r ls ok = ap reverse (keep-same (λ q. not (t .pt q .flags .committed)) (λ q. not (s .pt q .flags .committed)) (map (λ k. getD (linkedIn s (e .anchor) r) k 0) ls) (λ q m.
+      let (k, n, u) = mem-map (λ k. getD (linkedIn s (e .anchor) r) k 0) ls q m in
+      let (z, h, v) = linked-elim s (e .anchor) r q (Memᴰ·cast (sym u) (getD-in (linkedIn s (e .anchor) r) k 0 (each-below _ ls ok k n))) in
+      ap (λ z. not (z .flags .committed)) (same-at q h .is)))
+
+  drawn-late : (rs ls : List ℕ) → listsOk (countsIn s (e .anchor) rs) ls ≡ true → drawn t (e .anchor) rs ls ≡ drawn s (e .anchor) rs ls
+  unfolding drawn
+  drawn-late [] ls ok = refl
+  drawn-late (r ∷ rs) ls ok =
+      let n = length (linkedIn s (e .anchor) r) in
+      let (c, d) = lists-head n (countsIn s (e .anchor) rs) ls ok in
+      ap (λ ps. drawn t (e .anchor) rs (drop (length ps) ls) ++ roundOut t ps (take (length ps) ls)) (linked-late r)
+      ∙ ap₂ _++_ (drawn-late rs (drop n ls) d) (out-late r (take n ls) c)
+
+  -- the same ids in the same order
+  order-late : (ls : List ℕ) → listsOk (linkedCounts s (e .anchor)) ls ≡ true → inOrder t (e .anchor) ls ≡ inOrder s (e .anchor) ls
+  unfolding inOrder
+  order-late ls ok =
+      ap (λ rs. map (idAt t) (drawn t (e .anchor) rs ls)) rounds-late
+      ∙ (ap (map (idAt t)) (drawn-late (roundsOf s (e .anchor)) ls ok)
+      ∙ map-same (idAt t) (idAt s) (drawn s (e .anchor) (roundsOf s (e .anchor)) ls) (λ q m. ap (λ z. z .id) (same-at q (history-needed s (e .anchor) q (drawn-elim s (e .anchor) (roundsOf s (e .anchor)) ls ok q m .1)) .is)))
 
   executable-late : isExecutable t (e .anchor) ≡ isExecutable s (e .anchor)
   unfolding isExecutable
@@ -372,11 +425,11 @@ module _ (s t : Store) (ws : Wf s) (wt : Wf t) (la : Late s t) (e : EnqueuedAnch
   prev-late = λ i. cond (ltb (la .conf i .genesis) (prev (e .prevProofRound)) && not (first-late i)) (prev (e .prevProofRound)) 0
 
   -- its record is the same, byte for byte
-  pub record-late : recordBytes t e ≡ recordBytes s e
+  pub record-late : (ls : List ℕ) → listsOk (linkedCounts s (e .anchor)) ls ≡ true → recordBytes t ls e ≡ recordBytes s ls e
   unfolding recordBytes
-  record-late = λ i.
+  record-late ls ok = λ i.
       idBytes (anchor-is .is i .id) ++ (idBytes (la .same (e .proof) (x .proof-done) .is i .id) ++ (be 1 (cond (executable-late i) 1 0) ++ (be 4 (prev-late i)
-      ++ (be 4 (length (history-late i)) ++ joined idBytes (history-late i)))))
+      ++ (be 4 (length (order-late ls ok i)) ++ joined idBytes (order-late ls ok i)))))
 
   -- its commit is as late as the tables were
   pub mark-late : Late (dequeued s e) (dequeued t e)
@@ -426,42 +479,42 @@ rising-late s t la b (e ∷ es) (u, x, z) = (subst (λ n. b ≤ n) (sym m) u, an
       above = ap (λ n. n .id .round) (j .is) ∙ (x .above ∙ ap suc (sym m));
     }
 
--- an anchor that passes them, with the gap question put and room for its record
-pub test-back : (s : Store) (left size a : ℕ) → Tested s a → gapPending (s .progress .gap) ≡ false → size ≤ left → testAnchor s left size a ≡ good a
+-- an anchor that passes them, with the gap question put, right lists and room for its record
+pub test-back : (s : Store) (ls : List ℕ) (left size a : ℕ) → Tested s a → gapPending (s .progress .gap) ≡ false → listsOk (linkedCounts s a) ls ≡ true → size ≤ left → testAnchor s ls left size a ≡ good a
 unfolding testAnchor
-test-back s left size a c g l = rw (tested-back s a c) (refuse-back _ 20 _ g ∙ refuse-back _ 21 _ (le-ltb left size l))
+test-back s ls left size a c g o l = rw (tested-back s a c) (refuse-back _ 20 _ g ∙ (refuse-back _ 24 _ (ap not o) ∙ refuse-back _ 21 _ (le-ltb left size l)))
 
 -- a commit that nothing stops goes on after its first anchor
-commit-goes : (s : Store) (b : List ℕ) (at n : ℕ) (e : EnqueuedAnchor) (es : List EnqueuedAnchor) → commitAll s b at n (e ∷ es) .stopped ≡ none → (a : ℕ) × (testAnchor s (length b - at) (length (recordBytes s e)) (e .anchor) ≡ good a)
+commit-goes : (s : Store) (ls b : List ℕ) (at n : ℕ) (e : EnqueuedAnchor) (es : List EnqueuedAnchor) → commitAll s ls b at n (e ∷ es) .stopped ≡ none → (a : ℕ) × (testAnchor s ls (length b - at) (length (recordBytes s ls e)) (e .anchor) ≡ good a)
 unfolding commitAll
-commit-goes s b at n e es h = go (testAnchor s (length b - at) (length (recordBytes s e)) (e .anchor)) refl h
+commit-goes s ls b at n e es h = go (testAnchor s ls (length b - at) (length (recordBytes s ls e)) (e .anchor)) refl h
   where
     res : Out ℕ → Finished
     res o = elim o [
       | bad m ↦ record { store = s; buffer = b; anchors = n; stopped = some m }
-      | good z ↦ commitAll (dequeued s e) (written b at (recordBytes s e)) (at + length (recordBytes s e)) (suc n) es
+      | good z ↦ commitAll (dequeued s e) (afterLists s (e .anchor) ls) (written b at (recordBytes s ls e)) (at + length (recordBytes s ls e)) (suc n) es
     ]
 
-    go : (o : Out ℕ) → testAnchor s (length b - at) (length (recordBytes s e)) (e .anchor) ≡ o → res o .stopped ≡ none → (a : ℕ) × (testAnchor s (length b - at) (length (recordBytes s e)) (e .anchor) ≡ good a)
+    go : (o : Out ℕ) → testAnchor s ls (length b - at) (length (recordBytes s ls e)) (e .anchor) ≡ o → res o .stopped ≡ none → (a : ℕ) × (testAnchor s ls (length b - at) (length (recordBytes s ls e)) (e .anchor) ≡ good a)
     go (bad m) c f = absurd (let z : _≡_ {A = ℕ} 0 1 = cc in omega arith)
     go (good a) c f = (a, c)
 
 -- the first anchor passes
-pub commit-step : (s : Store) (b : List ℕ) (at n : ℕ) (e : EnqueuedAnchor) (es : List EnqueuedAnchor) (a : ℕ) → testAnchor s (length b - at) (length (recordBytes s e)) (e .anchor) ≡ good a
-    → commitAll s b at n (e ∷ es) ≡ commitAll (dequeued s e) (written b at (recordBytes s e)) (at + length (recordBytes s e)) (suc n) es
+pub commit-step : (s : Store) (ls b : List ℕ) (at n : ℕ) (e : EnqueuedAnchor) (es : List EnqueuedAnchor) (a : ℕ) → testAnchor s ls (length b - at) (length (recordBytes s ls e)) (e .anchor) ≡ good a
+    → commitAll s ls b at n (e ∷ es) ≡ commitAll (dequeued s e) (afterLists s (e .anchor) ls) (written b at (recordBytes s ls e)) (at + length (recordBytes s ls e)) (suc n) es
 unfolding commitAll
-commit-step s b at n e es a h = rw (h, commitAll) refl
+commit-step s ls b at n e es a h = rw (h, commitAll) refl
 
--- all anchors of a chain are committed: later too, with the same bytes
-pub commit-late : (s t : Store) → Wf s → Wf t → Late s t → (es : List EnqueuedAnchor) (low : ℕ) → Rising s low es → (b : List ℕ) (at n : ℕ) → commitAll s b at n es .stopped ≡ none
-    → (commitAll t b at n es .stopped ≡ none) × (commitAll t b at n es .buffer ≡ commitAll s b at n es .buffer) × (commitAll t b at n es .anchors ≡ commitAll s b at n es .anchors)
+-- all anchors of a chain are committed: later too, with the same lists, and with the same bytes
+pub commit-late : (s t : Store) → Wf s → Wf t → Late s t → (es : List EnqueuedAnchor) (low : ℕ) → Rising s low es → (ls b : List ℕ) (at n : ℕ) → commitAll s ls b at n es .stopped ≡ none
+    → (commitAll t ls b at n es .stopped ≡ none) × (commitAll t ls b at n es .buffer ≡ commitAll s ls b at n es .buffer) × (commitAll t ls b at n es .anchors ≡ commitAll s ls b at n es .anchors)
 unfolding commitAll
-commit-late s t ws wt la [] low r b at n h = (refl, refl, refl)
-commit-late s t ws wt la (e ∷ es) low r b at n h =
-    let (a, u) = commit-goes s b at n e es h in
-    let (c, g, l) = test-good s (length b - at) (length (recordBytes s e)) (e .anchor) a u in
+commit-late s t ws wt la [] low r ls b at n h = (refl, refl, refl)
+commit-late s t ws wt la (e ∷ es) low r ls b at n h =
+    let (a, u) = commit-goes s ls b at n e es h in
+    let (c, g, o, l) = test-good s ls (length b - at) (length (recordBytes s ls e)) (e .anchor) a u in
     let k : Tested t (e .anchor) = tested-late s t ws wt la e (r .1) c in
-    let v : testAnchor t (length b - at) (length (recordBytes t e)) (e .anchor) ≡ good (e .anchor) = test-back t (length b - at) (length (recordBytes t e)) (e .anchor) k (rw (la .progress) g) (rw (record-late s t ws wt la e (r .1) c) l) in
-    rw (commit-step s b at n e es a u, commit-step t b at n e es (e .anchor) v) (rw (record-late s t ws wt la e (r .1) c)
-    (commit-late (dequeued s e) (dequeued t e) (mark-kept s ws e (r .1) c) (mark-kept t wt e (rising-late s t la _ (e ∷ es) r .1) k) (mark-late s t ws wt la e (r .1) c) es _ (rising-mark s e _ es (r .2)) (written b at (recordBytes s e)) (at + length (recordBytes s e)) (suc n)
-    (subst (λ z. z .stopped ≡ none) (commit-step s b at n e es a u) h)))
+    let v : testAnchor t ls (length b - at) (length (recordBytes t ls e)) (e .anchor) ≡ good (e .anchor) = test-back t ls (length b - at) (length (recordBytes t ls e)) (e .anchor) k (rw (la .progress) g) (rw (countsAsStarted-late s t ws wt la e (r .1) c) o) (rw (record-late s t ws wt la e (r .1) c ls o) l) in
+    rw (commit-step s ls b at n e es a u, commit-step t ls b at n e es (e .anchor) v) (rw (record-late s t ws wt la e (r .1) c ls o, after-late s t ws wt la e (r .1) c ls)
+    (commit-late (dequeued s e) (dequeued t e) (mark-kept s ws e (r .1) c) (mark-kept t wt e (rising-late s t la _ (e ∷ es) r .1) k) (mark-late s t ws wt la e (r .1) c) es _ (rising-mark s e _ es (r .2)) (afterLists s (e .anchor) ls) (written b at (recordBytes s ls e)) (at + length (recordBytes s ls e)) (suc n)
+    (subst (λ z. z .stopped ≡ none) (commit-step s ls b at n e es a u) h)))

@@ -52,7 +52,7 @@ needed s a q = marks s a q && leb (lowest s a) (roundAt s q)
 unfoldable pub inHistory : Store → ℕ → ℕ → Bool
 inHistory s a q = needed s a q && not (s .pt q .flags .committed)
 
--- "Rounds rise in the answer"; "inside a round a history rises by digest"
+-- the set of points in the history, listed by round and digest; the order in which they come out is inOrder
 unfoldable pub history : Store → ℕ → List Id
 history s a = sort rises (map (idAt s) (those (s .places) (inHistory s a)))
 
@@ -136,9 +136,11 @@ unfoldable pub gapPending : Option Bool → Bool
 gapPending none = false
 gapPending (some asked) = not asked
 
--- all tests of one anchor of a commit that has this many bytes of its buffer left, for a record of this length
-unfoldable pub testAnchor : Store → ℕ → ℕ → ℕ → Out ℕ
-testAnchor s left size a = then (tested s a) (λ x. refuse (gapPending (s .progress .gap)) 20 (refuse (ltb left size) 21 (good a)))
+-- all tests of one anchor of a commit that is lent the lists l and has this many bytes of its buffer left, for a record of this length;
+-- 24 comes "after 20 and before 21"
+unfoldable pub testAnchor : Store → List ℕ → ℕ → ℕ → ℕ → Out ℕ
+testAnchor s l left size a =
+    then (tested s a) (λ x. refuse (gapPending (s .progress .gap)) 20 (refuse (not (listsOk (linkedCounts s a) l)) 24 (refuse (ltb left size) 21 (good a))))
 
 -- ---- the anchor record
 
@@ -158,10 +160,11 @@ unfoldable pub prevAnchor : Store → EnqueuedAnchor → ℕ
 prevAnchor s e = cond (ltb (s .conf .genesis) (prev (e .prevProofRound)) && not (isFirstExecutable s (e .anchor))) (prev (e .prevProofRound)) 0
 
 -- "Anchor record: anchor id, proof id, executable (1 byte), previous anchor round (4; 0 for none), number of points (4), their ids."
-unfoldable pub recordBytes : Store → EnqueuedAnchor → List ℕ
-recordBytes s e =
+-- l: the lists from this anchor's on
+unfoldable pub recordBytes : Store → List ℕ → EnqueuedAnchor → List ℕ
+recordBytes s l e =
     idBytes (idAt s (e .anchor)) ++ (idBytes (idAt s (e .proof)) ++ (be 1 (cond (isExecutable s (e .anchor)) 1 0) ++ (be 4 (prevAnchor s e)
-    ++ (be 4 (length (history s (e .anchor))) ++ joined idBytes (history s (e .anchor))))))
+    ++ (be 4 (length (inOrder s (e .anchor) l)) ++ joined idBytes (inOrder s (e .anchor) l)))))
 
 -- ---- one anchor's commit
 
@@ -210,21 +213,23 @@ pub record Finished : Type 0 where
   pub anchors : ℕ
   pub stopped : Option Refusal
 
--- "Then each anchor, oldest first, is tested .. Finished anchors keep their records and marks." at: the next free byte
-unfoldable pub commitAll : Store → List ℕ → ℕ → ℕ → List EnqueuedAnchor → Finished
-commitAll s b at n [] = record { store = s; buffer = b; anchors = n; stopped = none }
-commitAll s b at n (e ∷ es) =
-    let bytes = recordBytes s e in
-    elim (testAnchor s (length b - at) (length bytes) (e .anchor)) [
+-- "Then each anchor, oldest first, is tested .. Finished anchors keep their records and marks." l: the lists that are left; at: the next
+-- free byte
+unfoldable pub commitAll : Store → List ℕ → List ℕ → ℕ → ℕ → List EnqueuedAnchor → Finished
+commitAll s l b at n [] = record { store = s; buffer = b; anchors = n; stopped = none }
+commitAll s l b at n (e ∷ es) =
+    let bytes = recordBytes s l e in
+    elim (testAnchor s l (length b - at) (length bytes) (e .anchor)) [
       | bad r ↦ record { store = s; buffer = b; anchors = n; stopped = some r }
-      | good a ↦ commitAll (dequeued s e) (written b at bytes) (at + length bytes) (suc n) es
+      | good a ↦ commitAll (dequeued s e) (afterLists s (e .anchor) l) (written b at bytes) (at + length bytes) (suc n) es
     ]
 
 -- ---- the outlook
 
--- "for each anchor a trigger would yield, its id and the number of points in its history (4 bytes), counted from the committed marks now"
+-- "for each anchor a trigger would yield, its id and the number of points in its history (4 bytes), counted from the committed marks now";
+-- 02, N1: "each of its records ends with how many such points each of those rounds has (4 bytes each)"
 unfoldable pub outlookBytes : Store → ℕ → List ℕ
-outlookBytes s a = idBytes (idAt s a) ++ be 4 (length (history s a))
+outlookBytes s a = idBytes (idAt s a) ++ (be 4 (length (history s a)) ++ joined (be 4) (linkedCounts s a))
 
 -- "It is refused as the commit would be, by 20 never, by 21 for its own buffer"; left: the bytes of it that are left
 unfoldable pub outlookAll : Store → ℕ → List EnqueuedAnchor → Out (List ℕ)

@@ -26,7 +26,7 @@ prev r = r - 1
 unfoldable pub byRound : (ℕ → ℕ → Bool) → Id → Id → Bool
 byRound less i j = less (i .round) (j .round) || (eqb (i .round) (j .round) && leb (i .digest) (j .digest))
 
--- 01, back.rs and 'Forms': rounds rise, "inside a round a history rises by digest"
+-- rounds rise, and digests inside a round: how the set of a history is listed
 unfoldable pub rises : Id → Id → Bool
 rises = byRound ltb
 

@@ -119,7 +119,7 @@ module _ (s : Store) (w : Wf s) (a : ℕ) (there : s .pt a .named ≡ true) wher
   unfolding history
   ordered = sort-rises rises rises-total rises-trans _
 
-  -- "Rounds rise in the answer"; "inside a round a history rises by digest"
+  -- the set of a history, listed by round and digest: each comes before the next
   pub history-rises : Pairs Before (history s a)
   history-rises = strict (λ (x y : Id). rises x y ≡ true) Before (history s a) ordered history-once (λ x y m n r d. go x y (history-elim x m) (history-elim y n) d (rises-elim x y r))
     where

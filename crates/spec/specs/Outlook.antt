@@ -1,4 +1,4 @@
--- The outlook refuses as the commit would (01: commit/mod.rs, 'Refusals').
+-- The outlook refuses as the commit would (01: commit/mod.rs, 'Refusals'; 02: N1).
 use Prim.Native.Nat.{ℕ, zero, suc, _+_, _-_, _*_, _≤_, _<_}
 use mathlib.Core.Path.{_≡_, refl, sym, _∙_, subst, subst₂, ap}
 use mathlib.Core.Logic.{_⊎_, inl, inr, ⊎-elim, _≢_, _↔_}
@@ -6,20 +6,20 @@ use mathlib.Core.Bool.{Bool, true, false, not, _&&_, _||_}
 use mathlib.Core.List.{List, [], _∷_, _++_, List·Memᴰ, List·Memᴰ·head, List·Memᴰ·tail, List·Memᴰ·cases-cons}
 use mathlib.Core.Option.{Option, none, some, Option·some-injective}
 use lib.Dec.{eqb, leb, ltb}
-use lib.ListN.{length, length-append}
+use lib.ListN.{length, length-append, length-map}
 use borrow.Author.Tests.{eqb-true, le-ltb, not-true}
 use native.Mathlib.Omega.{arith}
 use native.Mathlib.Nat.{le-trans}
 use Rattle.laws.specs.Test.{byTest, clash, both, and-l, and-r, or-none, same-test}
 use Rattle.laws.specs.Scan.{any, any-same, those, those-elim}
-use Rattle.laws.specs.Lists.{Pairs, keep, keep-in, joined}
+use Rattle.laws.specs.Lists.{Pairs, keep, keep-in, joined, weigh}
 use Rattle.laws.specs.Sort.{insert, sort, sort-mem, sort-rises}
 use Rattle.laws.specs.Bytes.{be, be-length, written, written-length}
 use Rattle.spec.specs.Ids.{Id, idBytes, falls}
 use Rattle.spec.specs.Store.{Store, idAt, roundAt, statusAt, resolved, linksTo}
 use Rattle.spec.specs.Paths.{LinkedTo, height, certified, proved}
 use Rattle.spec.specs.Chain.{Refusal, number, conflict, Out, bad, good, then, refuse, isCommittable, checkedAs, checked, EnqueuedAnchor, anchorsOf}
-use Rattle.spec.specs.History.{limit, lowest, Need, anchor, hand, needed, inHistory, history, firstFault, faults, roundsMissing, anyUncertified, tested, gapPending, testAnchor, recordBytes, isFirstExecutable, gapAfter, setCommitted, dequeued, Finished, commitAll, outlookBytes, outlookAll}
+use Rattle.spec.specs.History.{limit, lowest, Need, anchor, hand, needed, inHistory, history, firstFault, faults, roundsMissing, anyUncertified, tested, gapPending, linkedCounts, listsOk, roundsOf, afterLists, testAnchor, recordBytes, isFirstExecutable, gapAfter, setCommitted, dequeued, Finished, commitAll, outlookBytes, outlookAll}
 use Rattle.spec.specs.Calls.{Answer, anchors, refused, numberOf, Outcome, commitEnd, doCommit, doOutlook, perform, commit, outlook, call}
 use Rattle.spec.specs.Links.{resolved-named}
 use Rattle.spec.specs.HeightEquations.{Sized, inside}
@@ -27,6 +27,8 @@ use Rattle.spec.specs.Sweep.{marked→need, needed-is}
 use Rattle.spec.specs.Changes.{mark-height}
 use Rattle.spec.specs.WellFormed.{Wf}
 use Rattle.spec.specs.Order.{need-named, falls-total, falls-trans}
+use Rattle.spec.specs.OrderInRound.{down-length, falling, falling-ok, falling-rest}
+use Rattle.spec.specs.Records.{id-length}
 use Rattle.spec.specs.Refusals.{Sound, anchors-sound, outlook-sound}
 use Rattle.spec.specs.Walk.{not-good, then-good, refuse-back, Anchored, Rising, Tested, tested-good}
 use Rattle.spec.specs.Preservation.{mark-kept, rising-mark, anchors-rising, call-perform}
@@ -256,15 +258,27 @@ tests-now s w low (e ∷ es) (u, x, r) = then-same (tested s (e .anchor)) _ _ (�
 
 -- ---- the outlook's tests
 
-pub outlook-length : (s : Store) (a : ℕ) → length (outlookBytes s a) ≡ 41
-unfolding outlookBytes idBytes
+-- an outlook's record: 41 bytes, and 4 for each round
+unfoldable pub lookSize : Store → ℕ → ℕ
+lookSize s a = 41 + (suc (roundAt s a) - lowest s a) * 4
+
+fours : (ns : List ℕ) → length (joined (be 4) ns) ≡ length ns * 4
+unfolding joined
+fours [] = refl
+fours (n ∷ ns) = let h : length (joined (be 4) ns) ≡ length ns * 4 = fours ns in length-append (be 4 n) (joined (be 4) ns) ∙ rw (be-length 4 n) (omega arith)
+
+pub outlook-length : (s : Store) (a : ℕ) → length (outlookBytes s a) ≡ lookSize s a
+unfolding outlookBytes lookSize
 outlook-length s a =
-    length-append (be 4 (idAt s a .round) ++ (be 1 (idAt s a .author) ++ be 32 (idAt s a .digest))) (be 4 (length (history s a)))
-    ∙ rw (length-append (be 4 (idAt s a .round)) (be 1 (idAt s a .author) ++ be 32 (idAt s a .digest)), length-append (be 1 (idAt s a .author)) (be 32 (idAt s a .digest)), be-length 4 (idAt s a .round), be-length 1 (idAt s a .author), be-length 32 (idAt s a .digest), be-length 4 (length (history s a))) refl
+    length-append (idBytes (idAt s a)) (be 4 (length (history s a)) ++ joined (be 4) (linkedCounts s a))
+    ∙ rw (id-length (idAt s a), length-append (be 4 (length (history s a))) (joined (be 4) (linkedCounts s a)), be-length 4 (length (history s a)), fours (linkedCounts s a), rounds) (omega arith)
+  where
+    rounds : length (linkedCounts s a) ≡ suc (roundAt s a) - lowest s a
+    rounds = length-map (roundsOf s a) _ ∙ down-length (roundAt s a) (suc (roundAt s a) - lowest s a)
 
 -- with room for all anchors: refused as its tests say, else their bytes
-pub outlook-is : (s : Store) (left : ℕ) (es : List EnqueuedAnchor) → length es * 41 ≤ left → outlookAll s left es ≡ then (testsNow s es) (λ x. good (joined (λ (e : EnqueuedAnchor). outlookBytes s (e .anchor)) es))
-unfolding outlookAll testsNow joined
+pub outlook-is : (s : Store) (left : ℕ) (es : List EnqueuedAnchor) → weigh (λ (e : EnqueuedAnchor). lookSize s (e .anchor)) es ≤ left → outlookAll s left es ≡ then (testsNow s es) (λ x. good (joined (λ (e : EnqueuedAnchor). outlookBytes s (e .anchor)) es))
+unfolding outlookAll testsNow joined weigh
 outlook-is s left [] l = refl
 outlook-is s left (e ∷ es) l = go (tested s (e .anchor)) (outlook-is s (left - length (outlookBytes s (e .anchor))) es (rw (outlook-length s (e .anchor)) (omega arith)))
   where
@@ -314,18 +328,35 @@ outlook-bad s left (e ∷ es) r n h =
 -- ---- the commit's tests
 
 -- the bytes of a chain's records
-unfoldable pub roomFor : Store → List EnqueuedAnchor → ℕ
-roomFor s [] = 0
-roomFor s (e ∷ es) = length (recordBytes s e) + roomFor (dequeued s e) es
+unfoldable pub roomFor : Store → List ℕ → List EnqueuedAnchor → ℕ
+roomFor s ls [] = 0
+roomFor s ls (e ∷ es) = length (recordBytes s ls e) + roomFor (dequeued s e) (afterLists s (e .anchor) ls) es
 
-test-bad : (s : Store) (left size a : ℕ) (r : Refusal) → tested s a ≡ bad r → testAnchor s left size a ≡ bad r
+-- each anchor's lists are right, the older ones committed
+abbrev pub Listed : Store → List ℕ → List EnqueuedAnchor → Type 0
+Listed s ls [] = Unit {0}
+Listed s ls (e ∷ es) = (listsOk (linkedCounts s (e .anchor)) ls ≡ true) × Listed (dequeued s e) (afterLists s (e .anchor) ls) es
+
+-- there are right lists for any anchors
+unfoldable pub rightLists : Store → List EnqueuedAnchor → List ℕ
+rightLists s [] = []
+rightLists s (e ∷ es) = falling (linkedCounts s (e .anchor)) ++ rightLists (dequeued s e) es
+
+pub right-listed : (s : Store) (es : List EnqueuedAnchor) → Listed s (rightLists s es) es
+unfolding rightLists afterLists
+right-listed s [] = tt
+right-listed s (e ∷ es) =
+    let rest = rightLists (dequeued s e) es in
+    (falling-ok (linkedCounts s (e .anchor)) rest, subst (λ l. Listed (dequeued s e) l es) (sym (falling-rest (linkedCounts s (e .anchor)) rest)) (right-listed (dequeued s e) es))
+
+test-bad : (s : Store) (ls : List ℕ) (left size a : ℕ) (r : Refusal) → tested s a ≡ bad r → testAnchor s ls left size a ≡ bad r
 unfolding testAnchor
-test-bad s left size a r h = rw h refl
+test-bad s ls left size a r h = rw h refl
 
 -- the first anchor is refused
-commit-stop : (s : Store) (b : List ℕ) (at n : ℕ) (e : EnqueuedAnchor) (es : List EnqueuedAnchor) (r : Refusal) → testAnchor s (length b - at) (length (recordBytes s e)) (e .anchor) ≡ bad r → commitAll s b at n (e ∷ es) .stopped ≡ some r
+commit-stop : (s : Store) (ls b : List ℕ) (at n : ℕ) (e : EnqueuedAnchor) (es : List EnqueuedAnchor) (r : Refusal) → testAnchor s ls (length b - at) (length (recordBytes s ls e)) (e .anchor) ≡ bad r → commitAll s ls b at n (e ∷ es) .stopped ≡ some r
 unfolding commitAll
-commit-stop s b at n e es r h = rw (h, commitAll) refl
+commit-stop s ls b at n e es r h = rw (h, commitAll) refl
 
 -- once put, the gap question stays put
 still-put : (s : Store) (e : EnqueuedAnchor) → gapPending (s .progress .gap) ≡ false → gapPending (dequeued s e .progress .gap) ≡ false
@@ -336,48 +367,54 @@ abbrev stop : Out ℕ → Option Refusal
 stop (bad r) = some r
 stop (good x) = none
 
-commit-ends : (s : Store) (es : List EnqueuedAnchor) → gapPending (s .progress .gap) ≡ false → (b : List ℕ) (at n : ℕ) → at + roomFor s es ≤ length b → commitAll s b at n es .stopped ≡ stop (tests s es)
+commit-ends : (s : Store) (es : List EnqueuedAnchor) → gapPending (s .progress .gap) ≡ false → (ls b : List ℕ) (at n : ℕ) → Listed s ls es → at + roomFor s ls es ≤ length b → commitAll s ls b at n es .stopped ≡ stop (tests s es)
 unfolding commitAll tests roomFor
-commit-ends s [] g b at n l = refl
-commit-ends s (e ∷ es) g b at n l = go (tested s (e .anchor)) refl (commit-ends (dequeued s e) es (still-put s e g) (written b at (recordBytes s e)) (at + length (recordBytes s e)) (suc n) (rw (written-length b at (recordBytes s e)) (omega arith)))
+commit-ends s [] g ls b at n o l = refl
+commit-ends s (e ∷ es) g ls b at n (o, os) l = go (tested s (e .anchor)) refl (commit-ends (dequeued s e) es (still-put s e g) (afterLists s (e .anchor) ls) (written b at (recordBytes s ls e)) (at + length (recordBytes s ls e)) (suc n) os (rw (written-length b at (recordBytes s ls e)) (omega arith)))
   where
-    go : (o : Out ℕ) → tested s (e .anchor) ≡ o → commitAll (dequeued s e) (written b at (recordBytes s e)) (at + length (recordBytes s e)) (suc n) es .stopped ≡ stop (tests (dequeued s e) es)
-        → commitAll s b at n (e ∷ es) .stopped ≡ stop (then o (λ x. tests (dequeued s e) es))
-    go (bad r) h i = commit-stop s b at n e es r (test-bad s (length b - at) (length (recordBytes s e)) (e .anchor) r h)
-    go (good a) h i = ap (λ f. f .stopped) (commit-step s b at n e es (e .anchor) (test-back s (length b - at) (length (recordBytes s e)) (e .anchor) (tested-good s (e .anchor) a h) g (omega arith))) ∙ i
+    go : (o : Out ℕ) → tested s (e .anchor) ≡ o → commitAll (dequeued s e) (afterLists s (e .anchor) ls) (written b at (recordBytes s ls e)) (at + length (recordBytes s ls e)) (suc n) es .stopped ≡ stop (tests (dequeued s e) es)
+        → commitAll s ls b at n (e ∷ es) .stopped ≡ stop (then o (λ x. tests (dequeued s e) es))
+    go (bad r) h i = commit-stop s ls b at n e es r (test-bad s ls (length b - at) (length (recordBytes s ls e)) (e .anchor) r h)
+    go (good a) h i = ap (λ f. f .stopped) (commit-step s ls b at n e es (e .anchor) (test-back s ls (length b - at) (length (recordBytes s ls e)) (e .anchor) (tested-good s (e .anchor) a h) g o (omega arith))) ∙ i
 
 none-some : {A : Type 0} (x : A) → none ≡ some x → ⊥
 none-some x h = let z : _≡_ {A = ℕ} 0 1 = cc in omega arith
 
-test-cases : (s : Store) (left size a : ℕ) (r : Refusal) → numberOf r ≢ 20 → numberOf r ≢ 21 → testAnchor s left size a ≡ bad r → tested s a ≡ bad r
+test-cases : (s : Store) (ls : List ℕ) (left size a : ℕ) (r : Refusal) → numberOf r ≢ 20 → numberOf r ≢ 24 → numberOf r ≢ 21 → testAnchor s ls left size a ≡ bad r → tested s a ≡ bad r
 unfolding testAnchor
-test-cases s left size a r f g h = ⊎-elim (λ u. u) (λ (x, u, k). ⊎-elim (λ m. absurd (other-number 20 r f m)) (λ j. ⊎-elim (λ m. absurd (other-number 21 r g m)) (λ i. absurd (not-good r a (sym i))) (refuse-bad (ltb left size) 21 (good a) r j)) (refuse-bad (gapPending (s .progress .gap)) 20 _ r k)) (then-bad (tested s a) _ r h)
+test-cases s ls left size a r f o g h =
+    ⊎-elim (λ u. u) (λ (x, u, k). ⊎-elim (λ m. absurd (other-number 20 r f m)) (λ j. ⊎-elim (λ m. absurd (other-number 24 r o m)) (λ d. ⊎-elim (λ m. absurd (other-number 21 r g m)) (λ i. absurd (not-good r a (sym i)))
+    (refuse-bad (ltb left size) 21 (good a) r d)) (refuse-bad (not (listsOk (linkedCounts s a) ls)) 24 _ r j)) (refuse-bad (gapPending (s .progress .gap)) 20 _ r k)) (then-bad (tested s a) _ r h)
 
-commit-stopped : (s : Store) (es : List EnqueuedAnchor) (b : List ℕ) (at n : ℕ) (r : Refusal) → numberOf r ≢ 20 → numberOf r ≢ 21 → commitAll s b at n es .stopped ≡ some r → tests s es ≡ bad r
+commit-stopped : (s : Store) (es : List EnqueuedAnchor) (ls b : List ℕ) (at n : ℕ) (r : Refusal) → numberOf r ≢ 20 → numberOf r ≢ 24 → numberOf r ≢ 21 → commitAll s ls b at n es .stopped ≡ some r → tests s es ≡ bad r
 unfolding commitAll tests
-commit-stopped s [] b at n r f g h = absurd (none-some r h)
-commit-stopped s (e ∷ es) b at n r f g h = go (testAnchor s (length b - at) (length (recordBytes s e)) (e .anchor)) refl h (commit-stopped (dequeued s e) es (written b at (recordBytes s e)) (at + length (recordBytes s e)) (suc n) r f g)
+commit-stopped s [] ls b at n r f o g h = absurd (none-some r h)
+commit-stopped s (e ∷ es) ls b at n r f o g h = go (testAnchor s ls (length b - at) (length (recordBytes s ls e)) (e .anchor)) refl h (commit-stopped (dequeued s e) es (afterLists s (e .anchor) ls) (written b at (recordBytes s ls e)) (at + length (recordBytes s ls e)) (suc n) r f o g)
   where
     res : Out ℕ → Finished
     res o = elim o [
       | bad m ↦ record { store = s; buffer = b; anchors = n; stopped = some m }
-      | good z ↦ commitAll (dequeued s e) (written b at (recordBytes s e)) (at + length (recordBytes s e)) (suc n) es
+      | good z ↦ commitAll (dequeued s e) (afterLists s (e .anchor) ls) (written b at (recordBytes s ls e)) (at + length (recordBytes s ls e)) (suc n) es
     ]
 
-    go : (o : Out ℕ) → testAnchor s (length b - at) (length (recordBytes s e)) (e .anchor) ≡ o → res o .stopped ≡ some r → (res (good 0) .stopped ≡ some r → tests (dequeued s e) es ≡ bad r)
+    go : (o : Out ℕ) → testAnchor s ls (length b - at) (length (recordBytes s ls e)) (e .anchor) ≡ o → res o .stopped ≡ some r → (res (good 0) .stopped ≡ some r → tests (dequeued s e) es ≡ bad r)
         → then (tested s (e .anchor)) (λ x. tests (dequeued s e) es) ≡ bad r
-    go (bad m) c k i = rw (test-cases s _ _ (e .anchor) r f g (c ∙ ap bad (Option·some-injective m r k))) refl
-    go (good a) c k i = let (x, u, j) = then-good (tested s (e .anchor)) (λ x. refuse (gapPending (s .progress .gap)) 20 (refuse (ltb (length b - at) (length (recordBytes s e))) 21 (good (e .anchor)))) a (unfold testAnchor in c) in rw u (i k)
+    go (bad m) c k i = rw (test-cases s ls _ _ (e .anchor) r f o g (c ∙ ap bad (Option·some-injective m r k))) refl
+    go (good a) c k i = let (x, u, j) = then-good (tested s (e .anchor)) (λ x. refuse (gapPending (s .progress .gap)) 20 (refuse (not (listsOk (linkedCounts s (e .anchor)) ls)) 24 (refuse (ltb (length b - at) (length (recordBytes s ls e))) 21 (good (e .anchor))))) a (unfold testAnchor in c) in rw u (i k)
 
 -- ---- the calls
 
 -- room for all records that a commit of this trigger writes
-abbrev pub Holds : Store → Id → List ℕ → Type 0
-Holds s i b = (es : List EnqueuedAnchor) → anchorsOf s i ≡ good es → roomFor s es ≤ length b
+abbrev pub Holds : Store → Id → List ℕ → List ℕ → Type 0
+Holds s i ls b = (es : List EnqueuedAnchor) → anchorsOf s i ≡ good es → roomFor s ls es ≤ length b
 
--- room for all that an outlook of this trigger writes: 41 bytes an anchor
+-- right lists for all anchors of this trigger
+abbrev pub Lists : Store → Id → List ℕ → Type 0
+Lists s i ls = (es : List EnqueuedAnchor) → anchorsOf s i ≡ good es → Listed s ls es
+
+-- room for all that an outlook of this trigger writes
 abbrev pub Shows : Store → Id → List ℕ → Type 0
-Shows s i b = (es : List EnqueuedAnchor) → anchorsOf s i ≡ good es → length es * 41 ≤ length b
+Shows s i b = (es : List EnqueuedAnchor) → anchorsOf s i ≡ good es → weigh (λ (e : EnqueuedAnchor). lookSize s (e .anchor)) es ≤ length b
 
 same-refused : (r q : Refusal) (m n : ℕ) → refused r m ≡ refused q n → r ≡ q
 same-refused r q m n h = cc
@@ -426,21 +463,21 @@ refused-end f r n h = go (f .stopped) refl h
     go (some q) e k = e ∙ ap some (same-refused q r _ n k)
 
 -- a commit that is refused
-commit-was : (s : Store) (i : Id) (b : List ℕ) (r : Refusal) (n : ℕ) → doCommit s i b .answer ≡ refused r n → Refuses s i (λ es. commitAll s b 0 0 es .stopped ≡ some r) r
+commit-was : (s : Store) (i : Id) (ls b : List ℕ) (r : Refusal) (n : ℕ) → doCommit s i ls b .answer ≡ refused r n → Refuses s i (λ es. commitAll s ls b 0 0 es .stopped ≡ some r) r
 unfolding doCommit
-commit-was s i b r n h = go (anchorsOf s i) refl h
+commit-was s i ls b r n h = go (anchorsOf s i) refl h
   where
     does : Out (List EnqueuedAnchor) → Outcome
-    does o = elim o [ bad q ↦ record { answer = refused q 0; store = s; buffer = b } | good es ↦ commitEnd (commitAll s b 0 0 es) ]
+    does o = elim o [ bad q ↦ record { answer = refused q 0; store = s; buffer = b } | good es ↦ commitEnd (commitAll s ls b 0 0 es) ]
 
-    go : (o : Out (List EnqueuedAnchor)) → anchorsOf s i ≡ o → does o .answer ≡ refused r n → Refuses s i (λ es. commitAll s b 0 0 es .stopped ≡ some r) r
+    go : (o : Out (List EnqueuedAnchor)) → anchorsOf s i ≡ o → does o .answer ≡ refused r n → Refuses s i (λ es. commitAll s ls b 0 0 es .stopped ≡ some r) r
     go (bad q) u k = inl (u ∙ ap bad (same-refused q r 0 n k))
-    go (good es) u k = inr (es, u, refused-end (commitAll s b 0 0 es) r n k)
+    go (good es) u k = inr (es, u, refused-end (commitAll s ls b 0 0 es) r n k)
 
-commit-now : (s : Store) (i : Id) (b : List ℕ) (r : Refusal) → Refuses s i (λ es. commitAll s b 0 0 es .stopped ≡ some r) r → (m : ℕ) × (doCommit s i b .answer ≡ refused r m)
+commit-now : (s : Store) (i : Id) (ls b : List ℕ) (r : Refusal) → Refuses s i (λ es. commitAll s ls b 0 0 es .stopped ≡ some r) r → (m : ℕ) × (doCommit s i ls b .answer ≡ refused r m)
 unfolding doCommit commitEnd
-commit-now s i b r (inl u) = (0, rw (u, doCommit) refl)
-commit-now s i b r (inr (es, u, v)) = (commitAll s b 0 0 es .anchors, rw (u, doCommit) (rw v refl))
+commit-now s i ls b r (inl u) = (0, rw (u, doCommit) refl)
+commit-now s i ls b r (inr (es, u, v)) = (commitAll s ls b 0 0 es .anchors, rw (u, doCommit) (rw v refl))
 
 stop-bad : (o : Out ℕ) (r : Refusal) → stop o ≡ some r → o ≡ bad r
 stop-bad (bad q) r h = ap bad (Option·some-injective q r h)
@@ -454,59 +491,67 @@ outlook-call : (s : Store) → Wf s → (i : Id) (b : List ℕ) → call s (outl
 unfolding perform
 outlook-call s w i b = call-perform s w (outlook i b)
 
--- an outlook refused by another number than 21: so is the commit, once the gap question is put, into a buffer that holds its records
-pub outlook→commit : (s : Store) → Wf s → (i : Id) (b c : List ℕ) → gapPending (s .progress .gap) ≡ false → Holds s i c → (r : Refusal) (n : ℕ) → numberOf r ≢ 21
-    → call s (outlook i b) .answer ≡ refused r n → (m : ℕ) × (call s (commit i c) .answer ≡ refused r m)
-outlook→commit s w i b c g room r n f h =
-    subst (λ (o : Outcome). (m : ℕ) × (o .answer ≡ refused r m)) (sym (commit-is s w i c)) (commit-now s i c r
-    (⊎-elim inl (λ (es, u, v). inr (es, u, commit-ends s es g c 0 0 (omega (arith, room es u)) ∙ ap stop (sym (same-tests s w i es u) ∙ outlook-bad s (length b) es r f v)))
+-- an outlook refused by another number than 21: so is the commit, once the gap question is put, with right lists, into a
+-- buffer that holds its records
+pub outlook→commit : (s : Store) → Wf s → (i : Id) (b ls c : List ℕ) → gapPending (s .progress .gap) ≡ false → Lists s i ls → Holds s i ls c → (r : Refusal) (n : ℕ) → numberOf r ≢ 21
+    → call s (outlook i b) .answer ≡ refused r n → (m : ℕ) × (call s (commit i ls c) .answer ≡ refused r m)
+outlook→commit s w i b ls c g lists room r n f h =
+    subst (λ (o : Outcome). (m : ℕ) × (o .answer ≡ refused r m)) (sym (commit-is s w i ls c)) (commit-now s i ls c r
+    (⊎-elim inl (λ (es, u, v). inr (es, u, commit-ends s es g ls c 0 0 (lists es u) (omega (arith, room es u)) ∙ ap stop (sym (same-tests s w i es u) ∙ outlook-bad s (length b) es r f v)))
     (outlook-was s i b r n (ap (λ (o : Outcome). o .answer) (sym (outlook-call s w i b)) ∙ h))))
 
--- a commit refused by another number than 20 and 21: so is the outlook, into a buffer that holds its answer
-pub commit→outlook : (s : Store) → Wf s → (i : Id) (b c : List ℕ) → Shows s i b → (r : Refusal) (m : ℕ) → numberOf r ≢ 20 → numberOf r ≢ 21
-    → call s (commit i c) .answer ≡ refused r m → call s (outlook i b) .answer ≡ refused r 0
-commit→outlook s w i b c room r m f g h =
+-- a commit refused by another number than 20, 24 and 21: so is the outlook, into a buffer that holds its answer
+pub commit→outlook : (s : Store) → Wf s → (i : Id) (b ls c : List ℕ) → Shows s i b → (r : Refusal) (m : ℕ) → numberOf r ≢ 20 → numberOf r ≢ 24 → numberOf r ≢ 21
+    → call s (commit i ls c) .answer ≡ refused r m → call s (outlook i b) .answer ≡ refused r 0
+commit→outlook s w i b ls c room r m f o g h =
     ap (λ (o : Outcome). o .answer) (outlook-call s w i b) ∙ outlook-now s i b r
-    (⊎-elim inl (λ (es, u, v). inr (es, u, outlook-is s (length b) es (room es u) ∙ rw (same-tests s w i es u, commit-stopped s es c 0 0 r f g v) refl))
-    (commit-was s i c r m (ap (λ (o : Outcome). o .answer) (sym (commit-is s w i c)) ∙ h)))
+    (⊎-elim inl (λ (es, u, v). inr (es, u, outlook-is s (length b) es (room es u) ∙ rw (same-tests s w i es u, commit-stopped s es ls c 0 0 r f o g v) refl))
+    (commit-was s i ls c r m (ap (λ (o : Outcome). o .answer) (sym (commit-is s w i ls c)) ∙ h)))
 
--- with room for both answers and the gap question put: the outlook is refused exactly as the commit is
-pub outlook-exact : (s : Store) → Wf s → (i : Id) (b c : List ℕ) → Shows s i b → gapPending (s .progress .gap) ≡ false → Holds s i c
-    → (r : Refusal) → (call s (outlook i b) .answer ≡ refused r 0) ↔ ((m : ℕ) × (call s (commit i c) .answer ≡ refused r m))
-outlook-exact s w i b c shows g holds r = (there, back)
+-- with room for both answers, right lists and the gap question put: the outlook is refused exactly as the commit is
+pub outlook-exact : (s : Store) → Wf s → (i : Id) (b ls c : List ℕ) → Shows s i b → gapPending (s .progress .gap) ≡ false → Lists s i ls → Holds s i ls c
+    → (r : Refusal) → (call s (outlook i b) .answer ≡ refused r 0) ↔ ((m : ℕ) × (call s (commit i ls c) .answer ≡ refused r m))
+outlook-exact s w i b ls c shows g lists holds r = (there, back)
   where
-    there : call s (outlook i b) .answer ≡ refused r 0 → (m : ℕ) × (call s (commit i c) .answer ≡ refused r m)
-    there h = subst (λ (o : Outcome). (m : ℕ) × (o .answer ≡ refused r m)) (sym (commit-is s w i c)) (commit-now s i c r
-        (⊎-elim inl (λ (es, u, v). inr (es, u, commit-ends s es g c 0 0 (omega (arith, holds es u)) ∙ ap stop (sym (same-tests s w i es u) ∙ only-tests (testsNow s es) _ (sym (outlook-is s (length b) es (shows es u)) ∙ v))))
+    there : call s (outlook i b) .answer ≡ refused r 0 → (m : ℕ) × (call s (commit i ls c) .answer ≡ refused r m)
+    there h = subst (λ (o : Outcome). (m : ℕ) × (o .answer ≡ refused r m)) (sym (commit-is s w i ls c)) (commit-now s i ls c r
+        (⊎-elim inl (λ (es, u, v). inr (es, u, commit-ends s es g ls c 0 0 (lists es u) (omega (arith, holds es u)) ∙ ap stop (sym (same-tests s w i es u) ∙ only-tests (testsNow s es) _ (sym (outlook-is s (length b) es (shows es u)) ∙ v))))
         (outlook-was s i b r 0 (ap (λ (o : Outcome). o .answer) (sym (outlook-call s w i b)) ∙ h))))
       where
         only-tests : (o : Out ℕ) (l : List ℕ) → then o (λ x. good l) ≡ bad r → o ≡ bad r
         only-tests (bad q) l k = ap bad (same-bad q r k)
         only-tests (good x) l k = absurd (not-good r l (sym k))
 
-    back : (m : ℕ) × (call s (commit i c) .answer ≡ refused r m) → call s (outlook i b) .answer ≡ refused r 0
+    back : (m : ℕ) × (call s (commit i ls c) .answer ≡ refused r m) → call s (outlook i b) .answer ≡ refused r 0
     back (m, h) = ap (λ (o : Outcome). o .answer) (outlook-call s w i b) ∙ outlook-now s i b r
-        (⊎-elim inl (λ (es, u, v). inr (es, u, outlook-is s (length b) es (shows es u) ∙ rw (same-tests s w i es u, stop-bad (tests s es) r (sym (commit-ends s es g c 0 0 (omega (arith, holds es u))) ∙ v)) refl))
-        (commit-was s i c r m (ap (λ (o : Outcome). o .answer) (sym (commit-is s w i c)) ∙ h)))
+        (⊎-elim inl (λ (es, u, v). inr (es, u, outlook-is s (length b) es (shows es u) ∙ rw (same-tests s w i es u, stop-bad (tests s es) r (sym (commit-ends s es g ls c 0 0 (lists es u) (omega (arith, holds es u))) ∙ v)) refl))
+        (commit-was s i ls c r m (ap (λ (o : Outcome). o .answer) (sym (commit-is s w i ls c)) ∙ h)))
 
--- ---- "by 20 never"
+-- ---- "by 20 never", and 24 "never the outlook"
 
 abbrev Never : Refusal → Type 0
-Never r = numberOf r ≢ 20
+Never r = (numberOf r ≢ 20) × (numberOf r ≢ 24)
 
-never : (n : ℕ) → n ≢ 2 → n ≢ 20 → Never (number n)
+never : (n : ℕ) → n ≢ 2 → n ≢ 20 → n ≢ 24 → Never (number n)
 unfolding numberOf
-never n a b = b
+never n a b c = (b, c)
 
 never-conflict : (r : ℕ) → Never (conflict r)
 unfolding numberOf
-never-conflict r = omega arith
+never-conflict r = ((omega arith), omega arith)
 
 sound-bad : {A : Type 0} (o : Out A) (r : Refusal) → Sound Never o → o ≡ bad r → Never r
 sound-bad o r h e = subst (Sound Never) e h
 
--- no outlook is refused by 20
-pub never-20 : (s : Store) → Wf s → (i : Id) (b : List ℕ) (r : Refusal) (n : ℕ) → call s (outlook i b) .answer ≡ refused r n → numberOf r ≢ 20
-never-20 s w i b r n h =
+outlook-never : (s : Store) → Wf s → (i : Id) (b : List ℕ) (r : Refusal) (n : ℕ) → call s (outlook i b) .answer ≡ refused r n → Never r
+outlook-never s w i b r n h =
     ⊎-elim (sound-bad (anchorsOf s i) r (anchors-sound Never never never-conflict s i)) (λ (es, u, v). sound-bad (outlookAll s (length b) es) r (outlook-sound Never never never-conflict s (length b) es) v)
     (outlook-was s i b r n (ap (λ (o : Outcome). o .answer) (sym (outlook-call s w i b)) ∙ h))
+
+-- no outlook is refused by 20
+pub never-20 : (s : Store) → Wf s → (i : Id) (b : List ℕ) (r : Refusal) (n : ℕ) → call s (outlook i b) .answer ≡ refused r n → numberOf r ≢ 20
+never-20 s w i b r n h = outlook-never s w i b r n h .0
+
+-- nor by 24
+pub never-24 : (s : Store) → Wf s → (i : Id) (b : List ℕ) (r : Refusal) (n : ℕ) → call s (outlook i b) .answer ≡ refused r n → numberOf r ≢ 24
+never-24 s w i b r n h = outlook-never s w i b r n h .1

@@ -19,7 +19,7 @@ use Rattle.spec.specs.Store.{Resolution, Point, Round, Memory, Progress,
 use Rattle.spec.specs.Paths.{Path, LinkedTo, Top, heightFrom, IsHeight, height, certified}
 use Rattle.spec.specs.Rules.{isPeer, sameDigest, version, versions, wellFormed, dangling, usedOk, lastRound, isStarted, countsAsStarted}
 use Rattle.spec.specs.Chain.{Refusal, number, conflict, Out, bad, good, then, refuse, EnqueuedAnchor, walk, lowestWalked, emptyWalk, checkOldest, chainFrom, chain, triggerConflict, filtered, placeOf, anchorsOf}
-use Rattle.spec.specs.History.{setCommitted, useProof, dequeued, inHistory, recordBytes, testAnchor, Finished, commitAll, tested, gapPending, outlookAll}
+use Rattle.spec.specs.History.{setCommitted, useProof, dequeued, inHistory, listsOk, linkedCounts, afterLists, recordBytes, testAnchor, Finished, commitAll, tested, gapPending, outlookAll}
 use Rattle.spec.specs.Inspect.{inspected, memoryAfter, removeBytes}
 use Rattle.spec.specs.Calls.{addRound, newPoint, nameAt, withPathHeights, resolvedAs, resolveAt, setTop, certifyAt, drained, StartArgs, startOk, begun, Answer, done, flag, anchors, refused, numberOf, Outcome, withoutBuffer, finish, memoryKept, doStart, cleared, doRound, atId, intoFree, doName, resolving, doResolve, doCertify, doGapQuestion, commitEnd, doCommit, doOutlook, newBottom, beyond, removing, doRemove, doDrop, Call, start, resetAll, round, name, resolve, certify, gapQuestion, commit, outlook, remove, drop, perform, isStart, call}
 use Rattle.spec.specs.Graph.{carry, last-link}
@@ -444,16 +444,16 @@ rising-mark s e b (x ∷ xs) (l, a, r) = (
 )
 
 -- a commit's anchors keep the rules
-pub commit-kept : (s : Store) (b : List ℕ) (at n : ℕ) (es : List EnqueuedAnchor) → Wf s → Rising s (s .bottom) es → Wf (commitAll s b at n es .store)
+pub commit-kept : (s : Store) (ls b : List ℕ) (at n : ℕ) (es : List EnqueuedAnchor) → Wf s → Rising s (s .bottom) es → Wf (commitAll s ls b at n es .store)
 unfolding commitAll
-commit-kept s b at n [] w r = w
-commit-kept s b at n (e ∷ es) w (l, a, r) = go (testAnchor s (length b - at) (length (recordBytes s e)) (e .anchor)) refl (commit-kept (dequeued s e) _ _ _ es)
+commit-kept s ls b at n [] w r = w
+commit-kept s ls b at n (e ∷ es) w (l, a, r) = go (testAnchor s ls (length b - at) (length (recordBytes s ls e)) (e .anchor)) refl (commit-kept (dequeued s e) _ _ _ _ es)
   where
-    go : (o : Out ℕ) → testAnchor s (length b - at) (length (recordBytes s e)) (e .anchor) ≡ o
-        → (Wf (dequeued s e) → Rising (dequeued s e) (dequeued s e .bottom) es → Wf (commitAll (dequeued s e) (written b at (recordBytes s e)) (at + length (recordBytes s e)) (suc n) es .store))
-        → Wf ((elim o as (λ x. Finished) [ bad r ↦ record { store = s; buffer = b; anchors = n; stopped = some r } | good a ↦ commitAll (dequeued s e) (written b at (recordBytes s e)) (at + length (recordBytes s e)) (suc n) es ]) .store)
+    go : (o : Out ℕ) → testAnchor s ls (length b - at) (length (recordBytes s ls e)) (e .anchor) ≡ o
+        → (Wf (dequeued s e) → Rising (dequeued s e) (dequeued s e .bottom) es → Wf (commitAll (dequeued s e) (afterLists s (e .anchor) ls) (written b at (recordBytes s ls e)) (at + length (recordBytes s ls e)) (suc n) es .store))
+        → Wf ((elim o as (λ x. Finished) [ bad r ↦ record { store = s; buffer = b; anchors = n; stopped = some r } | good a ↦ commitAll (dequeued s e) (afterLists s (e .anchor) ls) (written b at (recordBytes s ls e)) (at + length (recordBytes s ls e)) (suc n) es ]) .store)
     go (bad y) t f = w
-    go (good y) t f = f (mark-kept s w e a (test-good s _ _ (e .anchor) y t .0)) (rising-mark s e (dequeued s e .bottom) es (rising-less s (dequeued s e .bottom) (suc (roundAt s (e .anchor))) es (unfold dequeued in omega arith) r))
+    go (good y) t f = f (mark-kept s w e a (test-good s ls _ _ (e .anchor) y t .0)) (rising-mark s e (dequeued s e .bottom) es (rising-less s (dequeued s e .bottom) (suc (roundAt s (e .anchor))) es (unfold dequeued in omega arith) r))
 
 -- ---- the anchors of a trigger
 
@@ -536,8 +536,8 @@ two : (n : ℕ) → n ≢ 2 → Two (number n)
 unfolding numberOf
 two n h = h
 
-fine : (n : ℕ) → n ≢ 2 → n ≢ 20 → Two (number n)
-fine n a b = two n a
+fine : (n : ℕ) → n ≢ 2 → n ≢ 20 → n ≢ 24 → Two (number n)
+fine n a b c = two n a
 
 fine-conflict : (r : ℕ) → Two (conflict r)
 unfolding numberOf
@@ -575,23 +575,24 @@ certify-ends : (s : Store) → Wf s → (i : Id) → Ends Two Wf (doCertify s i)
 unfolding doCertify
 certify-ends s w i = id-ends Wf s i _ (λ a b c. then-ends Two (λ q. s .pt q .named ≡ true) Wf (placeOf s i) (λ q. good (certifyAt s q)) (place-ends Two fine fine-conflict s i) (λ q n. cert-kept s w q n))
 
-test-sound : (s : Store) (left size a : ℕ) → Sound Two (testAnchor s left size a)
+test-sound : (s : Store) (ls : List ℕ) (left size a : ℕ) → Sound Two (testAnchor s ls left size a)
 unfolding testAnchor
-test-sound s left size a =
-    then-sound Two (tested s a) _ (tested-sound Two fine fine-conflict s a) (λ x. refuse-sound Two (gapPending (s .progress .gap)) 20 _ (two 20 (omega arith)) (refuse-sound Two (ltb left size) 21 (good a) (two 21 (omega arith)) tt))
+test-sound s ls left size a =
+    then-sound Two (tested s a) _ (tested-sound Two fine fine-conflict s a) (λ x. refuse-sound Two (gapPending (s .progress .gap)) 20 _ (two 20 (omega arith))
+    (refuse-sound Two (not (listsOk (linkedCounts s a) ls)) 24 _ (two 24 (omega arith)) (refuse-sound Two (ltb left size) 21 (good a) (two 21 (omega arith)) tt)))
 
 -- what stopped a commit
 abbrev FineStop : Option Refusal → Type 0
 FineStop none = Unit {0}
 FineStop (some r) = Two r
 
-commit-sound : (s : Store) (b : List ℕ) (at n : ℕ) (es : List EnqueuedAnchor) → FineStop (commitAll s b at n es .stopped)
+commit-sound : (s : Store) (ls b : List ℕ) (at n : ℕ) (es : List EnqueuedAnchor) → FineStop (commitAll s ls b at n es .stopped)
 unfolding commitAll
-commit-sound s b at n [] = tt
-commit-sound s b at n (e ∷ es) = go (testAnchor s (length b - at) (length (recordBytes s e)) (e .anchor)) (test-sound s _ _ (e .anchor)) (commit-sound (dequeued s e) _ _ _ es)
+commit-sound s ls b at n [] = tt
+commit-sound s ls b at n (e ∷ es) = go (testAnchor s ls (length b - at) (length (recordBytes s ls e)) (e .anchor)) (test-sound s ls _ _ (e .anchor)) (commit-sound (dequeued s e) _ _ _ _ es)
   where
-    go : (o : Out ℕ) → Sound Two o → FineStop (commitAll (dequeued s e) (written b at (recordBytes s e)) (at + length (recordBytes s e)) (suc n) es .stopped)
-        → FineStop ((elim o as (λ x. Finished) [ bad r ↦ record { store = s; buffer = b; anchors = n; stopped = some r } | good a ↦ commitAll (dequeued s e) (written b at (recordBytes s e)) (at + length (recordBytes s e)) (suc n) es ]) .stopped)
+    go : (o : Out ℕ) → Sound Two o → FineStop (commitAll (dequeued s e) (afterLists s (e .anchor) ls) (written b at (recordBytes s ls e)) (at + length (recordBytes s ls e)) (suc n) es .stopped)
+        → FineStop ((elim o as (λ x. Finished) [ bad r ↦ record { store = s; buffer = b; anchors = n; stopped = some r } | good a ↦ commitAll (dequeued s e) (afterLists s (e .anchor) ls) (written b at (recordBytes s ls e)) (at + length (recordBytes s ls e)) (suc n) es ]) .stopped)
     go (bad y) h f = h
     go (good y) h f = f
 
@@ -603,7 +604,7 @@ removing-sound s r b bytes = refuse-sound Two (beyond (s .progress .lastAnchor) 
 
 -- a reset
 unfoldable pub isResetCall : Call → Bool
-isResetCall c = elim c [ start b ↦ false | resetAll ↦ true | round r peers ↦ false | name i ↦ false | resolve i t ↦ false | certify i ↦ false | gapQuestion ↦ false | commit i b ↦ false | outlook i b ↦ false | remove r from b ↦ false | drop r ↦ false ]
+isResetCall c = elim c [ start b ↦ false | resetAll ↦ true | round r peers ↦ false | name i ↦ false | resolve i t ↦ false | certify i ↦ false | gapQuestion ↦ false | commit i l b ↦ false | outlook i b ↦ false | remove r from b ↦ false | drop r ↦ false ]
 
 -- not refused with 2
 abbrev NotTwo : Answer → Type 0
@@ -650,13 +651,13 @@ unfolding commitEnd
 end-goes s b k none w f = record { rules = w; answered = handed-answer k }
 end-goes s b k (some r) w f = record { rules = w; answered = fine-answer r k f }
 
-commit-goes : (s : Store) → Wf s → (i : Id) (b : List ℕ) → Goes (doCommit s i b)
+commit-goes : (s : Store) → Wf s → (i : Id) (ls b : List ℕ) → Goes (doCommit s i ls b)
 unfolding doCommit
-commit-goes s w i b = go (anchorsOf s i) refl (anchors-sound Two fine fine-conflict s i)
+commit-goes s w i ls b = go (anchorsOf s i) refl (anchors-sound Two fine fine-conflict s i)
   where
-    go : (o : Out (List EnqueuedAnchor)) → anchorsOf s i ≡ o → Sound Two o → Goes (elim o [ bad r ↦ record { answer = refused r 0; store = s; buffer = b } | good es ↦ commitEnd (commitAll s b 0 0 es) ])
+    go : (o : Out (List EnqueuedAnchor)) → anchorsOf s i ≡ o → Sound Two o → Goes (elim o [ bad r ↦ record { answer = refused r 0; store = s; buffer = b } | good es ↦ commitEnd (commitAll s ls b 0 0 es) ])
     go (bad r) e h = record { rules = w; answered = fine-answer r 0 h }
-    go (good es) e h = end-goes _ _ _ _ (commit-kept s b 0 0 es w (rising-less s (s .bottom) (lowestWalked s) es (omega arith) (anchors-rising s w i es e))) (commit-sound s b 0 0 es)
+    go (good es) e h = end-goes _ _ _ _ (commit-kept s ls b 0 0 es w (rising-less s (s .bottom) (lowestWalked s) es (omega arith) (anchors-rising s w i es e))) (commit-sound s ls b 0 0 es)
 
 outlook-goes : (s : Store) → Wf s → (i : Id) (b : List ℕ) → Goes (doOutlook s i b)
 unfolding doOutlook
@@ -699,7 +700,7 @@ perform-goes s w (name i) h k = finish-goes s w (doName s i) (name-ends s w i)
 perform-goes s w (resolve i t) h k = finish-goes s w (doResolve s i t) (resolve-ends s w i t)
 perform-goes s w (certify i) h k = finish-goes s w (doCertify s i) (certify-ends s w i)
 perform-goes s w gapQuestion h k = gapQuestion-goes s w
-perform-goes s w (commit i b) h k = commit-goes s w i b
+perform-goes s w (commit i ls b) h k = commit-goes s w i ls b
 perform-goes s w (outlook i b) h k = outlook-goes s w i b
 perform-goes s w (remove r from b) h k = remove-goes s w r from b
 perform-goes s w (drop r) h k = drop-goes s w r
@@ -723,7 +724,7 @@ perform-kept s w (name i) h = perform-goes s w (name i) refl refl .rules
 perform-kept s w (resolve i t) h = perform-goes s w (resolve i t) refl refl .rules
 perform-kept s w (certify i) h = perform-goes s w (certify i) refl refl .rules
 perform-kept s w gapQuestion h = perform-goes s w gapQuestion refl refl .rules
-perform-kept s w (commit i b) h = perform-goes s w (commit i b) refl refl .rules
+perform-kept s w (commit i ls b) h = perform-goes s w (commit i ls b) refl refl .rules
 perform-kept s w (outlook i b) h = perform-goes s w (outlook i b) refl refl .rules
 perform-kept s w (remove r from b) h = perform-goes s w (remove r from b) refl refl .rules
 perform-kept s w (drop r) h = perform-goes s w (drop r) refl refl .rules

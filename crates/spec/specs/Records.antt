@@ -2,8 +2,8 @@
 use Prim.Native.Nat.{ℕ, suc, _+_, _-_, _*_, _^_, _≤_, _<_}
 use mathlib.Core.Path.{_≡_, refl, sym, _∙_, subst, ap, ap₂}
 use mathlib.Core.Option.{some}
-use mathlib.Core.Bool.{cond}
-use mathlib.Core.List.{List, [], _∷_, _++_, map, append-assoc, List·Memᴰ, List·Memᴰ·head, List·Memᴰ·tail}
+use mathlib.Core.Bool.{true, cond}
+use mathlib.Core.List.{List, [], _∷_, _++_, map, append-assoc, append-nil, List·Memᴰ, List·Memᴰ·head, List·Memᴰ·tail}
 use lib.ListN.{length, take, drop, length-append, take-append-drop}
 use lib.Seq.{take-at, drop-at, drop-drop, take-append-add, length-take-le}
 use native.Mathlib.Omega.{arith}
@@ -13,8 +13,10 @@ use Rattle.laws.specs.Bytes.{be, be-length, value, value-be-fits, written, writ
 use Rattle.spec.specs.Ids.{Id, idBytes}
 use Rattle.spec.specs.Store.{Store, idAt}
 use Rattle.spec.specs.Chain.{Out, bad, good, EnqueuedAnchor}
-use Rattle.spec.specs.History.{history, isExecutable, prevAnchor, recordBytes, testAnchor, dequeued, Finished, commitAll}
+use Rattle.spec.specs.History.{history, linkedCounts, listsOk, isExecutable, prevAnchor, inOrder, afterLists, recordBytes, testAnchor, dequeued, Finished, commitAll}
 use Rattle.spec.specs.Demand.{readId, readIds, History, readRecords}
+use Rattle.spec.specs.WellFormed.{Wf}
+use Rattle.spec.specs.OrderInRound.{order-length}
 use Rattle.spec.specs.Walk.{test-good}
 
 -- ---- ids
@@ -92,71 +94,82 @@ five-parts : (a b c d e : List ℕ) → a ++ (b ++ (c ++ (d ++ e))) ≡ (a ++ (b
 five-parts a b c d e =
     ap (λ (l : List ℕ). a ++ (b ++ l)) (sym (append-assoc c d e)) ∙ (ap (λ (l : List ℕ). a ++ l) (sym (append-assoc b (c ++ d) e)) ∙ sym (append-assoc a (b ++ (c ++ d)) e))
 
-record-shape : (s : Store) (e : EnqueuedAnchor) (rest : List ℕ) → recordBytes s e ++ rest ≡ headBytes s e ++ (be 4 (length (history s (e .anchor))) ++ (joined idBytes (history s (e .anchor)) ++ rest))
+record-shape : (s : Store) (ls : List ℕ) (e : EnqueuedAnchor) (rest : List ℕ) → recordBytes s ls e ++ rest ≡ headBytes s e ++ (be 4 (length (inOrder s (e .anchor) ls)) ++ (joined idBytes (inOrder s (e .anchor) ls) ++ rest))
 unfolding recordBytes headBytes
-record-shape s e rest =
-    ap (λ (l : List ℕ). l ++ rest) (five-parts (idBytes (idAt s (e .anchor))) (idBytes (idAt s (e .proof))) (be 1 (cond (isExecutable s (e .anchor)) 1 0)) (be 4 (prevAnchor s e)) (be 4 (length (history s (e .anchor))) ++ joined idBytes (history s (e .anchor))))
-    ∙ (append-assoc (headBytes s e) (be 4 (length (history s (e .anchor))) ++ joined idBytes (history s (e .anchor))) rest
-    ∙ ap (λ (l : List ℕ). headBytes s e ++ l) (append-assoc (be 4 (length (history s (e .anchor)))) (joined idBytes (history s (e .anchor))) rest))
+record-shape s ls e rest =
+    ap (λ (l : List ℕ). l ++ rest) (five-parts (idBytes (idAt s (e .anchor))) (idBytes (idAt s (e .proof))) (be 1 (cond (isExecutable s (e .anchor)) 1 0)) (be 4 (prevAnchor s e)) (be 4 (length (inOrder s (e .anchor) ls)) ++ joined idBytes (inOrder s (e .anchor) ls)))
+    ∙ (append-assoc (headBytes s e) (be 4 (length (inOrder s (e .anchor) ls)) ++ joined idBytes (inOrder s (e .anchor) ls)) rest
+    ∙ ap (λ (l : List ℕ). headBytes s e ++ l) (append-assoc (be 4 (length (inOrder s (e .anchor) ls))) (joined idBytes (inOrder s (e .anchor) ls)) rest))
+
+-- its length: 83 bytes and 37 for each point
+pub record-size : (s : Store) (ls : List ℕ) (e : EnqueuedAnchor) → length (recordBytes s ls e) ≡ 83 + length (inOrder s (e .anchor) ls) * 37
+record-size s ls e =
+    ap length (sym (append-nil (recordBytes s ls e)) ∙ record-shape s ls e [])
+    ∙ rw (length-append (headBytes s e) (be 4 (length (inOrder s (e .anchor) ls)) ++ (joined idBytes (inOrder s (e .anchor) ls) ++ [])), head-length s e, length-append (be 4 (length (inOrder s (e .anchor) ls))) (joined idBytes (inOrder s (e .anchor) ls) ++ []), be-length 4 (length (inOrder s (e .anchor) ls)), append-nil (joined idBytes (inOrder s (e .anchor) ls)), ids-length (inOrder s (e .anchor) ls)) (omega arith)
+
+-- with right lists, as many points as the history has
+pub record-length : (s : Store) → Wf s → (ls : List ℕ) (e : EnqueuedAnchor) → s .pt (e .anchor) .named ≡ true → listsOk (linkedCounts s (e .anchor)) ls ≡ true → length (recordBytes s ls e) ≡ 83 + length (history s (e .anchor)) * 37
+record-length s w ls e there ok = record-size s ls e ∙ ap (λ n. 83 + n * 37) (order-length s w (e .anchor) there ls ok)
 
 -- the record begins with the anchor's id
-record-anchor : (s : Store) (e : EnqueuedAnchor) (rest : List ℕ) → (l : List ℕ) × (recordBytes s e ++ rest ≡ idBytes (idAt s (e .anchor)) ++ l)
+record-anchor : (s : Store) (ls : List ℕ) (e : EnqueuedAnchor) (rest : List ℕ) → (l : List ℕ) × (recordBytes s ls e ++ rest ≡ idBytes (idAt s (e .anchor)) ++ l)
 unfolding recordBytes
-record-anchor s e rest = (_, append-assoc (idBytes (idAt s (e .anchor))) _ rest)
+record-anchor s ls e rest = (_, append-assoc (idBytes (idAt s (e .anchor))) _ rest)
 
 -- what is read back: the anchor and the history
-abbrev pub readAs : Store → Store → EnqueuedAnchor → History
-readAs at s e = record { at = at; anchor = idAt s (e .anchor); ids = history s (e .anchor) }
+abbrev pub readAs : Store → Store → List ℕ → EnqueuedAnchor → History
+readAs at s ls e = record { at = at; anchor = idAt s (e .anchor); ids = inOrder s (e .anchor) ls }
 
-pub read-record : (at s : Store) (e : EnqueuedAnchor) (n : ℕ) (rest : List ℕ) → Fits (idAt s (e .anchor)) → ((x : Id) → List·Memᴰ x (history s (e .anchor)) → Fits x) → length (history s (e .anchor)) < 256 ^ 4
-    → readRecords at (suc n) (recordBytes s e ++ rest) ≡ readAs at s e ∷ readRecords at n rest
+pub read-record : (at s : Store) (ls : List ℕ) (e : EnqueuedAnchor) (n : ℕ) (rest : List ℕ) → Fits (idAt s (e .anchor)) → ((x : Id) → List·Memᴰ x (inOrder s (e .anchor) ls) → Fits x) → length (inOrder s (e .anchor) ls) < 256 ^ 4
+    → readRecords at (suc n) (recordBytes s ls e ++ rest) ≡ readAs at s ls e ∷ readRecords at n rest
 unfolding readRecords
-read-record at s e n rest fa fs few = λ i. record { at = at; anchor = who i; ids = ids i } ∷ readRecords at n (tail i)
+read-record at s ls e n rest fa fs few = λ i. record { at = at; anchor = who i; ids = ids i } ∷ readRecords at n (tail i)
   where
     h : List Id
-    h = history s (e .anchor)
+    h = inOrder s (e .anchor) ls
 
     bs : List ℕ
-    bs = recordBytes s e ++ rest
+    bs = recordBytes s ls e ++ rest
 
-    who : readId (recordBytes s e ++ rest) ≡ idAt s (e .anchor)
-    who = let (l, k) = record-anchor s e rest in ap readId k ∙ read-id (idAt s (e .anchor)) fa l
+    who : readId (recordBytes s ls e ++ rest) ≡ idAt s (e .anchor)
+    who = let (l, k) = record-anchor s ls e rest in ap readId k ∙ read-id (idAt s (e .anchor)) fa l
 
-    at79 : drop 79 (recordBytes s e ++ rest) ≡ be 4 (length (history s (e .anchor))) ++ (joined idBytes (history s (e .anchor)) ++ rest)
-    at79 = ap (drop 79) (record-shape s e rest) ∙ drop-at (headBytes s e) _ 79 (head-length s e)
+    at79 : drop 79 (recordBytes s ls e ++ rest) ≡ be 4 (length (inOrder s (e .anchor) ls)) ++ (joined idBytes (inOrder s (e .anchor) ls) ++ rest)
+    at79 = ap (drop 79) (record-shape s ls e rest) ∙ drop-at (headBytes s e) _ 79 (head-length s e)
 
-    at83 : drop 83 (recordBytes s e ++ rest) ≡ joined idBytes (history s (e .anchor)) ++ rest
-    at83 = skip 79 4 (headBytes s e) (be 4 (length (history s (e .anchor)))) _ _ (head-length s e) (be-length 4 (length (history s (e .anchor)))) (record-shape s e rest)
+    at83 : drop 83 (recordBytes s ls e ++ rest) ≡ joined idBytes (inOrder s (e .anchor) ls) ++ rest
+    at83 = skip 79 4 (headBytes s e) (be 4 (length (inOrder s (e .anchor) ls))) _ _ (head-length s e) (be-length 4 (length (inOrder s (e .anchor) ls))) (record-shape s ls e rest)
 
-    points : value 0 (take 4 (drop 79 (recordBytes s e ++ rest))) ≡ length (history s (e .anchor))
-    points = ap (λ (l : List ℕ). value 0 (take 4 l)) at79 ∙ (ap (value 0) (take-at (be 4 (length (history s (e .anchor)))) _ 4 (be-length 4 (length (history s (e .anchor))))) ∙ value-be-fits 4 _ few)
+    points : value 0 (take 4 (drop 79 (recordBytes s ls e ++ rest))) ≡ length (inOrder s (e .anchor) ls)
+    points = ap (λ (l : List ℕ). value 0 (take 4 l)) at79 ∙ (ap (value 0) (take-at (be 4 (length (inOrder s (e .anchor) ls))) _ 4 (be-length 4 (length (inOrder s (e .anchor) ls)))) ∙ value-be-fits 4 _ few)
 
-    ids : readIds (value 0 (take 4 (drop 79 (recordBytes s e ++ rest)))) (drop 83 (recordBytes s e ++ rest)) ≡ history s (e .anchor)
-    ids = ap₂ readIds points at83 ∙ read-ids (history s (e .anchor)) fs rest
+    ids : readIds (value 0 (take 4 (drop 79 (recordBytes s ls e ++ rest)))) (drop 83 (recordBytes s ls e ++ rest)) ≡ inOrder s (e .anchor) ls
+    ids = ap₂ readIds points at83 ∙ read-ids (inOrder s (e .anchor) ls) fs rest
 
-    tail : drop (83 + value 0 (take 4 (drop 79 (recordBytes s e ++ rest))) * 37) (recordBytes s e ++ rest) ≡ rest
+    tail : drop (83 + value 0 (take 4 (drop 79 (recordBytes s ls e ++ rest))) * 37) (recordBytes s ls e ++ rest) ≡ rest
     tail =
-        ap (λ (k : ℕ). drop (83 + k * 37) (recordBytes s e ++ rest)) points
-        ∙ (sym (drop-drop (length (history s (e .anchor)) * 37) 83 (recordBytes s e ++ rest))
-        ∙ (ap (drop (length (history s (e .anchor)) * 37)) at83 ∙ drop-at (joined idBytes (history s (e .anchor))) rest _ (ids-length (history s (e .anchor)))))
+        ap (λ (k : ℕ). drop (83 + k * 37) (recordBytes s ls e ++ rest)) points
+        ∙ (sym (drop-drop (length (inOrder s (e .anchor) ls) * 37) 83 (recordBytes s ls e ++ rest))
+        ∙ (ap (drop (length (inOrder s (e .anchor) ls) * 37)) at83 ∙ drop-at (joined idBytes (inOrder s (e .anchor) ls)) rest _ (ids-length (inOrder s (e .anchor) ls))))
 
 -- ---- the anchors that a commit finishes
 
--- an anchor that was finished, with the store that it was committed from
+-- an anchor that was finished, with the store that it was committed from and the lists from its own on
 pub record Event : Type 0 where
   pub from : Store
+  pub list : List ℕ
   pub enq : EnqueuedAnchor
 
 -- the anchors of a chain that pass their tests, with this many bytes of the buffer left
-unfoldable pub passed : Store → ℕ → List EnqueuedAnchor → List Event
-passed s left [] = []
-passed s left (e ∷ es) = elim (testAnchor s left (length (recordBytes s e)) (e .anchor)) [
+unfoldable pub passed : Store → List ℕ → ℕ → List EnqueuedAnchor → List Event
+passed s ls left [] = []
+passed s ls left (e ∷ es) = elim (testAnchor s ls left (length (recordBytes s ls e)) (e .anchor)) [
   | bad r ↦ []
-  | good a ↦ record { from = s; enq = e } ∷ passed (dequeued s e) (left - length (recordBytes s e)) es
+  | good a ↦ record { from = s; list = ls; enq = e } ∷ passed (dequeued s e) (afterLists s (e .anchor) ls) (left - length (recordBytes s ls e)) es
 ]
 
 abbrev pub bytesOf : Event → List ℕ
-bytesOf e = recordBytes (e .from) (e .enq)
+bytesOf e = recordBytes (e .from) (e .list) (e .enq)
 
 take-more : (b : List ℕ) (at : ℕ) (vs : List ℕ) → at + length vs ≤ length b → take (at + length vs) (written b at vs) ≡ take at b ++ vs
 take-more b at vs l =
@@ -168,60 +181,60 @@ pub room-left : (b at n size : ℕ) → n ≡ b → b - at - size ≡ n - (at + 
 room-left b at n size e = omega arith
 
 -- what a commit ends with, and what passes, by the tests of its first anchor
-abbrev pub finishedBy : Store → List ℕ → ℕ → ℕ → EnqueuedAnchor → List EnqueuedAnchor → Out ℕ → Finished
-finishedBy s b at n e es o = elim o [
+abbrev pub finishedBy : Store → List ℕ → List ℕ → ℕ → ℕ → EnqueuedAnchor → List EnqueuedAnchor → Out ℕ → Finished
+finishedBy s ls b at n e es o = elim o [
   | bad r ↦ record { store = s; buffer = b; anchors = n; stopped = some r }
-  | good a ↦ commitAll (dequeued s e) (written b at (recordBytes s e)) (at + length (recordBytes s e)) (suc n) es
+  | good a ↦ commitAll (dequeued s e) (afterLists s (e .anchor) ls) (written b at (recordBytes s ls e)) (at + length (recordBytes s ls e)) (suc n) es
 ]
 
-abbrev pub passedBy : Store → ℕ → EnqueuedAnchor → List EnqueuedAnchor → Out ℕ → List Event
-passedBy s left e es o = elim o [ bad r ↦ [] | good a ↦ record { from = s; enq = e } ∷ passed (dequeued s e) (left - length (recordBytes s e)) es ]
+abbrev pub passedBy : Store → List ℕ → ℕ → EnqueuedAnchor → List EnqueuedAnchor → Out ℕ → List Event
+passedBy s ls left e es o = elim o [ bad r ↦ [] | good a ↦ record { from = s; list = ls; enq = e } ∷ passed (dequeued s e) (afterLists s (e .anchor) ls) (left - length (recordBytes s ls e)) es ]
 
 -- the buffer after a commit: what stood before `at`, the records of the finished anchors, and a rest; and how many were finished
-pub commit-buffer : (s : Store) (b : List ℕ) (at n : ℕ) (es : List EnqueuedAnchor) → at ≤ length b
-    → (rest : List ℕ) × (commitAll s b at n es .buffer ≡ take at b ++ (joined bytesOf (passed s (length b - at) es) ++ rest)) × (commitAll s b at n es .anchors ≡ n + length (passed s (length b - at) es))
+pub commit-buffer : (s : Store) (ls b : List ℕ) (at n : ℕ) (es : List EnqueuedAnchor) → at ≤ length b
+    → (rest : List ℕ) × (commitAll s ls b at n es .buffer ≡ take at b ++ (joined bytesOf (passed s ls (length b - at) es) ++ rest)) × (commitAll s ls b at n es .anchors ≡ n + length (passed s ls (length b - at) es))
 unfolding commitAll passed joined
-commit-buffer s b at n [] l = (drop at b, sym (take-append-drop at b), sym (add-zero n))
-commit-buffer s b at n (e ∷ es) l = go (testAnchor s (length b - at) (length (recordBytes s e)) (e .anchor)) refl (λ b at n. commit-buffer (dequeued s e) b at n es)
+commit-buffer s ls b at n [] l = (drop at b, sym (take-append-drop at b), sym (add-zero n))
+commit-buffer s ls b at n (e ∷ es) l = go (testAnchor s ls (length b - at) (length (recordBytes s ls e)) (e .anchor)) refl (λ b at n. commit-buffer (dequeued s e) (afterLists s (e .anchor) ls) b at n es)
   where
     vs : List ℕ
-    vs = recordBytes s e
+    vs = recordBytes s ls e
 
     fin : Out ℕ → Finished
-    fin = finishedBy s b at n e es
+    fin = finishedBy s ls b at n e es
 
     evs : Out ℕ → List Event
-    evs = passedBy s (length b - at) e es
+    evs = passedBy s ls (length b - at) e es
 
-    go : (o : Out ℕ) → testAnchor s (length b - at) (length vs) (e .anchor) ≡ o
+    go : (o : Out ℕ) → testAnchor s ls (length b - at) (length vs) (e .anchor) ≡ o
         → ((b : List ℕ) (at n : ℕ) → at ≤ length b
-        → (rest : List ℕ) × (commitAll (dequeued s e) b at n es .buffer ≡ take at b ++ (joined bytesOf (passed (dequeued s e) (length b - at) es) ++ rest)) × (commitAll (dequeued s e) b at n es .anchors ≡ n + length (passed (dequeued s e) (length b - at) es)))
+        → (rest : List ℕ) × (commitAll (dequeued s e) (afterLists s (e .anchor) ls) b at n es .buffer ≡ take at b ++ (joined bytesOf (passed (dequeued s e) (afterLists s (e .anchor) ls) (length b - at) es) ++ rest)) × (commitAll (dequeued s e) (afterLists s (e .anchor) ls) b at n es .anchors ≡ n + length (passed (dequeued s e) (afterLists s (e .anchor) ls) (length b - at) es)))
         → (rest : List ℕ) × (fin o .buffer ≡ take at b ++ (joined bytesOf (evs o) ++ rest)) × (fin o .anchors ≡ n + length (evs o))
     go (bad r) h i = (drop at b, sym (take-append-drop at b), sym (add-zero n))
     go (good a) h i = (rest, buf, count)
       where
         fit : at + length vs ≤ length b
-        fit = let (t, w, k) = test-good s _ _ _ a h in omega (arith, k)
+        fit = let (t, w, o, k) = test-good s ls _ _ _ a h in omega (arith, k)
 
         same : length b - at - length vs ≡ length (written b at vs) - (at + length vs)
         same = room-left (length b) at (length (written b at vs)) (length vs) (written-length b at vs)
 
-        ih : (rest : List ℕ) × (commitAll (dequeued s e) (written b at vs) (at + length vs) (suc n) es .buffer ≡ take (at + length vs) (written b at vs) ++ (joined bytesOf (passed (dequeued s e) (length (written b at vs) - (at + length vs)) es) ++ rest))
-            × (commitAll (dequeued s e) (written b at vs) (at + length vs) (suc n) es .anchors ≡ suc n + length (passed (dequeued s e) (length (written b at vs) - (at + length vs)) es))
+        ih : (rest : List ℕ) × (commitAll (dequeued s e) (afterLists s (e .anchor) ls) (written b at vs) (at + length vs) (suc n) es .buffer ≡ take (at + length vs) (written b at vs) ++ (joined bytesOf (passed (dequeued s e) (afterLists s (e .anchor) ls) (length (written b at vs) - (at + length vs)) es) ++ rest))
+            × (commitAll (dequeued s e) (afterLists s (e .anchor) ls) (written b at vs) (at + length vs) (suc n) es .anchors ≡ suc n + length (passed (dequeued s e) (afterLists s (e .anchor) ls) (length (written b at vs) - (at + length vs)) es))
         ih = i (written b at vs) (at + length vs) (suc n) (subst (λ k. at + length vs ≤ k) (sym (written-length b at vs)) fit)
 
         rest : List ℕ
         rest = ih .0
 
         tailEvents : List Event
-        tailEvents = passed (dequeued s e) (length b - at - length vs) es
+        tailEvents = passed (dequeued s e) (afterLists s (e .anchor) ls) (length b - at - length vs) es
 
-        buf : commitAll (dequeued s e) (written b at vs) (at + length vs) (suc n) es .buffer ≡ take at b ++ ((vs ++ joined bytesOf tailEvents) ++ rest)
-        buf = ih .1 ∙ (ap₂ _++_ (take-more b at vs fit) (ap (λ k. joined bytesOf (passed (dequeued s e) k es) ++ rest) (sym same))
+        buf : commitAll (dequeued s e) (afterLists s (e .anchor) ls) (written b at vs) (at + length vs) (suc n) es .buffer ≡ take at b ++ ((vs ++ joined bytesOf tailEvents) ++ rest)
+        buf = ih .1 ∙ (ap₂ _++_ (take-more b at vs fit) (ap (λ k. joined bytesOf (passed (dequeued s e) (afterLists s (e .anchor) ls) k es) ++ rest) (sym same))
             ∙ (append-assoc (take at b) vs (joined bytesOf tailEvents ++ rest) ∙ ap (λ (l : List ℕ). take at b ++ l) (sym (append-assoc vs (joined bytesOf tailEvents) rest))))
 
-        count : commitAll (dequeued s e) (written b at vs) (at + length vs) (suc n) es .anchors ≡ n + suc (length tailEvents)
-        count = ih .2 ∙ (ap (λ k. suc n + length (passed (dequeued s e) k es)) (sym same) ∙ shift n (length tailEvents))
+        count : commitAll (dequeued s e) (afterLists s (e .anchor) ls) (written b at vs) (at + length vs) (suc n) es .anchors ≡ n + suc (length tailEvents)
+        count = ih .2 ∙ (ap (λ k. suc n + length (passed (dequeued s e) (afterLists s (e .anchor) ls) k es)) (sym same) ∙ shift n (length tailEvents))
           where
             shift : (n m : ℕ) → suc n + m ≡ n + suc m
             shift n m = omega arith
@@ -231,16 +244,16 @@ commit-buffer s b at n (e ∷ es) l = go (testAnchor s (length b - at) (length (
 -- what reading a record asks of a finished anchor
 pub record Readable (e : Event) : Type 0 where
   pub anchor : Fits (idAt (e .from) (e .enq .anchor))
-  pub points : (x : Id) → List·Memᴰ x (history (e .from) (e .enq .anchor)) → Fits x
-  pub few : length (history (e .from) (e .enq .anchor)) < 256 ^ 4
+  pub points : (x : Id) → List·Memᴰ x (inOrder (e .from) (e .enq .anchor) (e .list)) → Fits x
+  pub few : length (inOrder (e .from) (e .enq .anchor) (e .list)) < 256 ^ 4
 
 pub read-all : (at : Store) (evs : List Event) (rest : List ℕ) → ((e : Event) → List·Memᴰ e evs → Readable e)
-    → readRecords at (length evs) (joined bytesOf evs ++ rest) ≡ map (λ (e : Event). readAs at (e .from) (e .enq)) evs
+    → readRecords at (length evs) (joined bytesOf evs ++ rest) ≡ map (λ (e : Event). readAs at (e .from) (e .list) (e .enq)) evs
 unfolding joined readRecords
 read-all at [] rest f = refl
 read-all at (e ∷ evs) rest f =
     ap (readRecords at (suc (length evs))) (append-assoc (bytesOf e) (joined bytesOf evs) rest)
-    ∙ (read-record at (e .from) (e .enq) (length evs) (joined bytesOf evs ++ rest) (r .anchor) (r .points) (r .few) ∙ ap (λ (l : List History). readAs at (e .from) (e .enq) ∷ l) (read-all at evs rest (λ x m. f x (List·Memᴰ·tail m))))
+    ∙ (read-record at (e .from) (e .list) (e .enq) (length evs) (joined bytesOf evs ++ rest) (r .anchor) (r .points) (r .few) ∙ ap (λ (l : List History). readAs at (e .from) (e .list) (e .enq) ∷ l) (read-all at evs rest (λ x m. f x (List·Memᴰ·tail m))))
   where
     r : Readable e
     r = f e (List·Memᴰ·head refl)

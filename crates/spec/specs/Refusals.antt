@@ -48,15 +48,15 @@ if-sound F b x y h k = if-ends F (λ x. Unit {0}) b x y (λ e. h) (λ e. k)
 pub then-sound : (F : Refusal → Type 0) {A B : Type 0} (o : Out A) (f : A → Out B) → Sound F o → ((a : A) → Sound F (f a)) → Sound F (then o f)
 then-sound F o f h g = then-ends F (λ x. Unit {0}) (λ x. Unit {0}) o f h (λ a u. g a)
 
--- ---- a kind of refusals that holds all numbers but 2 and 20
+-- ---- a kind of refusals that holds all numbers but 2, 20 and 24
 
-module _ (F : Refusal → Type 0) (fine : (n : ℕ) → n ≢ 2 → n ≢ 20 → F (number n)) (fine-conflict : (r : ℕ) → F (conflict r)) where
+module _ (F : Refusal → Type 0) (fine : (n : ℕ) → n ≢ 2 → n ≢ 20 → n ≢ 24 → F (number n)) (fine-conflict : (r : ℕ) → F (conflict r)) where
   pub place-ends : (s : Store) (i : Id) → Ends F (λ q. s .pt q .named ≡ true) (placeOf s i)
   unfolding placeOf
   place-ends s i = go (find s i) refl
     where
       go : (o : Option ℕ) → find s i ≡ o → Ends F (λ q. s .pt q .named ≡ true) (elim o [ none ↦ bad (number 9) | some q ↦ good q ])
-      go none e = (fine 9 (omega arith) (omega arith))
+      go none e = (fine 9 (omega arith) (omega arith) (omega arith))
       go (some q) e = find-some s i q e .named
 
   place-sound : (s : Store) (i : Id) → Sound F (placeOf s i)
@@ -68,17 +68,17 @@ module _ (F : Refusal → Type 0) (fine : (n : ℕ) → n ≢ 2 → n ≢ 20 →
 
   checkedAs-sound : (a u c : Bool) (r q : ℕ) → Sound F (checkedAs a u c r q)
   unfolding checkedAs
-  checkedAs-sound false u c r q = (fine 14 (omega arith) (omega arith))
+  checkedAs-sound false u c r q = (fine 14 (omega arith) (omega arith) (omega arith))
   checkedAs-sound true true c r q = tt
   checkedAs-sound true false true r q = fine-conflict r
-  checkedAs-sound true false false r q = (fine 15 (omega arith) (omega arith))
+  checkedAs-sound true false false r q = (fine 15 (omega arith) (omega arith) (omega arith))
 
   need-sound : (s : Store) (i : Id) → Sound F (readyValidPoint s i)
   unfolding readyValidPoint checked
   need-sound s i = go (find s i)
     where
       go : (o : Option ℕ) → Sound F {A = ℕ} (elim o [ none ↦ bad (number 14) | some q ↦ checked s usableInWalk q ])
-      go none = (fine 14 (omega arith) (omega arith))
+      go none = (fine 14 (omega arith) (omega arith) (omega arith))
       go (some q) = checkedAs-sound _ _ _ _ q
 
   module _ (s : Store) (x : ℕ) (low : Bool) (below : Onward) (on : (i : Id) (acc : List EnqueuedAnchor) → Sound F (below i acc)) (acc : List EnqueuedAnchor) where
@@ -88,21 +88,21 @@ module _ (F : Refusal → Type 0) (fine : (n : ℕ) → n ≢ 2 → n ≢ 20 →
 
     previous-sound : (p : ℕ) (o : Option ℕ) → Sound F (toPrevious s x low below acc p o)
     unfolding toPrevious
-    previous-sound p none = (fine 16 (omega arith) (omega arith))
+    previous-sound p none = (fine 16 (omega arith) (omega arith) (omega arith))
     previous-sound p (some d) = anchor-sound p d
 
     proof-sound : (p : ℕ) → Sound F (atProof s x low below acc p)
     unfolding atProof
-    proof-sound p = if-sound F (s .pt p .resolution .proof) (toPrevious s x low below acc p (previous (s .pt p))) (bad (number 16)) (previous-sound p _) (fine 16 (omega arith) (omega arith))
+    proof-sound p = if-sound F (s .pt p .resolution .proof) (toPrevious s x low below acc p (previous (s .pt p))) (bad (number 16)) (previous-sound p _) (fine 16 (omega arith) (omega arith) (omega arith))
 
     used-sound : (i : Id) (o : Option ℕ) → Sound F (atUsed s x low below acc i o)
     unfolding atUsed
     used-sound i none = then-sound F (readyValidPoint s i) (atProof s x low below acc) (need-sound s i) proof-sound
-    used-sound i (some a) = if-sound F (eqb a (i .author)) (good acc) (bad (number 16)) tt (fine 16 (omega arith) (omega arith))
+    used-sound i (some a) = if-sound F (eqb a (i .author)) (good acc) (bad (number 16)) tt (fine 16 (omega arith) (omega arith) (omega arith))
 
     visit-sound : (i : Id) → Sound F (visit s x low below i acc)
     unfolding visit
-    visit-sound i = if-sound F (ltb (i .round) x) (below i acc) _ (on i acc) (if-sound F (ltb x (i .round)) (bad (number 16)) (atUsed s x low below acc i (s .rounds x .used)) (fine 16 (omega arith) (omega arith)) (used-sound i _))
+    visit-sound i = if-sound F (ltb (i .round) x) (below i acc) _ (on i acc) (if-sound F (ltb x (i .round)) (bad (number 16)) (atUsed s x low below acc i (s .rounds x .used)) (fine 16 (omega arith) (omega arith) (omega arith)) (used-sound i _))
 
   walk-sound : (s : Store) (low k : ℕ) (i : Id) (acc : List EnqueuedAnchor) → Sound F (walk s low k i acc)
   unfolding walk
@@ -111,23 +111,23 @@ module _ (F : Refusal → Type 0) (fine : (n : ℕ) → n ≢ 2 → n ≢ 20 →
 
   chain-sound : (s : Store) (t : ℕ) (o : Option ℕ) → Sound F (chainFrom s t o)
   unfolding chainFrom checkOldest
-  chain-sound s t none = (fine 16 (omega arith) (omega arith))
+  chain-sound s t none = (fine 16 (omega arith) (omega arith) (omega arith))
   chain-sound s t (some d) =
       let low = lowestWalked s in
-      then-sound F (walk s low _ _ []) (checkOldest low) (walk-sound s low _ _ []) (λ es. refuse-sound F (unlinked low es) 19 (good es) (fine 19 (omega arith) (omega arith)) tt)
+      then-sound F (walk s low _ _ []) (checkOldest low) (walk-sound s low _ _ []) (λ es. refuse-sound F (unlinked low es) 19 (good es) (fine 19 (omega arith) (omega arith) (omega arith)) tt)
 
   filtered-sound : (s : Store) (t : ℕ) → Sound F (filtered s t)
   unfolding filtered chain
   filtered-sound s t =
-      refuse-sound F (not (resolved (s .pt t))) 9 _ (fine 9 (omega arith) (omega arith)) (if-sound F (eqb (statusAt s t) 1) (chain s t) _
+      refuse-sound F (not (resolved (s .pt t))) 9 _ (fine 9 (omega arith) (omega arith) (omega arith)) (if-sound F (eqb (statusAt s t) 1) (chain s t) _
       (if-sound F (not (s .pt t .resolution .trigger) || (eqb (roundAt s t) (s .conf .genesis) || emptyWalk s t)) (good []) (chainFrom s t (previous (s .pt t))) tt (chain-sound s t _))
-      (if-sound F (triggerConflict s t) (bad (conflict (roundAt s t))) _ (fine-conflict (roundAt s t)) (refuse-sound F (not (certified s t)) 15 (good []) (fine 15 (omega arith) (omega arith)) tt)))
+      (if-sound F (triggerConflict s t) (bad (conflict (roundAt s t))) _ (fine-conflict (roundAt s t)) (refuse-sound F (not (certified s t)) 15 (good []) (fine 15 (omega arith) (omega arith) (omega arith)) tt)))
 
   pub anchors-sound : (s : Store) (i : Id) → Sound F (anchorsOf s i)
   unfolding anchorsOf
   anchors-sound s i =
-      refuse-sound F (leb 32 (i .author)) 5 _ (fine 5 (omega arith) (omega arith)) (if-sound F (ltb (i .round) (s .bottom)) (good []) _ tt
-      (refuse-sound F (ltb (s .top) (i .round)) 6 _ (fine 6 (omega arith) (omega arith)) (refuse-sound F (not (isPeer s i)) 5 _ (fine 5 (omega arith) (omega arith)) (then-sound F (placeOf s i) (filtered s) (place-sound s i) (filtered-sound s)))))
+      refuse-sound F (leb 32 (i .author)) 5 _ (fine 5 (omega arith) (omega arith) (omega arith)) (if-sound F (ltb (i .round) (s .bottom)) (good []) _ tt
+      (refuse-sound F (ltb (s .top) (i .round)) 6 _ (fine 6 (omega arith) (omega arith) (omega arith)) (refuse-sound F (not (isPeer s i)) 5 _ (fine 5 (omega arith) (omega arith) (omega arith)) (then-sound F (placeOf s i) (filtered s) (place-sound s i) (filtered-sound s)))))
 
   first-sound : (s : Store) (l : List ℕ) → Sound F (firstFault s l)
   unfolding firstFault checked
@@ -137,12 +137,12 @@ module _ (F : Refusal → Type 0) (fine : (n : ℕ) → n ≢ 2 → n ≢ 20 →
   pub tested-sound : (s : Store) (a : ℕ) → Sound F (tested s a)
   unfolding tested faults
   tested-sound s a =
-      refuse-sound F (leb (roundAt s a) (s .conf .genesis)) 22 _ (fine 22 (omega arith) (omega arith)) (then-sound F (faults s a) _ (first-sound s _)
-      (λ x. refuse-sound F (roundsMissing s a) 17 _ (fine 17 (omega arith) (omega arith)) (refuse-sound F (anyUncertified s a) 18 (good a) (fine 18 (omega arith) (omega arith)) tt)))
+      refuse-sound F (leb (roundAt s a) (s .conf .genesis)) 22 _ (fine 22 (omega arith) (omega arith) (omega arith)) (then-sound F (faults s a) _ (first-sound s _)
+      (λ x. refuse-sound F (roundsMissing s a) 17 _ (fine 17 (omega arith) (omega arith) (omega arith)) (refuse-sound F (anyUncertified s a) 18 (good a) (fine 18 (omega arith) (omega arith) (omega arith)) tt)))
 
   pub outlook-sound : (s : Store) (left : ℕ) (es : List EnqueuedAnchor) → Sound F (outlookAll s left es)
   unfolding outlookAll
   outlook-sound s left [] = tt
   outlook-sound s left (e ∷ es) =
       then-sound F (tested s (e .anchor)) _ (tested-sound s (e .anchor)) (λ a.
-      refuse-sound F (ltb left (length (outlookBytes s (e .anchor)))) 21 _ (fine 21 (omega arith) (omega arith)) (then-sound F (outlookAll s _ es) _ (outlook-sound s _ es) (λ rest. tt)))
+      refuse-sound F (ltb left (length (outlookBytes s (e .anchor)))) 21 _ (fine 21 (omega arith) (omega arith) (omega arith)) (then-sound F (outlookAll s _ es) _ (outlook-sound s _ es) (λ rest. tt)))

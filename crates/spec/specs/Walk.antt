@@ -6,7 +6,7 @@ use mathlib.Core.Bool.{Bool, true, false, _&&_, true≢false, false≢true}
 use mathlib.Core.List.{List, [], _∷_, List·Memᴰ, List·Memᴰ·head, List·Memᴰ·tail, List·Memᴰ·cases-cons, List·Memᴰ·not-nil}
 use mathlib.Core.Option.{Option, none, some}
 use lib.Dec.{eqb, leb, ltb}
-use borrow.Author.Tests.{eqb-true, leb-false, ltb-true, ltb-false, eq-eqb, lt-ltb, lt-leb, le-ltb, eqb-false}
+use borrow.Author.Tests.{eqb-true, leb-false, ltb-true, ltb-false, eq-eqb, lt-ltb, lt-leb, le-ltb, eqb-false, not-false}
 use native.Mathlib.Omega.{arith}
 use Rattle.laws.specs.Test.{byTest, both, and-l, and-r}
 use Rattle.laws.specs.Scan.{any, any-elim, any-none, lowest-some, those-intro, those-elim}
@@ -15,7 +15,7 @@ use Rattle.spec.specs.Ids.{Id, sameId, falls, prev}
 use Rattle.spec.specs.Store.{Store, idAt, roundAt, statusAt, resolved, isNamed, find, previous}
 use Rattle.spec.specs.Paths.{height}
 use Rattle.spec.specs.Chain.{Refusal, number, conflict, Out, bad, good, then, refuse, usableInWalk, isCommittable, checkedAs, checked, readyValidPoint, EnqueuedAnchor, Onward, enqueue, toAnchor, toPrevious, atProof, atUsed, visit, walk}
-use Rattle.spec.specs.History.{needed, inHistory, firstFault, faults, roundsMissing, anyUncertified, tested, gapPending, testAnchor}
+use Rattle.spec.specs.History.{needed, inHistory, firstFault, faults, roundsMissing, anyUncertified, tested, gapPending, listsOk, linkedCounts, testAnchor}
 
 -- ---- tests that came out well
 
@@ -267,11 +267,13 @@ tested-back s a c =
     refuse-back (leb (roundAt s a) (s .conf .genesis)) 22 _ (lt-leb (roundAt s a) (s .conf .genesis) (c .young))
     ∙ (rw (faults-back s a (c .ready)) (refuse-back (roundsMissing s a) 17 _ (c .whole) ∙ refuse-back (anyUncertified s a) 18 _ (flat-none s a (c .heightsAre))))
 
--- an anchor that a commit takes: tested, the gap question put, its record fits what is left of the buffer
-pub test-good : (s : Store) (left size a x : ℕ) → testAnchor s left size a ≡ good x → Tested s a × (gapPending (s .progress .gap) ≡ false) × (size ≤ left)
+-- an anchor that a commit takes: tested, the gap question put, its lists right, its record fits what is left of the buffer
+pub test-good : (s : Store) (ls : List ℕ) (left size a x : ℕ) → testAnchor s ls left size a ≡ good x
+    → Tested s a × (gapPending (s .progress .gap) ≡ false) × (listsOk (linkedCounts s a) ls ≡ true) × (size ≤ left)
 unfolding testAnchor
-test-good s left size a x h =
+test-good s ls left size a x h =
     let (y, t, k) = then-good (tested s a) _ x h in
     let (w, j) = refuse-good _ 20 _ x k in
-    let (l, i) = refuse-good _ 21 _ x j in
-    (tested-good s a y t, w, ltb-false _ _ l)
+    let (o, i) = refuse-good _ 24 _ x j in
+    let (l, g) = refuse-good _ 21 _ x i in
+    (tested-good s a y t, w, not-false _ o, ltb-false _ _ l)

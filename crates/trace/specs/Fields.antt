@@ -18,6 +18,7 @@ use Rattle.commit_state.specs.declared.back.UsedAuthor.the-variants.{Nobody, Pe
 use Rattle.models.specs.declared.parts.PointId.{PointId}
 use Rattle.models.specs.declared.info.PointInfo.{PointInfo}
 use Rattle.trace.specs.Numbers.{numberAt, idAt, pointIdAt}
+use Rattle.trace.specs.Head.{listsIn}
 use Rattle.trace.specs.declared.head.Kind.{Kind}
 use Rattle.trace.specs.declared.head.Kind.the-variants as kind
 
@@ -72,7 +73,7 @@ callBy kind.Round f b = round (numberAt f 0 4) (numberAt f 4 4)
 callBy kind.Name f b = name (idAt f 0)
 callBy kind.Resolve f b = resolve (idAt f 0) (resolutionIn f)
 callBy kind.Certify f b = certify (idAt f 0)
-callBy kind.Commit f b = commit (idAt f 0) b
+callBy kind.Commit f b = commit (idAt f 0) (listsIn f) b
 callBy kind.Remove f b = remove (numberAt f 0 4) (sinceIn f) b
 callBy kind.Drop f b = drop (numberAt f 0 4)
 callBy kind.Gap f b = gapQuestion

@@ -23,14 +23,18 @@ kindOf k =
 unfoldable pub linksIn : List ℕ → ℕ
 linksIn f = getD f 80 0 + getD f 81 0
 
--- the length of a kind's fields; a link has 33 bytes
+-- 02, N5: "Commit: id, place lists": the lists are all bytes after the id
+abbrev pub listsIn : List ℕ → List ℕ
+listsIn f = drop 37 f
+
+-- the length of a kind's fields; a link has 33 bytes, the lists of a commit may have any number
 unfoldable pub sizeOf : Kind → List ℕ → ℕ
 sizeOf Start f = 22
 sizeOf Round f = 8
 sizeOf Name f = 37
 sizeOf Resolve f = 82 + 33 * linksIn f
 sizeOf Certify f = 37
-sizeOf Commit f = 37
+sizeOf Commit f = 37 + (length f - 37)
 sizeOf Remove f = 9
 sizeOf Drop f = 4
 sizeOf Gap f = 0
@@ -102,6 +106,12 @@ pub fits-at : (j k : Kind) (f : List ℕ) → k ≡ j → fits j f ≡ fits k f
 fits-at j k f e = ap (λ (i : Kind). fits i f) (sym e)
 
 module _ (f : List ℕ) where
+  pub commit-size : leb 37 (length f) ≡ eqb (length f) (37 + (length f - 37))
+  commit-size =
+      same-test (leb 37 (length f)) (eqb (length f) (37 + (length f - 37)))
+      (λ h. eq-eqb (length f) (37 + (length f - 37)) (omega (arith, leb-true 37 (length f) h)))
+      (λ h. le-leb 37 (length f) (omega (arith, eqb-true (length f) (37 + (length f - 37)) h)))
+
   pub resolve-short : length f < 82 → false ≡ eqb (length f) (82 + 33 * linksIn f)
   resolve-short l = sym (ne-eqb (length f) (82 + 33 * linksIn f) (λ e. omega arith))
 

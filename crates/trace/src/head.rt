@@ -75,7 +75,7 @@ fn fields_fit(kind: Kind, f: &[u8]) -> bool
         Kind::Name => n == 37,
         Kind::Resolve => resolve_fits(f),
         Kind::Certify => n == 37,
-        Kind::Commit => n == 37,
+        Kind::Commit => 37 <= n,
         Kind::Remove => n == 9,
         Kind::Drop => n == 4,
         Kind::Gap => n == 0,

@@ -16,32 +16,32 @@ span-of-requires c κs =
 
 gather-uncommitted-requires : tie.Need-gather-uncommitted-requires
 gather-uncommitted-requires c κs =
-    let a = c .before .before .before .before .before .before .before .args in
-    let fk : Fit (a .keys .now) = λ p. c .before .before .before .before .before .before .shared-slice-known .given p .fits in
-    let fl : Fit (a .links .now) = λ p. c .before .before .before .before .before .shared-slice-known2 .given p .fits in
-    span-ready (a .s) (a .keys .now) (a .links .now) (a .certs .now) (a .order .now) (c .before .before .before .before .before .before .before .pre .0) (a .anchor) (c .before .before .before .before .before .before .before .pre .1) fk fl (c .before .before .round-at .result .0) (c .before .span-of .result) (c .before .before .round-at .ensures) (c .before .span-of .ensures)
+    let a = c .before .before .before .before .before .before .before .before .args in
+    let fk : Fit (a .keys .now) = λ p. c .before .before .before .before .before .before .before .shared-slice-known .given p .fits in
+    let fl : Fit (a .links .now) = λ p. c .before .before .before .before .before .before .shared-slice-known2 .given p .fits in
+    span-ready (a .s) (a .keys .now) (a .links .now) (a .certs .now) (a .order .now) (c .before .before .before .before .before .before .before .before .pre .0) (a .anchor) (c .before .before .before .before .before .before .before .before .pre .1) fk fl (c .before .before .before .round-at .result .0) (c .before .before .span-of .result) (c .before .before .before .round-at .ensures) (c .before .before .span-of .ensures)
 
 count-points-requires : tie.Need-count-points-requires
 count-points-requires c κs =
-    let a = c .before .before .before .before .before .before .before .before .before .args in
-    let fk : Fit (a .keys .now) = λ p. c .before .before .before .before .before .before .before .before .shared-slice-known .given p .fits in
-    let fl : Fit (a .links .now) = λ p. c .before .before .before .before .before .before .before .shared-slice-known2 .given p .fits in
-    span-range (a .s) (a .keys .now) (a .links .now) (a .certs .now) (a .order .now) (c .before .before .before .before .before .before .before .before .before .pre .0) (a .anchor) (c .before .before .before .before .before .before .before .before .before .pre .1) fk fl (c .before .before .before .before .round-at .result .0) (c .before .before .before .span-of .result) (c .before .before .before .before .round-at .ensures) (c .before .before .before .span-of .ensures)
+    let a = c .before .before .before .before .before .before .before .before .before .before .args in
+    let fk : Fit (a .keys .now) = λ p. c .before .before .before .before .before .before .before .before .before .shared-slice-known .given p .fits in
+    let fl : Fit (a .links .now) = λ p. c .before .before .before .before .before .before .before .before .shared-slice-known2 .given p .fits in
+    span-range (a .s) (a .keys .now) (a .links .now) (a .certs .now) (a .order .now) (c .before .before .before .before .before .before .before .before .before .before .pre .0) (a .anchor) (c .before .before .before .before .before .before .before .before .before .before .pre .1) fk fl (c .before .before .before .before .before .round-at .result .0) (c .before .before .before .before .span-of .result) (c .before .before .before .before .before .round-at .ensures) (c .before .before .before .before .span-of .ensures)
 
 anchor-code-requires : tie.Need-anchor-code-requires
 anchor-code-requires c κs =
-    let a = c .before .before .before .before .before .before .before .before .before .before .before .args in
-    let fk : Fit (a .keys .now) = λ p. c .before .before .before .before .before .before .before .before .before .before .shared-slice-known .given p .fits in
-    let fl : Fit (a .links .now) = λ p. c .before .before .before .before .before .before .before .before .before .shared-slice-known2 .given p .fits in
-    code-ready (a .s) (a .keys .now) (a .links .now) (a .certs .now) (a .order .now) (c .before .before .before .before .before .before .before .before .before .before .before .pre .0) (a .anchor) (c .before .before .before .before .before .before .before .before .before .before .before .pre .1) fk fl (c .before .before .before .before .before .before .round-at .result .0) (c .before .before .before .before .before .span-of .result) (c .before .before .before .before .before .before .round-at .ensures) (c .before .before .before .before .before .span-of .ensures)
-
-returns : tie.Need-returns
-returns c =
     let a = c .before .before .before .before .before .before .before .before .before .before .before .before .args in
     let fk : Fit (a .keys .now) = λ p. c .before .before .before .before .before .before .before .before .before .before .before .shared-slice-known .given p .fits in
     let fl : Fit (a .links .now) = λ p. c .before .before .before .before .before .before .before .before .before .before .shared-slice-known2 .given p .fits in
-    let e = tested-by (a .s) (a .keys .now) (a .links .now) (a .certs .now) (a .order .now) (a .anchor) (c .before .before .before .before .before .before .before .round-at .result .0) (c .before .before .before .before .before .before .span-of .result) _ _ (c .anchor-code .result) (c .before .before .before .before .before .before .before .round-at .ensures) (c .before .before .before .before .before .before .span-of .ensures) (c .before .before .before .before .gather-uncommitted .ensures) (c .before .before .count-points .ensures) (c .anchor-code .ensures) in
-    (e, outcome-by (a .s) (a .keys .now) (a .links .now) (a .certs .now) (a .order .now) fk fl (c .before .before .before .before .before .before .before .before .before .before .before .before .pre .0) (a .anchor) (c .before .before .before .before .before .before .before .before .before .before .before .before .pre .1) _ e)
+    code-ready (a .s) (a .keys .now) (a .links .now) (a .certs .now) (a .order .now) (c .before .before .before .before .before .before .before .before .before .before .before .before .pre .0) (a .anchor) (c .before .before .before .before .before .before .before .before .before .before .before .before .pre .1) fk fl (c .before .before .before .before .before .before .before .round-at .result .0) (c .before .before .before .before .before .before .span-of .result) (c .before .before .before .before .before .before .before .round-at .ensures) (c .before .before .before .before .before .before .span-of .ensures)
+
+returns : tie.Need-returns
+returns c =
+    let a = c .before .before .before .before .before .before .before .before .before .before .before .before .before .args in
+    let fk : Fit (a .keys .now) = λ p. c .before .before .before .before .before .before .before .before .before .before .before .before .shared-slice-known .given p .fits in
+    let fl : Fit (a .links .now) = λ p. c .before .before .before .before .before .before .before .before .before .before .before .shared-slice-known2 .given p .fits in
+    let e = tested-by (a .s) (a .keys .now) (a .links .now) (a .certs .now) (a .order .now) (a .anchor) (c .before .before .before .before .before .before .before .before .round-at .result .0) (c .before .before .before .before .before .before .before .span-of .result) _ _ (c .anchor-code .result) (c .before .before .before .before .before .before .before .before .round-at .ensures) (c .before .before .before .before .before .before .before .span-of .ensures) (c .before .before .before .before .gather-uncommitted .ensures) (c .before .before .count-points .ensures) (c .anchor-code .ensures) in
+    (e, outcome-by (a .s) (a .keys .now) (a .links .now) (a .certs .now) (a .order .now) fk fl (c .before .before .before .before .before .before .before .before .before .before .before .before .before .pre .0) (a .anchor) (c .before .before .before .before .before .before .before .before .before .before .before .before .before .pre .1) _ e)
 
 pub test-anchor-spec : {M : Type 1} → statement M
 test-anchor-spec =

@@ -1,21 +1,20 @@
-use mathlib.Core.Path.{refl}
+use Prim.Native.Nat.{_-_}
 use native.Mathlib.Omega.{arith}
-use Rattle.models.specs.Digest.{Fit}
 use Rattle.tables_test.specs.View.{view}
 use Rattle.commit_outlook.specs.Look.{look-room}
-use Rattle.commit_outlook.specs.Chain.{Looking, looking-first, looking-taken, looking-anchored, looked-refused, looked-all}
+use Rattle.commit_outlook.specs.Chain.{Looking, rising-at, looking-first, looking-taken, looking-refused, looking-all}
 use borrow.Author.Needs.{needs}
 use Rattle.commit_outlook.proofs.chain.look_all.Statement.{statement}
 use Rattle.commit_outlook.proofs.chain.look_all.Tie as tie
 
 abbrev Inv-loop : tie.InvT-loop
-Inv-loop s keys links certs order count room list numbers₀ left₀ k₀ numbers left k = Looking (view s keys links certs order) list count room numbers left k
+Inv-loop s keys links certs order count room list left₀ k₀ left k = Looking (view s keys links certs order) list count room left k
 
 abbrev μ-loop : tie.MeasureT-loop
-μ-loop s keys links certs order count room list numbers₀ left₀ k₀ numbers left k = k
+μ-loop s keys links certs order count room list left₀ k₀ left k = k
 
 loop-holds : tie.Need-loop-holds Inv-loop μ-loop
-loop-holds c = let a = c .before .before .before .before .args in looking-first (view (a .s) (a .keys .now) (a .links .now) (a .certs .now) (a .order .now)) _ (a .count) (a .room) _ refl
+loop-holds c = let a = c .before .before .before .before .args in looking-first (view (a .s) (a .keys .now) (a .links .now) (a .certs .now) (a .order .now)) _ (a .count) (a .room)
 
 array-copy-out-e : tie.Need-array-copy-out-e Inv-loop μ-loop
 array-copy-out-e c = let h = c .before .loop .inv .most in let m = c .before .before .before .before .before .before .pre .1 .1 in search needs
@@ -25,47 +24,31 @@ look-one-requires c κs =
     let a = c .before .before .before .before .before .before .before .args in
     let p = c .before .before .before .before .before .before .before .pre in
     let l = c .before .before .loop in
-    let fk : Fit (a .keys .now) = λ q. c .before .before .before .before .before .before .shared-slice-known .given q .fits in
-    let fl : Fit (a .links .now) = λ q. c .before .before .before .before .before .shared-slice-known2 .given q .fits in
-    (p .0, looking-anchored (a .s) (a .keys .now) (a .links .now) (a .certs .now) (a .order .now) fk fl (p .0) _ (a .count) (p .1 .0) (a .room) (l .numbers) (l .left) (l .k) (l .inv) (c .before .loop-test .taken))
+    (p .0, rising-at (view (a .s) (a .keys .now) (a .links .now) (a .certs .now) (a .order .now)) 0 _ (a .count) (l .k - 1) (p .1 .0) (omega (arith, l .inv .most, c .before .loop-test .taken)))
 
 returns : tie.Need-returns Inv-loop μ-loop
 returns c =
     let a = c .before .before .before .before .before .before .before .before .before .before .before .args in
-    let p = c .before .before .before .before .before .before .before .before .before .before .before .pre in
     let l = c .before .before .before .before .before .before .loop in
-    let fk : Fit (a .keys .now) = λ q. c .before .before .before .before .before .before .before .before .before .before .shared-slice-known .given q .fits in
-    let fl : Fit (a .links .now) = λ q. c .before .before .before .before .before .before .before .before .before .shared-slice-known2 .given q .fits in
-    looked-refused (a .s) (a .keys .now) (a .links .now) (a .certs .now) (a .order .now) fk fl (p .0) _ (a .count) (p .1 .0) (a .room) (l .numbers) (l .left) (l .k) (l .inv) (c .before .before .before .before .before .loop-test .taken) _ (c .before .before .before .look-one .ensures .0) _ (c .before .check .given .1)
-
-array-write-numbers : tie.Need-array-write-numbers Inv-loop μ-loop
-array-write-numbers c =
-    let h = c .before .before .before .before .before .loop .inv .most in
-    let m = c .before .before .before .before .before .before .before .before .before .before .pre .1 .1 in
-    search needs
+    looking-refused (view (a .s) (a .keys .now) (a .links .now) (a .certs .now) (a .order .now)) _ (a .count) (a .room) (l .left) (l .k) (l .inv) (c .before .before .before .before .before .loop-test .taken) _ (c .before .before .before .look-one .ensures .0) _ (c .before .check .given .1)
 
 sub-left : tie.Need-sub-left Inv-loop μ-loop
 sub-left c =
-    let a = c .before .before .before .before .before .before .before .before .before .before .args in
-    let l = c .before .before .before .before .before .loop in
-    let h = look-room (view (a .s) (a .keys .now) (a .links .now) (a .certs .now) (a .order .now)) (l .left) _ _ (c .before .before .look-one .ensures .0) (c .enum-told .given .1) in
-    search needs
+    let a = c .before .before .before .before .before .before .before .before .before .before .before .args in
+    let l = c .before .before .before .before .before .before .loop in
+    omega (arith, look-room (view (a .s) (a .keys .now) (a .links .now) (a .certs .now) (a .order .now)) (l .left) _ _ (c .before .before .before .look-one .ensures .0) (c .before .enum-told .given .1), c .before .before .before .look-one .ensures .1)
 
 loop-again : tie.Need-loop-again Inv-loop μ-loop
 loop-again c =
-    let a = c .before .before .before .before .before .before .before .before .before .before .args in
-    let p = c .before .before .before .before .before .before .before .before .before .before .pre in
-    let l = c .before .before .before .before .before .loop in
-    looking-taken (view (a .s) (a .keys .now) (a .links .now) (a .certs .now) (a .order .now)) _ (a .count) (a .room) (l .numbers) (l .left) (l .k) (l .inv) (c .before .before .before .before .loop-test .taken) _ (c .before .before .look-one .ensures .0) (c .enum-told .given .1) (p .1 .1) _ (c .before .before .look-one .ensures .1)
+    let a = c .before .before .before .before .before .before .before .before .before .before .before .args in
+    let l = c .before .before .before .before .before .before .loop in
+    looking-taken (view (a .s) (a .keys .now) (a .links .now) (a .certs .now) (a .order .now)) _ (a .count) (a .room) (l .left) (l .k) (l .inv) (c .before .before .before .before .before .loop-test .taken) _ (c .before .before .before .look-one .ensures .0) (c .before .enum-told .given .1) _ (c .before .before .before .look-one .ensures .1)
 
 returns-2 : tie.Need-returns-2 Inv-loop μ-loop
 returns-2 c =
     let a = c .before .before .before .before .before .before .args in
-    let p = c .before .before .before .before .before .before .pre in
     let l = c .before .loop in
-    let fk : Fit (a .keys .now) = λ q. c .before .before .before .before .before .shared-slice-known .given q .fits in
-    let fl : Fit (a .links .now) = λ q. c .before .before .before .before .shared-slice-known2 .given q .fits in
-    looked-all (a .s) (a .keys .now) (a .links .now) (a .certs .now) (a .order .now) fk fl (p .0) _ (a .count) (p .1 .0) (a .room) (l .numbers) (l .left) (l .k) (l .inv) (omega (arith, c .loop-test .left))
+    looking-all (view (a .s) (a .keys .now) (a .links .now) (a .certs .now) (a .order .now)) _ (a .count) (a .room) (l .left) (l .k) (l .inv) (omega (arith, c .loop-test .left))
 
 pub look-all-spec : {M : Type 1} → statement M
 look-all-spec =
@@ -81,8 +64,6 @@ look-all-spec =
     (λ c. search needs)
     returns
     (λ c. search needs)
-    (λ c. search needs)
-    array-write-numbers
     sub-left
     (λ c. search needs)
     loop-again

@@ -1,60 +1,57 @@
-use borrow.Author.Needs.{needs}
-use Prim.Native.Nat.{_≤_, _<_, _-_, _+_, _*_}
-use mathlib.Core.Path.{_≡_, refl, sym, ap, _∙_}
-use mathlib.Core.Logic.{⊎-elim}
+use Prim.Native.Nat.{_+_, _-_, _<_, _≤_}
+use mathlib.Core.Path.{_≡_, refl, ap, _∙_}
 use native.Mathlib.Omega.{arith}
-use lib.ListN.{length, getD}
+use lib.ListN.{length}
+use borrow.Author.Needs.{needs}
 use Rattle.laws.specs.Bytes.{written-length}
-use Rattle.back_history.specs.Model.{isUncommitted}
-use Rattle.back_history.specs.Refines.{picked}
-use Rattle.output_record.specs.Picked.{room}
-use Rattle.output_record.specs.Model.{pointsOf, Sofar, sofar-none, sofar-yes, sofar-no}
+use Rattle.output_record.specs.Listed.{Sofar, sofar-none, sofar-all, round-listed, sofar-room, sofar-more}
 use Rattle.output_record.proofs.record.put_points.Statement.{statement}
 use Rattle.output_record.proofs.record.put_points.Tie as tie
 
 abbrev Inv-loop : tie.InvT-loop
-Inv-loop b₀ at keys marks order certs low high end₀ i₀ b end i = (low ≤ i) × (i ≤ high) × (length b ≡ length b₀) × Sofar keys order (isUncommitted certs marks) low at b₀ i b end
+Inv-loop b₀ at keys marks order certs n lists end lowest total next₀ from₀ k₀ b next from k =
+    (k ≤ total) × (length b ≡ length b₀) × Sofar keys order n certs marks lists end (lowest .0) at b₀ k from b next
 
 abbrev μ-loop : tie.MeasureT-loop
-μ-loop b₀ at keys marks order certs low high end₀ i₀ b end i = high - i
+μ-loop b₀ at keys marks order certs n lists end lowest total next₀ from₀ k₀ b next from k = total - k
+
+plus-requires : tie.Need-plus-requires Inv-loop μ-loop
+plus-requires c κs = let h = c .before .before .before .before .before .pre .0 in omega (arith, h .high)
 
 loop-holds : tie.Need-loop-holds Inv-loop μ-loop
-loop-holds c = (omega arith, search needs, refl, sofar-none _ _ _ _ _ _)
+loop-holds c = (search needs, refl, sofar-none _ _ _ _ _ _ _ _ _ (c .before .before .before .before .before .before .before .pre .0) _ _)
 
-is-uncommitted-requires : tie.Need-is-uncommitted-requires Inv-loop μ-loop
-is-uncommitted-requires c κs =
-    let s = c .before .before .before .before .before .before .before .before in
-    let l = c .before .before .before .loop in
-    let h : getD (s .args .order .now) (l .i) 0 < length (s .args .certs .now) = s .pre .0 .4 (l .i) (omega arith) in
-    search needs
+plus-requires-2 : tie.Need-plus-requires-2 Inv-loop μ-loop
+plus-requires-2 c κs =
+    let h = c .before .before .before .before .before .before .before .before .before .pre .0 in
+    omega (arith, h .high, c .loop-test .taken, c .before .before .minus .ensures, c .before .before .before .plus .ensures)
 
-put-id-requires : tie.Need-put-id-requires Inv-loop μ-loop
-put-id-requires c κs =
+put-one-requires : tie.Need-put-one-requires Inv-loop μ-loop
+put-one-requires c κs =
     let s = c .before .before .before .before .before .before .before .before .before .before .before in
-    let l = c .before .before .before .before .before .before .loop in
-    let h : getD (s .args .order .now) (l .i) 0 < length (s .args .certs .now) = s .pre .0 .4 (l .i) (omega arith) in
-    let r = room (s .args .order .now) (isUncommitted (s .args .certs .now) (s .args .marks .now)) (s .args .low) (l .i) (s .args .high) (l .inv .0) (omega arith) (ap (isUncommitted (s .args .certs .now) (s .args .marks .now)) (sym (c .before .before .before .slot .ensures)) ∙ (sym (c .before .before .is-uncommitted .ensures) ∙ c .before .if1 .taken)) in
-    let p : s .args .at + length (picked (s .args .order .now) (isUncommitted (s .args .certs .now) (s .args .marks .now)) (s .args .low) ((s .args .high) - (s .args .low))) * 37 ≤ length (s .args .b .now) = s .pre .1 in
-    (omega (arith, r, p, l .inv .2, l .inv .3 .0), omega (arith, h, c .before .before .before .slot .ensures, s .pre .0 .3))
+    let l = c .before .before .before .loop in
+    let is = c .before .plus2 .ensures in
+    let t : l .k < s .args .round .0 + 1 - s .args .lowest .0 = omega (arith, c .before .before .loop-test .taken, c .before .before .before .before .minus .ensures, c .before .before .before .before .before .plus .ensures) in
+    (round-listed _ _ _ _ _ _ _ _ _ (s .pre .0) (l .k) _ _ t is (l .inv .2 .0), sofar-room _ _ _ _ _ _ _ _ _ (s .pre .0) (l .k) _ _ t is (l .inv .2 .0) _ _ _ _ _ (l .inv .2 .1) (omega (arith, s .pre .1, l .inv .1)))
 
 loop-again : tie.Need-loop-again Inv-loop μ-loop
 loop-again c =
-    let l = c .before .before .before .before .before .loop in
-    let is = c .before .is-uncommitted .ensures in
-    let x = c .before .before .slot .ensures in
-    ⊎-elim
-    (λ w. let e = w .5 ∙ w .2 .ensures .1 in
-    (omega arith, omega arith, ap length e ∙ (written-length _ _ _ ∙ l .inv .2), sofar-yes _ _ _ _ _ _ (l .i) _ _ _ _ _ (l .inv .0) (l .inv .3) x (sym is ∙ w .0 .taken) (w .6 ∙ w .2 .ensures .0) e))
-    (λ w. (omega arith, omega arith, ap length (w .1) ∙ l .inv .2, sofar-no _ _ _ _ _ _ (l .i) _ _ _ _ _ (l .inv .0) (l .inv .3) x (sym is ∙ w .0 .left) (w .2) (w .1)))
-    (c .if1 .came)
+    let s = c .before .before .before .before .before .before .before .before .before .before .before .before .before .before in
+    let l = c .before .before .before .before .before .before .loop in
+    let w = c .before .before .put-one .ensures in
+    let is = c .before .before .before .before .plus2 .ensures in
+    let t : l .k < s .args .round .0 + 1 - s .args .lowest .0 =
+    omega (arith, c .before .before .before .before .before .loop-test .taken, c .before .before .before .before .before .before .before .minus .ensures, c .before .before .before .before .before .before .before .before .plus .ensures) in (
+      omega arith,
+      ap length (w .1 .1) ∙ (written-length _ _ _ ∙ l .inv .1),
+      sofar-more _ _ _ _ _ _ _ _ _ (s .pre .0) (l .k) _ _ t is (l .inv .2 .0) _ _ _ _ _ _ _ (l .inv .2 .1) (w .0) (w .1),
+    )
 
 returns : tie.Need-returns Inv-loop μ-loop
-unfolding pointsOf
 returns c =
+    let s = c .before .before .before .before .before .before .before .before .before in
     let l = c .before .loop in
-    let a = c .before .before .before .before .before .before .args in
-    let e : l .i ≡ a .high = omega arith in
-    rw e at (l .inv .3)
+    sofar-all _ _ _ _ _ _ _ _ _ (s .pre .0) _ _ _ _ _ _ (l .inv .2) (omega (arith, l .inv .0, c .loop-test .left, c .before .before .minus .ensures, c .before .before .before .plus .ensures))
 
 pub put-points-spec : {M : Type 1} → statement M
 put-points-spec =
@@ -62,12 +59,11 @@ put-points-spec =
     (tie.spec
     Inv-loop
     μ-loop
-    loop-holds
-    (λ c. search needs)
-    (λ c. search needs)
+    plus-requires
     (λ c κs. search needs)
-    is-uncommitted-requires
-    put-id-requires
+    loop-holds
+    plus-requires-2
+    put-one-requires
     (λ c. search needs)
     (λ c. search needs)
     loop-again

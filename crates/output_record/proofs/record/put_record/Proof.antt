@@ -1,14 +1,28 @@
-use Rattle.output_record.specs.Model.{pointsOf, record-then}
+use mathlib.Core.Path.{ap, _∙_}
+use native.Mathlib.Omega.{arith}
+use lib.ListN.{length}
 use borrow.Author.Needs.{needs}
+use Rattle.laws.specs.Bytes.{written-length}
+use Rattle.output_record.specs.Model.{record-then}
 use Rattle.output_record.proofs.record.put_record.Statement.{statement}
 use Rattle.output_record.proofs.record.put_record.Tie as tie
 
+put-head-requires : tie.Need-put-head-requires
+put-head-requires c κs =
+    let p = c .before .before .before .before .before .before .pre in
+    (omega (arith, p .1 .3), omega (arith, p .1 .0, p .0 .tables .words, p .0 .tables .keys), omega (arith, p .1 .1, p .0 .tables .words, p .0 .tables .keys))
+
+put-points-requires : tie.Need-put-points-requires
+put-points-requires c κs =
+    let p = c .before .before .before .before .before .before .before .before .before .before .pre in
+    let h = c .before .before .before .put-head .ensures in
+    let e = ap length (h .1) ∙ written-length _ _ _ in
+    (p .0, omega (arith, p .1 .2, p .1 .3, h .0, e))
+
 returns : tie.Need-returns
-unfolding pointsOf
 returns c =
     let h = c .before .before .before .before .before .before .put-head .ensures in
-    let p = c .before .before .put-points .ensures in
-    record-then _ _ _ _ _ _ _ _ _ _ _ _ _ (c .before .before .before .before .before .before .before .before .before .before .before .before .pre .1 .2) (h .0) (h .1) (p .0) (p .1)
+    record-then _ _ _ _ _ _ _ _ _ _ _ _ _ (c .before .before .before .before .before .before .before .before .before .before .before .before .before .pre .1 .2) (h .0) (h .1) (c .before .before .put-points .ensures)
 
 pub put-record-spec : {M : Type 1} → statement M
-put-record-spec = tie.close (tie.spec (λ c κs. search needs) (λ c κs. search needs) (λ c. search needs) returns)
+put-record-spec = tie.close (tie.spec put-head-requires put-points-requires (λ c. search needs) returns)

@@ -6,10 +6,10 @@ use Rattle.show.proofs.looks.write_looks.Statement.{statement}
 use Rattle.show.proofs.looks.write_looks.Tie as tie
 
 abbrev Inv-loop : tie.InvT-loop
-Inv-loop b n at₀ i₀ at i = at ≤ length b
+Inv-loop b n reach at₀ i₀ at i = at ≤ length b
 
 abbrev μ-loop : tie.MeasureT-loop
-μ-loop b n at₀ i₀ at i = n - i
+μ-loop b n reach at₀ i₀ at i = n - i
 
 write-look-requires : tie.Need-write-look-requires Inv-loop μ-loop
 write-look-requires c κs = c .before .loop .inv

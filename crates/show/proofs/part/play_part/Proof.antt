@@ -37,10 +37,10 @@ sub-loop : tie.Need-sub-loop Inv-loop μ-loop
 sub-loop c = c .loop .inv .1
 
 loop-less : tie.Need-loop-less Inv-loop μ-loop
-loop-less c = let i = c .before .before .before .before .before .before .before .before .before .before .before .before .before .before .before .before .before .before .before .before .before .before .before .before .loop .inv in fewer _ _ _ _ (i .0) (c .if1 .left) (c .before .before .before .before .before .before .before .before .before .before .before .before .before .before .before .before .before .play-one .ensures .0 .2 (inside _ _ _ (i .0) (i .1)))
+loop-less c = let i = c .before .before .before .before .before .before .before .before .before .before .before .before .before .before .before .before .before .before .before .before .before .before .before .before .before .loop .inv in fewer _ _ _ _ (i .0) (c .if1 .left) (c .before .before .before .before .before .before .before .before .before .before .before .before .before .before .before .before .before .before .play-one .ensures .0 .2 (inside _ _ _ (i .0) (i .1)))
 
 loop-again : tie.Need-loop-again Inv-loop μ-loop
-loop-again c = let i = c .before .before .before .before .before .before .before .before .before .before .before .before .before .before .before .before .before .before .before .before .before .before .before .before .loop .inv in let k = c .before .before .before .before .before .before .before .before .before .before .before .before .before .before .before .before .before .play-one .kept in let e = c .before .before .before .before .before .before .before .before .before .before .before .before .before .before .before .before .before .play-one .ensures in (i .0, within _ _ _ (i .0) (e .0 .2 (inside _ _ _ (i .0) (i .1))), i .2, i .3, k .1 .0 ∙ i .4, k .1 .1 .0 ∙ i .5, k .1 .1 .1 .0 ∙ i .6, k .1 .1 .1 .1 .0 ∙ i .7, k .1 .1 .1 .1 .1 .0 ∙ i .8, runs-more _ _ _ _ _ _ _ _ _ _ (i .9) (e .0 .0) (e .1 .1 .0) (c .if1 .left))
+loop-again c = let i = c .before .before .before .before .before .before .before .before .before .before .before .before .before .before .before .before .before .before .before .before .before .before .before .before .before .loop .inv in let k = c .before .before .before .before .before .before .before .before .before .before .before .before .before .before .before .before .before .before .play-one .kept in let e = c .before .before .before .before .before .before .before .before .before .before .before .before .before .before .before .before .before .before .play-one .ensures in (i .0, within _ _ _ (i .0) (e .0 .2 (inside _ _ _ (i .0) (i .1))), i .2, i .3, k .1 .0 ∙ i .4, k .1 .1 .0 ∙ i .5, k .1 .1 .1 .0 ∙ i .6, k .1 .1 .1 .1 .0 ∙ i .7, k .1 .1 .1 .1 .1 .0 ∙ i .8, runs-more _ _ _ _ _ _ _ _ _ _ (i .9) (e .0 .0) (e .1 .1 .0) (c .if1 .left))
 
 same-length : tie.Need-same-length Inv-loop μ-loop
 same-length c = c .before .loop .inv .4
@@ -61,22 +61,22 @@ returns : tie.Need-returns Inv-loop μ-loop
 returns c = let i = c .before .loop .inv in (i .9, (inside _ _ _ (i .0) (i .1), ends-short _ (c .before .before .before .before .before .before .before .before .before .args .last) _ _ _ _ (i .0) (i .3) (i .2) (c .loop-test .left)))
 
 same-length-6 : tie.Need-same-length-6 Inv-loop μ-loop
-same-length-6 c = c .before .before .before .before .before .before .before .before .before .before .before .before .before .before .before .before .before .play-one .kept .1 .0 ∙ c .before .before .before .before .before .before .before .before .before .before .before .before .before .before .before .before .before .before .before .before .before .before .before .before .loop .inv .4
+same-length-6 c = c .before .before .before .before .before .before .before .before .before .before .before .before .before .before .before .before .before .before .play-one .kept .1 .0 ∙ c .before .before .before .before .before .before .before .before .before .before .before .before .before .before .before .before .before .before .before .before .before .before .before .before .before .loop .inv .4
 
 same-length-7 : tie.Need-same-length-7 Inv-loop μ-loop
-same-length-7 c = c .before .before .before .before .before .before .before .before .before .before .before .before .before .before .before .before .before .play-one .kept .1 .1 .0 ∙ c .before .before .before .before .before .before .before .before .before .before .before .before .before .before .before .before .before .before .before .before .before .before .before .before .loop .inv .5
+same-length-7 c = c .before .before .before .before .before .before .before .before .before .before .before .before .before .before .before .before .before .before .play-one .kept .1 .1 .0 ∙ c .before .before .before .before .before .before .before .before .before .before .before .before .before .before .before .before .before .before .before .before .before .before .before .before .before .loop .inv .5
 
 same-length-8 : tie.Need-same-length-8 Inv-loop μ-loop
-same-length-8 c = c .before .before .before .before .before .before .before .before .before .before .before .before .before .before .before .before .before .play-one .kept .1 .1 .1 .0 ∙ c .before .before .before .before .before .before .before .before .before .before .before .before .before .before .before .before .before .before .before .before .before .before .before .before .loop .inv .6
+same-length-8 c = c .before .before .before .before .before .before .before .before .before .before .before .before .before .before .before .before .before .before .play-one .kept .1 .1 .1 .0 ∙ c .before .before .before .before .before .before .before .before .before .before .before .before .before .before .before .before .before .before .before .before .before .before .before .before .before .loop .inv .6
 
 same-length-9 : tie.Need-same-length-9 Inv-loop μ-loop
-same-length-9 c = c .before .before .before .before .before .before .before .before .before .before .before .before .before .before .before .before .before .play-one .kept .1 .1 .1 .1 .0 ∙ c .before .before .before .before .before .before .before .before .before .before .before .before .before .before .before .before .before .before .before .before .before .before .before .before .loop .inv .7
+same-length-9 c = c .before .before .before .before .before .before .before .before .before .before .before .before .before .before .before .before .before .before .play-one .kept .1 .1 .1 .1 .0 ∙ c .before .before .before .before .before .before .before .before .before .before .before .before .before .before .before .before .before .before .before .before .before .before .before .before .before .loop .inv .7
 
 same-length-10 : tie.Need-same-length-10 Inv-loop μ-loop
-same-length-10 c = c .before .before .before .before .before .before .before .before .before .before .before .before .before .before .before .before .before .play-one .kept .1 .1 .1 .1 .1 .0 ∙ c .before .before .before .before .before .before .before .before .before .before .before .before .before .before .before .before .before .before .before .before .before .before .before .before .loop .inv .8
+same-length-10 c = c .before .before .before .before .before .before .before .before .before .before .before .before .before .before .before .before .before .before .play-one .kept .1 .1 .1 .1 .1 .0 ∙ c .before .before .before .before .before .before .before .before .before .before .before .before .before .before .before .before .before .before .before .before .before .before .before .before .before .loop .inv .8
 
 returns-2 : tie.Need-returns-2 Inv-loop μ-loop
-returns-2 c = let i = c .before .before .before .before .before .before .before .before .before .before .before .before .before .before .before .before .before .before .before .before .before .before .before .before .loop .inv in let e = c .before .before .before .before .before .before .before .before .before .before .before .before .before .before .before .before .before .play-one .ensures in (runs-stays _ _ _ _ _ _ _ _ _ _ (i .9) (e .0 .0) (e .1 .1 .0) (c .if1 .taken), (inside _ _ _ (i .0) (i .1), ends-broken _ _ _ _ _ _ _ _ _ _ (i .9) (e .0 .0) (e .1 .1 .0) (c .before .before .before .before .before .before .before .before .before .before .before .before .before .before .before .before .before .before .before .before .before .before .before .before .before .before .before .before .before .before .before .before .args .last) (c .if1 .taken)))
+returns-2 c = let i = c .before .before .before .before .before .before .before .before .before .before .before .before .before .before .before .before .before .before .before .before .before .before .before .before .before .loop .inv in let e = c .before .before .before .before .before .before .before .before .before .before .before .before .before .before .before .before .before .before .play-one .ensures in (runs-stays _ _ _ _ _ _ _ _ _ _ (i .9) (e .0 .0) (e .1 .1 .0) (c .if1 .taken), (inside _ _ _ (i .0) (i .1), ends-broken _ _ _ _ _ _ _ _ _ _ (i .9) (e .0 .0) (e .1 .1 .0) (c .before .before .before .before .before .before .before .before .before .before .before .before .before .before .before .before .before .before .before .before .before .before .before .before .before .before .before .before .before .before .before .before .before .args .last) (c .if1 .taken)))
 
 pub play-part-spec : {M : Type 1} → statement M
 play-part-spec =
@@ -87,6 +87,7 @@ play-part-spec =
     (λ c κs. search needs)
     loop-holds
     sub-loop
+    (λ c κs. search needs)
     (λ c κs. search needs)
     (λ c κs. search needs)
     (λ c κs. search needs)

@@ -1,6 +1,6 @@
 use mathlib.Core.Path.{_∙_}
 use borrow.Author.Needs.{needs}
-use Rattle.trace.specs.Head.{fits, sizeOf, fits-at}
+use Rattle.trace.specs.Head.{fits, sizeOf, fits-at, commit-size}
 use Rattle.trace.proofs.head.fields_fit.Statement.{statement}
 use Rattle.trace.proofs.head.fields_fit.Tie as tie
 
@@ -26,7 +26,7 @@ returns-5 c = fits-at _ _ (c .before .before .before .args .f .now) (c .enum-tol
 
 returns-6 : tie.Need-returns-6
 unfolding fits sizeOf
-returns-6 c = fits-at _ _ (c .before .before .before .args .f .now) (c .enum-told6 .given .1)
+returns-6 c = commit-size (c .before .before .before .args .f .now) ∙ fits-at _ _ (c .before .before .before .args .f .now) (c .enum-told6 .given .1)
 
 returns-7 : tie.Need-returns-7
 unfolding fits sizeOf
