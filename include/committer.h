@@ -18,8 +18,8 @@
  * The host's fault, with undefined behaviour as in all C, is only what a callee can't see:
  *   - a null pointer with a length above 0, or a pointer that isn't aligned for uint64_t;
  *   - a length above the number of words behind the pointer, or of bytes behind a buffer;
- *   - tables, links lent to a resolution, or a buffer, that overlap each other;
- *   - tables or a buffer that another thread writes during the call (or reads, if the call changes them).
+ *   - tables, links lent to a resolution, place lists, or a buffer, that overlap each other;
+ *   - what is lent that another thread writes during the call (or reads, if the call changes it).
  * Everything else is refused by number, tables of wrong lengths too.
  *
  * The calls allocate nothing, keep no pointer, and share nothing: different states with tables of their own can be used at the same time.
@@ -86,7 +86,7 @@ extern "C" {
  *   74   executable, 1 or 0
  *   75   round of the previous anchor (4), 0 for none
  *   79   number of points (4)
- *   83   their ids, by rising round, then by rising digest
+ *   83   their ids, by rising round; inside a round in the reverse of the order that its place list says (see 'place lists')
  */
 #define COMMITTER_ID_BYTES 37u
 #define COMMITTER_RECORD_BYTES(points) (83u + (size_t)(points) * COMMITTER_ID_BYTES)
@@ -98,11 +98,30 @@ extern "C" {
  * What an outlook writes for each anchor.
  *   0    id of the anchor
  *   37   number of points in its history (4)
+ *   41   for each round of its history, from the anchor's down to committer_lowest_round, the number of points linked in it (4), the
+ *        anchor and committed ones too: the length of the round's place list
  */
-#define COMMITTER_OUTLOOK_BYTES 41u
+#define COMMITTER_LOOK_BYTES(rounds) (41u + 4u * (size_t)(rounds))
 
-/* A buffer of so many bytes has room for any outlook. */
-#define COMMITTER_OUTLOOK_MAX (511u * COMMITTER_OUTLOOK_BYTES)
+/* A buffer of so many bytes has room for any outlook: at most 511 anchors, each with a history of at most 256 rounds. */
+#define COMMITTER_OUTLOOK_MAX (511u * COMMITTER_LOOK_BYTES(COMMITTER_HISTORY_MAX + 1u))
+
+/* ---- place lists */
+
+/*
+ * What a commit is lent for the order inside a round: for each anchor, oldest first, and each round of its history, from the anchor's down
+ * to committer_lowest_round, one list, end to end. The list of a round has a byte for each point linked in it: each that the anchor reaches
+ * by links of points that aren't committed, the anchor and committed ones too. Byte k says which of them stands at position k after the
+ * host's shuffle, counted from 0 by rising digest. The points that aren't committed come out in the reverse of that order.
+ *
+ * With a < b < c in a round, the list 1 2 0 says b, c, a, and they come out as a, c, b. The anchor's own round has the one byte 0; a round
+ * without linked points has no byte. A round has at most 128 linked points, and an anchor's lists at most COMMITTER_PLACES_MAX bytes.
+ *
+ * An outlook tells how long the lists of its first anchor are. Those of a later one go by the marks that the anchors before it leave, and
+ * may be shorter than what the outlook counts by the marks now. So a host commits anchor by anchor: it asks for the outlook, lends the
+ * lists of the first anchor, and if more anchors wait, the commit is refused with 24 and 1 finished, since every anchor has a byte; then it
+ * asks for the outlook again. An outlook that is refused for a later anchor tells no counts; they follow from the tables.
+ */
 
 /* ---- what a remove answers */
 
@@ -203,6 +222,7 @@ enum committer_refusal {
     COMMITTER_NO_ROOM = 21, /* answer larger than the buffer left */
     COMMITTER_AT_GENESIS = 22, /* anchor at genesis */
     COMMITTER_REMOVE_AHEAD = 23, /* remove above the last anchor handed out since the start, or none */
+    COMMITTER_BAD_LISTS = 24, /* place list that isn't each place from 0 once */
     COMMITTER_BAD_GAME = 31 /* numbers or sets of a game of keepers and spoilers out of range; no call's */
 };
 
@@ -361,6 +381,7 @@ COMMITTER_ASSERT(size_of_start_args, sizeof(committer_start_args) == 28);
 COMMITTER_ASSERT(size_of_a_resolution, sizeof(committer_resolution) == 72);
 COMMITTER_ASSERT(size_of_counters, sizeof(committer_counters) == 18);
 COMMITTER_ASSERT(bytes_of_a_remove, COMMITTER_REMOVE_MAX == 5785509u);
+COMMITTER_ASSERT(bytes_of_an_outlook, COMMITTER_OUTLOOK_MAX == 511u * 1065u);
 
 #undef COMMITTER_ASSERT
 
@@ -393,6 +414,19 @@ static inline void committer_digest_bytes(committer_digest digest, unsigned char
     for (int i = 0; i < 32; i++) {
         bytes[i] = (unsigned char)(digest.words[i / 8] >> (56 - 8 * (i % 8)));
     }
+}
+
+/*
+ * The lowest round of an anchor's history: H rounds below the anchor, but above genesis and not below the bottom. The first three stand in
+ * the state. The history has anchor_round + 1 - committer_lowest_round(..) rounds.
+ */
+static inline uint32_t committer_lowest_round(uint32_t genesis, uint32_t commit_history_rounds, uint32_t bottom, uint32_t anchor_round)
+{
+    uint32_t lowest = anchor_round > commit_history_rounds ? anchor_round - commit_history_rounds : 0;
+    if (lowest <= genesis) {
+        lowest = genesis + 1;
+    }
+    return lowest < bottom ? bottom : lowest;
 }
 
 /* ---- generator. It takes no state and no tables, and refuses nothing. */
@@ -441,8 +475,8 @@ committer_reach committer_reach_of(
 #define COMMITTER_STACK_RESOLVE 68000u
 #define COMMITTER_STACK_CERTIFY 37000u
 #define COMMITTER_STACK_DROP 37000u
-#define COMMITTER_STACK_COMMIT 184000u
-#define COMMITTER_STACK_OUTLOOK 92000u
+#define COMMITTER_STACK_COMMIT 185000u
+#define COMMITTER_STACK_OUTLOOK 107000u
 #define COMMITTER_STACK_REMOVE 122000u
 #define COMMITTER_STACK_MERGE 100u
 
@@ -531,28 +565,30 @@ committer_reply committer_drop(committer_state state,
  * Commits the anchors that a trigger yields, oldest first. Their number is in `anchors`, and their records stand in the buffer one after
  * the other from its first byte on; the bytes beyond them stay as they are. The points of a history are marked as committed, the proof's
  * round gets its used mark and is that of the last proof. A point that isn't marked as trigger yields no anchors, nor does one below the
- * bottom, at genesis, or not above the last proof. The buffer may have any length, and may be null with the length 0.
+ * bottom, at genesis, or not above the last proof. `lists` holds the place lists of these anchors (see 'place lists'); bytes beyond them
+ * aren't read, and without anchors none are. Lists and buffer may have any length, and may be null with the length 0.
  * Refused by its walk, with 0 anchors: 2 not started; 5 author above 31; 6 round above the top; 5 author not a peer of its round; 9 not
  * named or not resolved; 13 history conflict, its round in `conflict`; 14 point needed, not named or unresolved; 15 status neither usable
  * nor certified; 16 no previous point, or the sought proof above the round walked, of another author than the used mark, or not marked as
  * proof; 19 oldest link above the walk's lowest round.
  * Refused by an anchor, with those before it finished: 22 anchor at genesis; 13, 14, 15 as above, of its history; 17 rounds of its history
- * missing; 18 point of its history not certified; 20 gap question not put; 21 record larger than the buffer left. The records, marks and
- * state of the finished anchors stay, and nothing else changes.
+ * missing; 18 point of its history not certified; 20 gap question not put; 24 one of its place lists isn't each place from 0 once, or too few
+ * bytes are left for them; 21 record larger than the buffer left. The records, marks and state of the finished anchors stay, and nothing
+ * else changes.
  */
 committer_reply committer_commit(committer_state state,
     const uint64_t *keys, size_t keys_len, const uint64_t *links, size_t links_len,
     uint64_t *certs, size_t certs_len, const uint64_t *order, size_t order_len,
-    committer_point_id id, uint8_t *buffer, size_t buffer_len);
+    committer_point_id id, const uint8_t *lists, size_t lists_len, uint8_t *buffer, size_t buffer_len);
 
 /*
  * Tells which anchors a commit of this trigger would hand out, oldest first, without making it. Their number is in `anchors`, and
- * COMMITTER_OUTLOOK_BYTES bytes for each stand in the buffer one after the other; the bytes beyond them stay as they are. All numbers of
- * points are counted from the committed marks now: a point that the histories of two anchors reach is counted for both, and handed out
- * with the first. Tables and state stay as they are, and the gap question needn't be put. The buffer may have any length, and may be null
- * with the length 0.
- * Refused as the commit would be, in the same order of tests, but never with 20: 2; 5, 6, 5, 9; 13 to 16; 19; then for each anchor 22; 13 to
- * 15; 17; 18; 21 no COMMITTER_OUTLOOK_BYTES bytes left for it. A refused outlook writes no byte, and `anchors` is 0.
+ * COMMITTER_LOOK_BYTES(rounds) bytes for each stand in the buffer one after the other, with the counts of its rounds at their end; the bytes
+ * beyond them stay as they are. All numbers of points are counted from the committed marks now: a point that the histories of two anchors
+ * reach is counted for both, and handed out with the first. Tables and state stay as they are, and the gap question needn't be put. The
+ * buffer may have any length, and may be null with the length 0.
+ * Refused as the commit would be, in the same order of tests, but never with 20 or 24: 2; 5, 6, 5, 9; 13 to 16; 19; then for each anchor 22;
+ * 13 to 15; 17; 18; 21 no COMMITTER_LOOK_BYTES(rounds) bytes left for it. A refused outlook writes no byte, and `anchors` is 0.
  */
 committer_reply committer_outlook(committer_state state,
     const uint64_t *keys, size_t keys_len, const uint64_t *links, size_t links_len,

@@ -192,7 +192,7 @@ static answer outlook(board *b, committer_point_id id, uint8_t *buffer, size_t l
 {
     committer_reply reply = committer_outlook(b->state, TABLES(b), id, buffer, length);
     answer a = {reply.refused, reply.said};
-    CHECK(reply.said == 0 && reply.refused < COMMITTER_REMOVE_AHEAD && reply.refused != COMMITTER_GAP_QUESTION);
+    CHECK(reply.said == 0 && reply.refused <= COMMITTER_AT_GENESIS && reply.refused != COMMITTER_GAP_QUESTION);
     CHECK(reply.refused == COMMITTER_CONFLICT || reply.conflict == 0);
     CHECK(reply.refused == 0 || reply.anchors == 0);
     CHECK(same_state(&reply.state, &b->state));
@@ -201,17 +201,21 @@ static answer outlook(board *b, committer_point_id id, uint8_t *buffer, size_t l
     return a;
 }
 
-/* With an outlook before it, which says the same unless the commit says 20 or 21. */
-static answer commit(board *b, committer_point_id id, uint8_t *buffer, size_t length)
+/* Place lists and their length. */
+#define LISTS(...) (const uint8_t[]){__VA_ARGS__}, sizeof(const uint8_t[]){__VA_ARGS__}
+#define NO_LISTS NULL, 0
+
+/* With an outlook before it, which says the same unless the commit says 20, 24 or 21. */
+static answer commit(board *b, committer_point_id id, const uint8_t *lists, size_t lists_len, uint8_t *buffer, size_t length)
 {
     static uint8_t large[COMMITTER_OUTLOOK_MAX];
     uint32_t told = outlook(b, id, large, sizeof large).refused;
-    committer_reply reply = committer_commit(b->state, TABLES(b), id, buffer, length);
+    committer_reply reply = committer_commit(b->state, TABLES(b), id, lists, lists_len, buffer, length);
     answer a = {reply.refused, reply.said};
-    CHECK(reply.said == 0 && reply.refused < COMMITTER_REMOVE_AHEAD);
+    CHECK(reply.said == 0 && reply.refused <= COMMITTER_BAD_LISTS && reply.refused != COMMITTER_REMOVE_AHEAD);
     CHECK(reply.refused == COMMITTER_CONFLICT || reply.conflict == 0);
     CHECK(told != COMMITTER_NO_ROOM);
-    if (reply.refused != COMMITTER_GAP_QUESTION && reply.refused != COMMITTER_NO_ROOM) {
+    if (reply.refused != COMMITTER_GAP_QUESTION && reply.refused != COMMITTER_BAD_LISTS && reply.refused != COMMITTER_NO_ROOM) {
         CHECK(told == reply.refused && last_outlook.conflict == reply.conflict);
         CHECK(told != 0 || last_outlook.anchors == reply.anchors);
     }
@@ -315,6 +319,12 @@ static void check_helpers(void)
     CHECK(memcmp(bytes, back, sizeof bytes) == 0);
     committer_state none = committer_no_state();
     CHECK(none.phase == 0 && none.count == 0 && none.memory.entries[127].unreferenced_by == 0);
+    /* H rounds below the anchor, above genesis, the bottom */
+    CHECK(committer_lowest_round(10, 2, 10, 15) == 13 && committer_lowest_round(10, 255, 10, 400) == 145);
+    CHECK(committer_lowest_round(10, 2, 10, 12) == 11 && committer_lowest_round(10, 255, 10, 200) == 11);
+    CHECK(committer_lowest_round(10, 4, 15, 16) == 15 && committer_lowest_round(10, 4, 12, 16) == 12);
+    CHECK(committer_lowest_round(0, 1, 0, 1) == 1 && committer_lowest_round(0, 255, 0, 2) == 1);
+    CHECK(committer_lowest_round(COMMITTER_ROUND_MAX - 1, 1, COMMITTER_ROUND_MAX, COMMITTER_ROUND_MAX) == COMMITTER_ROUND_MAX);
 }
 
 /* ---- the generator: the PCG suite's state 42 and stream 54, and an even increment */
@@ -424,8 +434,8 @@ static void check_not_started(board *b, board *spare)
     REFUSED(b, spare, COMMITTER_WRONG_PHASE, certify(b, point(11, 0)));
     REFUSED(b, spare, COMMITTER_WRONG_PHASE, drop(b, 11));
     uint8_t bytes[4] = {1, 2, 3, 4};
-    REFUSED(b, spare, COMMITTER_WRONG_PHASE, commit(b, point(11, 0), bytes, 4));
-    REFUSED(b, spare, COMMITTER_WRONG_PHASE, commit(b, point(11, 0), NULL, 0));
+    REFUSED(b, spare, COMMITTER_WRONG_PHASE, commit(b, point(11, 0), LISTS(0), bytes, 4));
+    REFUSED(b, spare, COMMITTER_WRONG_PHASE, commit(b, point(11, 0), NO_LISTS, NULL, 0));
     REFUSED(b, spare, COMMITTER_WRONG_PHASE, outlook(b, point(11, 0), bytes, 4));
     REFUSED(b, spare, COMMITTER_WRONG_PHASE, outlook(b, point(11, 0), NULL, 0));
     REFUSED(b, spare, COMMITTER_WRONG_PHASE, remove_upto(b, 11, 1, 0, bytes, 4));
@@ -830,27 +840,35 @@ static committer_start_args used_beginning(uint32_t commit_history_rounds)
     return with;
 }
 
-/* K13 of document 01. */
-static void check_k13(void)
+/* K13 of document 01, its anchor 13.0 not certified; the trigger is 15.0. */
+static board k13(uint32_t after_gap)
 {
-    enum { LENGTH = 83 + 4 * 37, MORE = 50 };
-    board b = started(8, used_beginning(2), 15), spare = new_board(8);
+    committer_start_args with = used_beginning(2);
+    with.after_gap = after_gap;
+    board b = started(8, with, 15);
     committer_point_id low = point(11, 1), left = point(12, 0), right = point(12, 1), anchor = point(13, 0), proof = point(14, 0);
-    committer_point_id points[4] = {low, left, right, anchor};
     put(&b, low, COMMITTER_VALID, 0, low, 0, low, low);
     put_one(&b, left, 0, low, low);
     put_one(&b, right, 0, low, low);
     put(&b, anchor, COMMITTER_VALID, 0, point(10, 0), 2, left, right);
     put_one(&b, proof, COMMITTER_PROOF, proof, anchor);
     put_one(&b, point(15, 0), COMMITTER_TRIGGER, low, proof);
+    return b;
+}
+
+static void check_k13(void)
+{
+    enum { LENGTH = 83 + 4 * 37, MORE = 50 };
+    board b = k13(0), spare = new_board(8);
+    committer_point_id anchor = point(13, 0), points[4] = {point(11, 1), point(12, 0), point(12, 1), anchor};
     uint8_t bytes[LENGTH + MORE], record[LENGTH];
     memset(bytes, 0xa5, sizeof bytes);
-    REFUSED(&b, &spare, COMMITTER_NOT_CERTIFIED, commit(&b, point(15, 0), bytes, sizeof bytes));
+    REFUSED(&b, &spare, COMMITTER_NOT_CERTIFIED, commit(&b, point(15, 0), NO_LISTS, bytes, sizeof bytes));
     DONE(certify(&b, anchor));
-    REFUSED(&b, &spare, COMMITTER_NO_ROOM, commit(&b, point(15, 0), bytes, LENGTH - 1));
-    REFUSED(&b, &spare, COMMITTER_NO_ROOM, commit(&b, point(15, 0), NULL, 0));
+    REFUSED(&b, &spare, COMMITTER_NO_ROOM, commit(&b, point(15, 0), LISTS(0, 1, 0, 0), bytes, LENGTH - 1));
+    REFUSED(&b, &spare, COMMITTER_NO_ROOM, commit(&b, point(15, 0), LISTS(0, 1, 0, 0), NULL, 0));
     CHECK(bytes[0] == 0xa5 && last_commit.anchors == 0);
-    DONE(commit(&b, point(15, 0), bytes, sizeof bytes));
+    DONE(commit(&b, point(15, 0), LISTS(0, 1, 0, 0), bytes, sizeof bytes));
     CHECK(last_commit.anchors == 1);
     put_record(record, anchor, 0, points, 4);
     CHECK(memcmp(bytes, record, LENGTH) == 0);
@@ -862,7 +880,8 @@ static void check_k13(void)
     }
     CHECK(b.state.last_committed_proof == 15 && b.state.last_anchor == 14 && b.state.rounds[14].used_anchor_proof == 1);
     copy_board(&spare, &b);
-    DONE(commit(&b, point(15, 0), NULL, 0));
+    DONE(commit(&b, point(15, 0), NO_LISTS, NULL, 0));
+    DONE(commit(&b, point(15, 0), LISTS(9), NULL, 0));
     CHECK(last_commit.anchors == 0 && same_board(&b, &spare));
     free_board(&b);
     free_board(&spare);
@@ -887,14 +906,15 @@ static board two_anchors(uint32_t status)
     return b;
 }
 
-/* The second anchor is refused: the first one's record and marks stay, and then nothing changes. */
-static void check_refused_after_one(board *b, uint32_t number, uint32_t conflict, size_t length)
+/* The second anchor is refused: the first one's record and marks stay, and then, with the lists after its one byte, nothing changes. */
+static void check_refused_after_one(
+    board *b, uint32_t number, uint32_t conflict, size_t length, const uint8_t *lists, size_t lists_len)
 {
     uint8_t bytes[400], record[120];
     committer_point_id anchor = point(11, 0);
     board spare = new_board(8);
     memset(bytes, 0xa5, sizeof bytes);
-    CHECK(commit(b, point(15, 0), bytes, length).refused == number);
+    CHECK(commit(b, point(15, 0), lists, lists_len, bytes, length).refused == number);
     CHECK(last_commit.anchors == 1 && last_commit.conflict == conflict);
     put_record(record, anchor, 0, &anchor, 1);
     CHECK(memcmp(bytes, record, 120) == 0);
@@ -903,7 +923,7 @@ static void check_refused_after_one(board *b, uint32_t number, uint32_t conflict
     }
     CHECK(b->state.last_committed_proof == 13 && b->state.rounds[12].used_anchor_proof == 1);
     CHECK((cert_at(b, 0) & COMMITTER_CERT_COMMITTED) != 0 && (cert_at(b, 1) & COMMITTER_CERT_COMMITTED) == 0);
-    REFUSED(b, &spare, number, commit(b, point(15, 0), bytes + 120, length - 120));
+    REFUSED(b, &spare, number, commit(b, point(15, 0), lists + 1, lists_len - 1, bytes + 120, length - 120));
     CHECK(last_commit.anchors == 0 && last_commit.conflict == conflict && bytes[120] == 0xa5);
     free_board(b);
     free_board(&spare);
@@ -912,27 +932,27 @@ static void check_refused_after_one(board *b, uint32_t number, uint32_t conflict
 static void check_commit_refusals(void)
 {
     board b = two_anchors(COMMITTER_VALID);
-    check_refused_after_one(&b, COMMITTER_NOT_CERTIFIED, 0, 400);
+    check_refused_after_one(&b, COMMITTER_NOT_CERTIFIED, 0, 400, LISTS(0, 0, 1, 0));
     b = two_anchors(COMMITTER_INVALID);
-    check_refused_after_one(&b, COMMITTER_UNUSABLE, 0, 400);
+    check_refused_after_one(&b, COMMITTER_UNUSABLE, 0, 400, LISTS(0, 0, 1, 0));
     for (uint32_t status = COMMITTER_INVALID; status <= COMMITTER_NOT_FOUND; status++) {
         b = two_anchors(status);
         DONE(certify(&b, point(13, 0)));
-        check_refused_after_one(&b, COMMITTER_CONFLICT, 12, 400);
+        check_refused_after_one(&b, COMMITTER_CONFLICT, 12, 400, LISTS(0, 0, 1, 0));
     }
     b = two_anchors(0);
     DONE(certify(&b, point(13, 0)));
-    check_refused_after_one(&b, COMMITTER_POINT_MISSING, 0, 400);
+    check_refused_after_one(&b, COMMITTER_POINT_MISSING, 0, 400, LISTS(0, 0, 1, 0));
     for (size_t length = 120; length < 120 + COMMITTER_RECORD_BYTES(3); length++) {
         b = two_anchors(COMMITTER_VALID);
         DONE(certify(&b, point(13, 0)));
-        check_refused_after_one(&b, COMMITTER_NO_ROOM, 0, length);
+        check_refused_after_one(&b, COMMITTER_NO_ROOM, 0, length, LISTS(0, 0, 1, 0));
     }
     b = two_anchors(COMMITTER_VALID);
     DONE(certify(&b, point(13, 0)));
     uint8_t bytes[120 + 83 + 3 * 37], record[83 + 3 * 37];
     committer_point_id points[3] = {point(12, 0), point(12, 1), point(13, 0)};
-    DONE(commit(&b, point(15, 0), bytes, sizeof bytes));
+    DONE(commit(&b, point(15, 0), LISTS(0, 0, 1, 0), bytes, sizeof bytes));
     put_record(record, point(13, 0), 11, points, 3);
     CHECK(last_commit.anchors == 2 && memcmp(bytes + 120, record, sizeof record) == 0);
     free_board(&b);
@@ -940,12 +960,24 @@ static void check_commit_refusals(void)
 
 /* ---- outlooks */
 
-/* What an outlook writes for an anchor. */
-static size_t put_look(uint8_t *bytes, committer_point_id anchor, uint8_t points)
+static size_t put_number(uint8_t *bytes, uint8_t number)
 {
-    const uint8_t number[4] = {0, 0, 0, points};
-    memcpy(bytes + put_id(bytes, anchor), number, sizeof number);
-    return COMMITTER_OUTLOOK_BYTES;
+    const uint8_t whole[4] = {0, 0, 0, number};
+    memcpy(bytes, whole, sizeof whole);
+    return sizeof whole;
+}
+
+/* What an outlook writes for an anchor with a history of so many rounds. */
+static size_t put_look(uint8_t *bytes, committer_point_id anchor, uint8_t points, size_t rounds, const uint8_t *linked)
+{
+    uint8_t *end = bytes;
+    end += put_id(end, anchor);
+    end += put_number(end, points);
+    for (size_t i = 0; i < rounds; i++) {
+        end += put_number(end, linked[i]);
+    }
+    CHECK((size_t)(end - bytes) == COMMITTER_LOOK_BYTES(rounds));
+    return COMMITTER_LOOK_BYTES(rounds);
 }
 
 /* The outlook of 15.0 with every length up to one byte more than `length`, which is needed: 21 and no byte, or `expected` and none beyond. */
@@ -973,18 +1005,18 @@ static void check_lengths_of_outlook(board *b, const uint8_t *expected, size_t l
 /* The second anchor counts the first one's points too, until they are committed; a refusal by the second leaves the buffer alone. */
 static void check_outlooks(void)
 {
-    CHECK(COMMITTER_OUTLOOK_MAX == 511 * 41);
-    uint8_t expected[2 * COMMITTER_OUTLOOK_BYTES], record[120], bytes[100];
+    CHECK(COMMITTER_OUTLOOK_MAX == 511 * (41 + 4 * 256) && COMMITTER_OUTLOOK_MAX == 511 * 1065);
+    uint8_t expected[COMMITTER_LOOK_BYTES(1) + COMMITTER_LOOK_BYTES(2)], record[120], bytes[100];
     board b = two_anchors(COMMITTER_VALID), spare = new_board(8);
     memset(bytes, 0xa5, sizeof bytes);
     REFUSED(&b, &spare, COMMITTER_NOT_CERTIFIED, outlook(&b, point(15, 0), bytes, sizeof bytes));
     CHECK(bytes[0] == 0xa5 && last_outlook.anchors == 0);
     DONE(certify(&b, point(13, 0)));
-    put_look(expected, point(11, 0), 1);
-    put_look(expected + COMMITTER_OUTLOOK_BYTES, point(13, 0), 3);
-    check_lengths_of_outlook(&b, expected, sizeof expected, 2);
-    CHECK(commit(&b, point(15, 0), record, sizeof record).refused == COMMITTER_NO_ROOM && last_commit.anchors == 1);
-    check_lengths_of_outlook(&b, expected + COMMITTER_OUTLOOK_BYTES, COMMITTER_OUTLOOK_BYTES, 1);
+    size_t first = put_look(expected, point(11, 0), 1, 1, (const uint8_t[]){1});
+    size_t second = put_look(expected + first, point(13, 0), 3, 2, (const uint8_t[]){1, 2});
+    check_lengths_of_outlook(&b, expected, first + second, 2);
+    CHECK(commit(&b, point(15, 0), LISTS(0, 0, 1, 0), record, sizeof record).refused == COMMITTER_NO_ROOM && last_commit.anchors == 1);
+    check_lengths_of_outlook(&b, expected + first, second, 1);
     free_board(&b);
     b = two_anchors(COMMITTER_INVALID);
     DONE(certify(&b, point(13, 0)));
@@ -992,6 +1024,144 @@ static void check_outlooks(void)
     CHECK(last_outlook.conflict == 12 && bytes[0] == 0xa5);
     free_board(&b);
     free_board(&spare);
+}
+
+/* ---- place lists */
+
+/* The anchor is refused with the number, for a buffer of any length: nothing changes, and no byte is written. */
+static void check_lists_refused(board *b, uint32_t number, const uint8_t *lists, size_t lists_len)
+{
+    static const size_t lengths[4] = {0, 82, 231, 300};
+    board spare = new_board(b->places);
+    for (int i = 0; i < 4; i++) {
+        uint8_t bytes[300];
+        memset(bytes, 0xa5, sizeof bytes);
+        REFUSED(b, &spare, number, commit(b, point(15, 0), lists, lists_len, bytes, lengths[i]));
+        CHECK(last_commit.anchors == 0);
+        for (size_t k = 0; k < sizeof bytes; k++) {
+            CHECK(bytes[k] == 0xa5);
+        }
+    }
+    free_board(&spare);
+}
+
+/* The commit of 15.0 hands out one anchor with these points. The board stays as it is. */
+static void check_handed(const board *b, const uint8_t *lists, size_t lists_len, const committer_point_id *points, uint8_t count)
+{
+    uint8_t bytes[300], record[300];
+    board copy = new_board(b->places);
+    copy_board(&copy, b);
+    size_t length = put_record(record, points[count - 1], 0, points, count);
+    DONE(commit(&copy, point(15, 0), lists, lists_len, bytes, length));
+    CHECK(last_commit.anchors == 1 && memcmp(bytes, record, length) == 0);
+    free_board(&copy);
+}
+
+/* K13: both orders of round 12, bytes beyond the lists, wrong lists, the outlook's counts. */
+static void check_k13_lists(void)
+{
+    committer_point_id low = point(11, 1), left = point(12, 0), right = point(12, 1), anchor = point(13, 0);
+    const committer_point_id rising[4] = {low, left, right, anchor}, falling[4] = {low, right, left, anchor};
+    for (uint32_t after_gap = 0; after_gap < 2; after_gap++) {
+        board b = k13(after_gap);
+        check_lists_refused(&b, COMMITTER_NOT_CERTIFIED, NO_LISTS);
+        DONE(certify(&b, anchor));
+        if (after_gap) {
+            check_lists_refused(&b, COMMITTER_GAP_QUESTION, NO_LISTS);
+            CHECK(ask(&b).said == 1);
+        }
+        check_handed(&b, LISTS(0, 0, 1, 0), falling, 4);
+        check_handed(&b, LISTS(0, 1, 0, 0), rising, 4);
+        check_handed(&b, LISTS(0, 1, 0, 0, 255, 255), rising, 4);
+        check_lists_refused(&b, COMMITTER_BAD_LISTS, LISTS(0, 0, 0, 0));
+        check_lists_refused(&b, COMMITTER_BAD_LISTS, LISTS(0, 2, 0, 0));
+        check_lists_refused(&b, COMMITTER_BAD_LISTS, LISTS(1, 1, 0, 0));
+        check_lists_refused(&b, COMMITTER_BAD_LISTS, LISTS(0, 0, 1));
+        check_lists_refused(&b, COMMITTER_BAD_LISTS, NO_LISTS);
+        uint8_t expected[COMMITTER_LOOK_BYTES(3)];
+        size_t length = put_look(expected, anchor, 4, 3, (const uint8_t[]){1, 2, 1});
+        CHECK(length == 53);
+        check_lengths_of_outlook(&b, expected, length, 1);
+        free_board(&b);
+    }
+}
+
+/* Three points of a round under the anchor 13.0: a byte says which of them stands at its position. */
+static void check_three_in_a_round(void)
+{
+    board b = started(8, used_beginning(2), 15);
+    committer_point_id p[3] = {point(12, 0), point(12, 1), point(12, 2)}, anchor = point(13, 0);
+    uint64_t refs[3 * COMMITTER_REF_WORDS];
+    for (size_t i = 0; i < 3; i++) {
+        put(&b, p[i], COMMITTER_VALID, 0, p[i], 0, p[i], p[i]);
+        put_link(refs, i, p[i]);
+    }
+    committer_resolution resolution = valid(3, 0);
+    resolution.top_proof = point(10, 0);
+    DONE(name(&b, anchor));
+    DONE(resolve(&b, anchor, resolution, refs, 3 * COMMITTER_REF_WORDS));
+    put_one(&b, point(14, 0), COMMITTER_PROOF, point(14, 0), anchor);
+    put_one(&b, point(15, 0), COMMITTER_TRIGGER, anchor, point(14, 0));
+    DONE(certify(&b, anchor));
+    check_handed(&b, LISTS(0, 1, 2, 0), (const committer_point_id[]){p[0], p[2], p[1], anchor}, 4);
+    check_handed(&b, LISTS(0, 2, 0, 1), (const committer_point_id[]){p[1], p[0], p[2], anchor}, 4);
+    check_handed(&b, LISTS(0, 0, 1, 2), (const committer_point_id[]){p[2], p[1], p[0], anchor}, 4);
+    check_lists_refused(&b, COMMITTER_BAD_LISTS, LISTS(0, 1, 2, 1));
+    check_lists_refused(&b, COMMITTER_BAD_LISTS, LISTS(0, 1, 2, 3));
+    uint8_t expected[COMMITTER_LOOK_BYTES(3)];
+    check_lengths_of_outlook(&b, expected, put_look(expected, anchor, 4, 3, (const uint8_t[]){1, 3, 0}), 1);
+    free_board(&b);
+}
+
+/* Lists for the first anchor alone: 24 with 1 finished, then those of the second, as a host commits. */
+static void check_anchor_by_anchor(void)
+{
+    board b = two_anchors(COMMITTER_VALID), whole = new_board(8);
+    DONE(certify(&b, point(13, 0)));
+    copy_board(&whole, &b);
+    check_refused_after_one(&b, COMMITTER_BAD_LISTS, 0, 400, LISTS(0));
+    static const uint8_t wrong[4][4] = {{0, 0, 1, 1}, {0, 0, 2, 0}, {0, 1, 1, 0}, {0, 0, 0, 0}};
+    for (int i = 0; i < 4; i++) {
+        b = new_board(8);
+        copy_board(&b, &whole);
+        check_refused_after_one(&b, COMMITTER_BAD_LISTS, 0, 400, wrong[i], 4);
+    }
+    uint8_t bytes[120 + 83 + 3 * 37], parts[sizeof bytes];
+    b = new_board(8);
+    copy_board(&b, &whole);
+    CHECK(commit(&b, point(15, 0), LISTS(0), parts, sizeof parts).refused == COMMITTER_BAD_LISTS && last_commit.anchors == 1);
+    DONE(commit(&b, point(15, 0), LISTS(0, 0, 1), parts + 120, sizeof parts - 120));
+    CHECK(last_commit.anchors == 1);
+    DONE(commit(&whole, point(15, 0), LISTS(0, 0, 0, 1), bytes, sizeof bytes));
+    CHECK(last_commit.anchors == 2 && memcmp(bytes, parts, sizeof bytes) == 0 && same_board(&b, &whole));
+    free_board(&b);
+    free_board(&whole);
+}
+
+/* Anchors 11 and 13 with H 2, one point a round: the second one's lists have a byte for 11, which is committed then and isn't handed out. */
+static void check_committed_ones(void)
+{
+    board b = started(8, used_beginning(2), 15);
+    committer_point_id first = point(11, 0), second = point(13, 0), points[2] = {point(12, 0), second};
+    put(&b, first, COMMITTER_VALID, 0, point(10, 0), 0, first, first);
+    put_one(&b, points[0], COMMITTER_PROOF, points[0], first);
+    put_one(&b, second, 0, points[0], points[0]);
+    put_one(&b, point(14, 0), COMMITTER_PROOF, point(14, 0), second);
+    put_one(&b, point(15, 0), COMMITTER_TRIGGER, second, point(14, 0));
+    DONE(certify(&b, first));
+    DONE(certify(&b, second));
+    uint8_t expected[COMMITTER_LOOK_BYTES(1) + COMMITTER_LOOK_BYTES(3)], bytes[120 + 83 + 2 * 37], record[83 + 2 * 37];
+    const uint8_t linked[3] = {1, 1, 1};
+    size_t length = put_look(expected, first, 1, 1, linked);
+    length += put_look(expected + length, second, 3, 3, linked);
+    check_lengths_of_outlook(&b, expected, length, 2);
+    CHECK(commit(&b, point(15, 0), LISTS(0, 0, 0), bytes, sizeof bytes).refused == COMMITTER_BAD_LISTS && last_commit.anchors == 1);
+    check_lengths_of_outlook(&b, expected, put_look(expected, second, 2, 3, linked), 1);
+    check_lists_refused(&b, COMMITTER_BAD_LISTS, LISTS(0, 0));
+    DONE(commit(&b, point(15, 0), LISTS(0, 0, 0), bytes + 120, sizeof bytes - 120));
+    put_record(record, second, 11, points, 2);
+    CHECK(last_commit.anchors == 1 && memcmp(bytes + 120, record, sizeof record) == 0);
+    free_board(&b);
 }
 
 /* ---- removes */
@@ -1053,13 +1223,6 @@ static size_t put_event(uint8_t *bytes, uint8_t kind, uint8_t peer)
     return 2;
 }
 
-static size_t put_number(uint8_t *bytes, uint8_t number)
-{
-    const uint8_t whole[4] = {0, 0, 0, number};
-    memcpy(bytes, whole, sizeof whole);
-    return sizeof whole;
-}
-
 /* What the remove of round 5, counted from 0 on, writes: both peers, one event of kind 4 and one of kind 5. */
 static size_t put_answer(uint8_t *bytes)
 {
@@ -1101,7 +1264,7 @@ static void check_removes(void)
     REFUSED(&b, &spare, COMMITTER_REMOVE_AHEAD, remove_upto(&b, 5, 1, 0, bytes, sizeof bytes));
     REFUSED(&b, &spare, COMMITTER_REMOVE_AHEAD, remove_upto(&b, 0, 0, 0, NULL, 0));
     uint8_t record[120];
-    DONE(commit(&b, point(7, 0), record, sizeof record));
+    DONE(commit(&b, point(7, 0), LISTS(0), record, sizeof record));
     REFUSED(&b, &spare, COMMITTER_REMOVE_AHEAD, remove_upto(&b, 6, 1, 0, bytes, sizeof bytes));
     REFUSED(&b, &spare, COMMITTER_REMOVE_AHEAD, remove_upto(&b, UINT32_MAX, 1, 0, NULL, 0));
     REFUSED(&b, &spare, COMMITTER_NO_ROOM, remove_upto(&b, 5, 1, 0, NULL, 0));
@@ -1157,21 +1320,21 @@ static void check_walk_refusals(void)
     put(&b, low, COMMITTER_VALID, 0, point(9, 0), 0, low, low);
     put_one(&b, mid, COMMITTER_PROOF, mid, low);
     put_one(&b, high, COMMITTER_TRIGGER, low, mid);
-    REFUSED(&b, &spare, COMMITTER_AT_GENESIS, commit(&b, high, NULL, 0));
+    REFUSED(&b, &spare, COMMITTER_AT_GENESIS, commit(&b, high, NO_LISTS, NULL, 0));
     put(&b, point(12, 1), COMMITTER_VALID, COMMITTER_TRIGGER, low, 0, low, low);
-    REFUSED(&b, &spare, COMMITTER_BROKEN_CHAIN, commit(&b, point(12, 1), NULL, 0));
+    REFUSED(&b, &spare, COMMITTER_BROKEN_CHAIN, commit(&b, point(12, 1), NO_LISTS, NULL, 0));
     put(&b, point(12, 2), COMMITTER_INVALID, COMMITTER_TRIGGER, low, 0, low, low);
-    REFUSED(&b, &spare, COMMITTER_UNUSABLE, commit(&b, point(12, 2), NULL, 0));
+    REFUSED(&b, &spare, COMMITTER_UNUSABLE, commit(&b, point(12, 2), NO_LISTS, NULL, 0));
     DONE(certify(&b, point(12, 2)));
-    REFUSED(&b, &spare, COMMITTER_CONFLICT, commit(&b, point(12, 2), NULL, 0));
+    REFUSED(&b, &spare, COMMITTER_CONFLICT, commit(&b, point(12, 2), NO_LISTS, NULL, 0));
     CHECK(last_commit.conflict == 12);
     DONE(name(&b, point(12, 3)));
-    REFUSED(&b, &spare, COMMITTER_NOT_NAMED, commit(&b, point(12, 3), NULL, 0));
-    REFUSED(&b, &spare, COMMITTER_NOT_NAMED, commit(&b, point(12, 4), NULL, 0));
-    REFUSED(&b, &spare, COMMITTER_NOT_RETAINED, commit(&b, point(13, 0), NULL, 0));
-    REFUSED(&b, &spare, COMMITTER_NOT_A_PEER, commit(&b, point(13, 32), NULL, 0));
+    REFUSED(&b, &spare, COMMITTER_NOT_NAMED, commit(&b, point(12, 3), NO_LISTS, NULL, 0));
+    REFUSED(&b, &spare, COMMITTER_NOT_NAMED, commit(&b, point(12, 4), NO_LISTS, NULL, 0));
+    REFUSED(&b, &spare, COMMITTER_NOT_RETAINED, commit(&b, point(13, 0), NO_LISTS, NULL, 0));
+    REFUSED(&b, &spare, COMMITTER_NOT_A_PEER, commit(&b, point(13, 32), NO_LISTS, NULL, 0));
     copy_board(&spare, &b);
-    DONE(commit(&b, point(9, 0), NULL, 0));
+    DONE(commit(&b, point(9, 0), NO_LISTS, NULL, 0));
     CHECK(last_commit.anchors == 0 && same_board(&b, &spare));
     free_board(&b);
 
@@ -1182,15 +1345,16 @@ static void check_walk_refusals(void)
     put_one(&b, point(12, 0), COMMITTER_PROOF, point(12, 0), point(11, 0));
     put_one(&b, point(13, 0), COMMITTER_TRIGGER, low, point(12, 0));
     DONE(certify(&b, point(11, 0)));
-    REFUSED(&b, &spare, COMMITTER_GAP_QUESTION, commit(&b, point(13, 0), NULL, 0));
-    uint8_t told[COMMITTER_OUTLOOK_BYTES];
+    REFUSED(&b, &spare, COMMITTER_GAP_QUESTION, commit(&b, point(13, 0), NO_LISTS, NULL, 0));
+    uint8_t told[COMMITTER_LOOK_BYTES(1)];
     REFUSED(&b, &spare, COMMITTER_NO_ROOM, outlook(&b, point(13, 0), told, sizeof told - 1));
     DONE(outlook(&b, point(13, 0), told, sizeof told));
-    CHECK(last_outlook.anchors == 1 && told[40] == 1);
+    CHECK(last_outlook.anchors == 1 && told[40] == 1 && told[44] == 1);
     CHECK(ask(&b).said == 1);
-    REFUSED(&b, &spare, COMMITTER_NO_ROOM, commit(&b, point(13, 0), NULL, 0));
+    REFUSED(&b, &spare, COMMITTER_BAD_LISTS, commit(&b, point(13, 0), NO_LISTS, NULL, 0));
+    REFUSED(&b, &spare, COMMITTER_NO_ROOM, commit(&b, point(13, 0), LISTS(0), NULL, 0));
     uint8_t bytes[120];
-    DONE(commit(&b, point(13, 0), bytes, sizeof bytes));
+    DONE(commit(&b, point(13, 0), LISTS(0), bytes, sizeof bytes));
     CHECK(last_commit.anchors == 1 && b.state.emit_first_after_gap == 0);
     free_board(&b);
     free_board(&spare);
@@ -1288,6 +1452,10 @@ int main(void)
     check_k13();
     check_commit_refusals();
     check_outlooks();
+    check_k13_lists();
+    check_three_in_a_round();
+    check_anchor_by_anchor();
+    check_committed_ones();
     check_removes();
     check_merge();
     check_walk_refusals();

@@ -1,8 +1,10 @@
 /*
  * A board's use of the committer from C: case K13 of document 01. Genesis 10, H 2, a start at 10; the trigger 15.0 yields the anchor 13.0
- * with four points. What its outlook tells and its anchor record are written as the lines that `replay` writes.
+ * with four points. Anchors are committed one by one, each with place lists by the counts of an outlook. What the outlook tells and the
+ * anchor record are written as the lines that `replay` writes.
  */
 #include <inttypes.h>
+#include <stdbool.h>
 #include <stdio.h>
 #include <stdlib.h>
 
@@ -66,15 +68,41 @@ static void print_id(const uint8_t *bytes, char mark)
     }
 }
 
-static void print_outlook(const uint8_t *bytes)
+/* The number of rounds of an anchor's history. */
+static uint32_t rounds_of(uint32_t anchor)
 {
-    printf("outlook ");
-    print_id(bytes, ' ');
-    printf(" %" PRIu32 "\n", number(bytes + COMMITTER_ID_BYTES));
+    return anchor + 1 - committer_lowest_round(state.genesis, state.commit_history_rounds, state.bottom, anchor);
 }
 
-/* Prints an anchor record and returns its length. */
-static size_t print_record(const uint8_t *bytes)
+/* Prints what an outlook tells of an anchor. */
+static void print_look(const uint8_t *bytes)
+{
+    uint32_t rounds = rounds_of(number(bytes));
+    printf("outlook ");
+    print_id(bytes, ' ');
+    printf(" %" PRIu32 " linked", number(bytes + COMMITTER_ID_BYTES));
+    for (uint32_t n = 0; n < rounds; n++) {
+        printf(" %" PRIu32, number(bytes + COMMITTER_LOOK_BYTES(n)));
+    }
+    putchar('\n');
+}
+
+/* Writes an anchor's place lists, as long as the outlook says, and returns their length. A real host shuffles each of them. */
+static size_t make_lists(const uint8_t *look, uint8_t *lists)
+{
+    uint32_t rounds = rounds_of(number(look));
+    size_t length = 0;
+    for (uint32_t n = 0; n < rounds; n++) {
+        uint32_t linked = number(look + COMMITTER_LOOK_BYTES(n));
+        for (uint32_t place = 0; place < linked; place++) {
+            lists[length++] = (uint8_t)place;
+        }
+    }
+    return length;
+}
+
+/* Prints an anchor record. */
+static void print_record(const uint8_t *bytes)
 {
     uint32_t points = number(bytes + 79);
     printf("anchor ");
@@ -87,12 +115,31 @@ static size_t print_record(const uint8_t *bytes)
         print_id(bytes + COMMITTER_RECORD_BYTES(i), '.');
     }
     putchar('\n');
-    return COMMITTER_RECORD_BYTES(points);
+}
+
+/* Hands out the oldest anchor that a trigger yields, and says whether there was one. */
+static bool hand_out(committer_point_id trigger)
+{
+    static uint8_t lists[COMMITTER_PLACES_MAX], buffer[COMMITTER_OUTLOOK_MAX]; /* the buffer has room for any commit too */
+    committer_reply reply = committer_outlook(state, TABLES, trigger, buffer, sizeof buffer);
+    uint32_t told = keep("outlook", &reply);
+    if (told == 0) {
+        return false;
+    }
+    print_look(buffer);
+    reply = committer_commit(state, TABLES, trigger, lists, make_lists(buffer, lists), buffer, sizeof buffer);
+    /* no byte is left for the lists of the next anchor, if there is one */
+    if (told > 1 && reply.refused == COMMITTER_BAD_LISTS && reply.anchors == 1) {
+        state = reply.state;
+    } else {
+        keep("commit", &reply);
+    }
+    print_record(buffer);
+    return true;
 }
 
 int main(void)
 {
-    static uint8_t buffer[COMMITTER_COMMIT_MAX]; /* room for an outlook too */
     const committer_start_args with = {10, 2, 5, 10, PEERS, 0, 0};
     const committer_point_id used = id(10, 0, 0), anchor = id(13, 0, 130), trigger = id(15, 0, 150);
 
@@ -111,16 +158,7 @@ int main(void)
     reply = committer_certify(state, TABLES, anchor);
     keep("certify", &reply);
 
-    reply = committer_outlook(state, TABLES, trigger, buffer, sizeof buffer);
-    uint32_t told = keep("outlook", &reply);
-    for (uint32_t n = 0; n < told; n++) {
-        print_outlook(buffer + n * COMMITTER_OUTLOOK_BYTES);
-    }
-    reply = committer_commit(state, TABLES, trigger, buffer, sizeof buffer);
-    uint32_t handed = keep("commit", &reply);
-    const uint8_t *record = buffer;
-    for (uint32_t n = 0; n < handed; n++) {
-        record += print_record(record);
+    while (hand_out(trigger)) {
     }
     return 0;
 }

@@ -1,18 +1,29 @@
-//! A board's use of the committer: a start, rounds with their points, a certificate, a drop.
+//! A board's use of the committer: a start, rounds with their points, certificates, the anchors of a trigger, a drop.
 //!
 //! Four peers send one point a round. Each point includes all points of the round below and has a witness two rounds
-//! down.
+//! down. Peer 0's are anchors in 12 and 14 with their proofs in 13 and 15, and the trigger in 16.
 
-use committer::{Committer, Link, Point, PointId, PointInfo, Refused, Start, Status};
+use committer::{
+    Anchor, COMMIT_BYTES_MAX, Committer, Link, Look, OUTLOOK_BYTES_MAX, Point, PointId, PointInfo, Refusal, Refused,
+    Start, Status, anchors, looks,
+};
 
 const GENESIS: u32 = 10;
+const ANCHORS: [u32; 2] = [12, 14];
 const TOP: u32 = 16;
 const PEERS: u32 = 4;
 
 fn main() -> Result<(), Refused> {
     let mut board = Committer::new(64);
     let peers = (1 << PEERS) - 1;
-    board.start(&Start { genesis: GENESIS, commit_history_rounds: 3, bottom: GENESIS, peers, ..Start::default() })?;
+    board.start(&Start {
+        genesis: GENESIS,
+        commit_history_rounds: 3,
+        bottom: GENESIS,
+        peers,
+        used: Some(0),
+        ..Start::default()
+    })?;
     for round in GENESIS + 1..=TOP {
         board.round(round, peers)?;
     }
@@ -24,16 +35,45 @@ fn main() -> Result<(), Refused> {
         }
     }
 
-    println!("after the certificate of one point of round {TOP}:");
-    board.certify(&point_id(TOP, 2))?;
+    println!("after the certificates of the anchors:");
+    for round in ANCHORS {
+        board.certify(&point_id(round, 0))?;
+    }
     print(&board);
 
-    println!("the same point named again: {}", board.name(&point_id(TOP, 2)).expect_err("its digest is named"));
+    println!("the anchors of the trigger in {TOP}:");
+    while let Some(look) = first_look(&board, &point_id(TOP, 0))? {
+        println!("  {} points, {:?} linked in its rounds", look.points, look.linked);
+        let anchor = hand_out(&mut board, &point_id(TOP, 0), &look)?;
+        let points: Vec<String> = anchor.points.iter().map(|id| format!("{}.{}", id.round, id.author)).collect();
+        println!("  {}.{}: {}", anchor.anchor.round, anchor.anchor.author, points.join(" "));
+    }
+
+    println!("the trigger named again: {}", board.name(&point_id(TOP, 0)).expect_err("its digest is named"));
 
     println!("after a drop of the rounds below {}:", TOP - 2);
     board.drop_upto(TOP - 2)?;
     print(&board);
     Ok(())
+}
+
+/// What an outlook tells of the oldest anchor that a trigger yields, if there is one.
+fn first_look(board: &Committer, trigger: &PointId) -> Result<Option<Look>, Refused> {
+    let mut buffer = vec![0; OUTLOOK_BYTES_MAX];
+    let told = board.outlook(trigger, &mut buffer)?;
+    let (_, state) = board.parts();
+    Ok(looks(&buffer, told.min(1), state).pop())
+}
+
+/// The oldest anchor, handed out with lists for it alone: if there are more of them, that is 24 after it. A real host
+/// shuffles each list.
+fn hand_out(board: &mut Committer, trigger: &PointId, look: &Look) -> Result<Anchor, Refused> {
+    let mut buffer = vec![0; COMMIT_BYTES_MAX];
+    match board.commit(trigger, &look.lists_in_order(), &mut buffer) {
+        Ok(_) | Err(Refused { refusal: Refusal::BadLists, finished: 1 }) => {}
+        Err(why) => return Err(why),
+    }
+    Ok(anchors(&buffer, 1).remove(0))
 }
 
 /// A stand-in for the digest that a real point has.
@@ -52,8 +92,18 @@ fn info(id: &PointId) -> PointInfo {
         }
         _ => Vec::new(),
     };
+    let proof = id.author == 0 && ANCHORS.contains(&(id.round - 1));
+    // an anchor's is the proof of the one before; the first one's is the bottom's used mark
+    let top_proof = match id.round {
+        _ if proof => *id,
+        round if round == ANCHORS[0] => point_id(GENESIS, 0),
+        round => point_id(round - 1, 0),
+    };
     PointInfo {
         status: Status::Valid.number(),
+        proof,
+        trigger: *id == point_id(TOP, 0),
+        top_proof,
         includes: links(1, 0..PEERS),
         witness: links(2, 0..1),
         ..PointInfo::default()

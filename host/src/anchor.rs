@@ -2,14 +2,17 @@
 
 use std::fmt;
 
+use crate::sys::State;
 use crate::types::PointId;
 
 /// Of a point id's bytes.
 pub(crate) const ID_BYTES: usize = 37;
 /// Of a record's bytes before the ids of its points.
 pub const RECORD_BYTES: usize = 2 * ID_BYTES + 9;
-/// What an outlook writes for each anchor.
-pub const OUTLOOK_BYTES: usize = ID_BYTES + 4;
+/// Of what an outlook writes for an anchor, before the counts of its rounds.
+pub const LOOK_BYTES: usize = ID_BYTES + 4;
+/// Of the count of a round.
+pub(crate) const COUNT_BYTES: usize = 4;
 
 /// What a commit hands out for an anchor.
 #[derive(Clone, Debug, PartialEq, Eq, Hash)]
@@ -19,7 +22,7 @@ pub struct Anchor {
     pub executable: bool,
     /// round of the previous anchor; 0 for none
     pub previous: u32,
-    /// the history: by rising round, then by rising digest
+    /// the history: by rising round; inside a round in the reverse of the order that its place list says
     pub points: Vec<PointId>,
 }
 
@@ -55,28 +58,55 @@ fn anchor(rest: &mut &[u8]) -> Option<Anchor> {
 }
 
 /// What an outlook tells of an anchor.
-#[derive(Clone, Copy, Debug, PartialEq, Eq, Hash)]
+#[derive(Clone, Debug, PartialEq, Eq, Hash)]
 pub struct Look {
     pub anchor: PointId,
     /// of its history, by the committed marks at the outlook
     pub points: u32,
+    /// how many points are linked in each round of its history, the anchor and committed ones too, the anchor's round
+    /// first: the lengths of its place lists, by the committed marks at the outlook
+    pub linked: Vec<u32>,
 }
 
 /// The line that `replay` writes for it (docs/FORMATS.md).
 impl fmt::Display for Look {
     fn fmt(&self, f: &mut fmt::Formatter<'_>) -> fmt::Result {
-        write!(f, "outlook {} {}", self.anchor.text(" "), self.points)
+        write!(f, "outlook {} {} linked", self.anchor.text(" "), self.points)?;
+        self.linked.iter().try_for_each(|count| write!(f, " {count}"))
     }
 }
 
-/// What an outlook wrote for so many anchors, from the first byte on. Fewer if the bytes end before.
-pub fn looks(bytes: &[u8], count: u32) -> Vec<Look> {
-    let mut rest = bytes;
-    (0..count).map_while(|_| look(&mut rest)).collect()
+impl Look {
+    /// The length of what the outlook writes for it.
+    pub fn bytes(&self) -> usize {
+        LOOK_BYTES + COUNT_BYTES * self.linked.len()
+    }
+
+    /// The place lists of a shuffle that leaves every round's points by rising digest; they come out by falling digest.
+    pub fn lists_in_order(&self) -> Vec<u8> {
+        self.linked.iter().flat_map(|count| (0..*count).map(|place| place as u8)).collect()
+    }
 }
 
-fn look(rest: &mut &[u8]) -> Option<Look> {
-    Some(Look { anchor: id(rest)?, points: number(rest)? })
+impl State {
+    /// The lowest round of an anchor's history: H rounds below the anchor, but above genesis and not below the bottom.
+    pub fn lowest_round(&self, anchor: u32) -> u32 {
+        let limit = anchor.saturating_sub(self.commit_history_rounds).max(self.genesis.saturating_add(1));
+        limit.max(self.bottom)
+    }
+}
+
+/// What an outlook in this state wrote for so many anchors, from the first byte on. Fewer if the bytes end before.
+pub fn looks(bytes: &[u8], count: u32, state: &State) -> Vec<Look> {
+    let mut rest = bytes;
+    (0..count).map_while(|_| look(&mut rest, state)).collect()
+}
+
+fn look(rest: &mut &[u8], state: &State) -> Option<Look> {
+    let (anchor, points) = (id(rest)?, number(rest)?);
+    let rounds = state.lowest_round(anchor.round)..=anchor.round;
+    let linked = rounds.map(|_| number(rest)).collect::<Option<_>>()?;
+    Some(Look { anchor, points, linked })
 }
 
 pub(crate) fn id(rest: &mut &[u8]) -> Option<PointId> {

@@ -14,7 +14,7 @@ mod state;
 pub mod sys;
 mod types;
 
-pub use anchor::{Anchor, Look, OUTLOOK_BYTES, RECORD_BYTES, anchors, looks};
+pub use anchor::{Anchor, LOOK_BYTES, Look, RECORD_BYTES, anchors, looks};
 pub use game::{Game, Reach};
 pub use pcg::Pcg;
 pub use record::Call;
@@ -35,11 +35,13 @@ pub const PEERS_MAX: u32 = 32;
 pub const VERSIONS_MAX: usize = 4;
 /// Includes of a point, and witness.
 pub const LINKS_MAX: usize = 32;
+/// History rounds (H).
+pub const HISTORY_MAX: usize = 255;
 pub const ROUND_MAX: u32 = 4_000_000_000;
 /// A buffer of so many bytes has room for the records of any commit.
 pub const COMMIT_BYTES_MAX: usize = (ROUNDS_MAX - 1) * RECORD_BYTES + PLACES_MAX * anchor::ID_BYTES;
 /// A buffer of so many bytes has room for any outlook.
-pub const OUTLOOK_BYTES_MAX: usize = (ROUNDS_MAX - 1) * OUTLOOK_BYTES;
+pub const OUTLOOK_BYTES_MAX: usize = (ROUNDS_MAX - 1) * (LOOK_BYTES + (HISTORY_MAX + 1) * anchor::COUNT_BYTES);
 
 /// A buffer of so many bytes has room for the answer of any remove; `include/committer.h` derives it.
 pub const REMOVE_BYTES_MAX: usize = 5_785_509;
@@ -219,17 +221,22 @@ impl Committer {
     }
 
     /// Commits what a trigger yields: the records of the anchors, oldest first, stand at the beginning of the buffer
-    /// ([`anchors`] reads them), and their number is returned. Refused with 2, 5, 6, 5, 9, 13 to 16, 19, then for each
-    /// anchor 22, 13 to 15, 17, 18, 20, 21. The records of the finished anchors ([`Refused::finished`]) then stand in
-    /// the buffer, and what these anchors changed stays.
-    pub fn commit(&mut self, trigger: &PointId, buffer: &mut [u8]) -> Result<u32, Refused> {
-        run!(self, committer_commit, trigger.into(), buffer.as_mut_ptr(), buffer.len()).map(|kept| kept.anchors)
+    /// ([`anchors`] reads them), and their number is returned. `lists` are the place lists of these anchors
+    /// (`include/committer.h` tells what they are); bytes beyond them aren't read. Refused with 2, 5, 6, 5, 9, 13 to 16,
+    /// 19, then for each anchor 22, 13 to 15, 17, 18, 20, 24, 21. The records of the finished anchors
+    /// ([`Refused::finished`]) then stand in the buffer, and what these anchors changed stays.
+    ///
+    /// An outlook tells the lengths of the first anchor's lists ([`Look::linked`]). With these lists and more anchors it
+    /// is 24 after the first, and the outlook is asked again.
+    pub fn commit(&mut self, trigger: &PointId, lists: &[u8], buffer: &mut [u8]) -> Result<u32, Refused> {
+        let (room, length) = (buffer.as_mut_ptr(), buffer.len());
+        run!(self, committer_commit, trigger.into(), lists.as_ptr(), lists.len(), room, length).map(|kept| kept.anchors)
     }
 
     /// The anchors that a commit of this trigger would hand out now, oldest first, each with the number of points in
-    /// its history by the committed marks now: [`OUTLOOK_BYTES`] bytes for each at the beginning of the buffer
-    /// ([`looks`] reads them). Returned is their number. Refused as the commit would be, but never with 20, and with
-    /// 21 for its own buffer; then the buffer stays as it is.
+    /// its history and of those linked in each round of it, by the committed marks now; they stand at the beginning of
+    /// the buffer ([`looks`] reads them). Returned is their number. Refused as the commit would be, but never with 20
+    /// or 24, and with 21 for its own buffer; then the buffer stays as it is.
     pub fn outlook(&self, trigger: &PointId, buffer: &mut [u8]) -> Result<u32, Refused> {
         ask!(self, committer_outlook, trigger.into(), buffer.as_mut_ptr(), buffer.len()).map(|kept| kept.anchors)
     }
@@ -253,15 +260,15 @@ impl Committer {
             Call::Drop(round) => said(self.drop_upto(*round)),
             Call::Gap => said(self.gap_question()),
             Call::Reset => done(self.reset()),
-            Call::Commit(trigger) => self.handed(trigger),
+            Call::Commit(trigger, lists) => self.handed(trigger, lists),
             Call::Outlook(trigger) => self.looked(trigger),
             Call::Remove { round, since } => self.removed(*round, *since),
         }
     }
 
-    fn handed(&mut self, trigger: &PointId) -> Answer {
+    fn handed(&mut self, trigger: &PointId, lists: &[u8]) -> Answer {
         let mut buffer = vec![0; COMMIT_BYTES_MAX];
-        match self.commit(trigger, &mut buffer) {
+        match self.commit(trigger, lists, &mut buffer) {
             Ok(count) => Answer::Handed(anchors(&buffer, count)),
             Err(why) => Answer::Refused(why, anchors(&buffer, why.finished)),
         }
@@ -269,7 +276,8 @@ impl Committer {
 
     fn looked(&self, trigger: &PointId) -> Answer {
         let mut buffer = vec![0; OUTLOOK_BYTES_MAX];
-        self.outlook(trigger, &mut buffer).map_or_else(refused, |count| Answer::Looked(looks(&buffer, count)))
+        let told = self.outlook(trigger, &mut buffer);
+        told.map_or_else(refused, |count| Answer::Looked(looks(&buffer, count, &self.state)))
     }
 
     fn removed(&mut self, round: u32, since: Option<u32>) -> Answer {
@@ -346,7 +354,7 @@ fn kept(reply: &sys::Reply) -> Result<Kept, Refused> {
     if reply.refused == 0 {
         return Ok(Kept { said: reply.said == 1, anchors: reply.anchors });
     }
-    let refusal = Refusal::of(reply.refused, reply.conflict).expect("the library refuses with 1 to 23");
+    let refusal = Refusal::of(reply.refused, reply.conflict).expect("the library refuses with 1 to 24");
     Err(Refused { refusal, finished: reply.anchors })
 }
 

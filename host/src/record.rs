@@ -2,9 +2,10 @@
 
 use std::fmt;
 
+use crate::anchor::ID_BYTES;
 use crate::types::{Link, PointId, PointInfo, Start};
 
-/// A call that can be recorded.
+/// A call that can be recorded; a commit has its place lists.
 #[derive(Clone, Debug, PartialEq, Eq, Hash)]
 pub enum Call {
     Start(Start),
@@ -12,7 +13,7 @@ pub enum Call {
     Name(PointId),
     Resolve(PointId, PointInfo),
     Certify(PointId),
-    Commit(PointId),
+    Commit(PointId, Vec<u8>),
     Remove { round: u32, since: Option<u32> },
     Drop(u32),
     Gap,
@@ -43,11 +44,14 @@ const NOBODY: u8 = 255;
 const LINK: usize = 33;
 /// Of a resolution's bytes before its links.
 const RESOLVE: usize = 82;
+/// Of place lists that fit into a record.
+const LISTS_MAX: usize = REST_MAX - REST_MIN - ID_BYTES;
 
 // ---- encoding
 
 /// The call as a record. What has no room in a record is cut so that the call is refused with the same number: authors,
-/// peers and statuses to 255, a used author to 254, links of a kind to 33.
+/// peers and statuses to 255, a used author to 254, links of a kind to 33. Place lists are cut to 4,057 bytes; a commit
+/// that reads more of them is refused with 24.
 pub fn encode(call: &Call) -> Vec<u8> {
     let mut out = vec![0, 0, 0, 0, VERSION, kind(call)];
     match call {
@@ -56,7 +60,11 @@ pub fn encode(call: &Call) -> Vec<u8> {
             put_number(&mut out, *round);
             put_number(&mut out, *peers);
         }
-        Call::Name(id) | Call::Certify(id) | Call::Commit(id) | Call::Outlook(id) => put_id(&mut out, id),
+        Call::Name(id) | Call::Certify(id) | Call::Outlook(id) => put_id(&mut out, id),
+        Call::Commit(id, lists) => {
+            put_id(&mut out, id);
+            out.extend(&lists[..lists.len().min(LISTS_MAX)]);
+        }
         Call::Resolve(id, info) => {
             put_id(&mut out, id);
             put_info(&mut out, info);
@@ -81,7 +89,7 @@ fn kind(call: &Call) -> u8 {
         Call::Name(_) => 3,
         Call::Resolve(..) => 4,
         Call::Certify(_) => 5,
-        Call::Commit(_) => 6,
+        Call::Commit(..) => 6,
         Call::Remove { .. } => 7,
         Call::Drop(_) => 8,
         Call::Gap => 9,
@@ -188,14 +196,14 @@ fn fields(kind: u8, f: &[u8]) -> Option<Call> {
     Some(match (kind, f.len()) {
         (1, 22) => Call::Start(start(f)),
         (2, 8) => Call::Round { round: number(&f[..4]), peers: number(&f[4..]) },
-        (3, 37) => Call::Name(id(f)),
-        (5, 37) => Call::Certify(id(f)),
-        (6, 37) => Call::Commit(id(f)),
+        (3, ID_BYTES) => Call::Name(id(f)),
+        (5, ID_BYTES) => Call::Certify(id(f)),
+        (6, ID_BYTES..) => Call::Commit(id(f), f[ID_BYTES..].to_vec()),
         (7, 9) => Call::Remove { round: number(&f[..4]), since: (f[4] != 0).then(|| number(&f[5..])) },
         (8, 4) => Call::Drop(number(f)),
         (9, 0) => Call::Gap,
         (10, 0) => Call::Reset,
-        (11, 37) => Call::Outlook(id(f)),
+        (11, ID_BYTES) => Call::Outlook(id(f)),
         _ => return None,
     })
 }

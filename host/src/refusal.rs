@@ -2,8 +2,8 @@
 
 use std::fmt;
 
-/// One case for each number of document 01's table. 13 to 22 are of commits and, but for 20, of outlooks; 21 and 23 of
-/// remove.
+/// One case for each number of document 01's table, and for those of document 02. 13 to 22 are of commits and, but for
+/// 20, of outlooks; 21 and 23 of remove.
 #[derive(Clone, Copy, Debug, PartialEq, Eq, Hash)]
 pub enum Refusal {
     BadStart,
@@ -31,6 +31,8 @@ pub enum Refusal {
     NoRoom,
     AtGenesis,
     RemoveAhead,
+    /// of a commit, document 02's
+    BadLists,
     /// of a game of keepers and spoilers, document 02's
     BadGame,
 }
@@ -62,12 +64,13 @@ impl Refusal {
             21 => Refusal::NoRoom,
             22 => Refusal::AtGenesis,
             23 => Refusal::RemoveAhead,
+            24 => Refusal::BadLists,
             31 => Refusal::BadGame,
             _ => return None,
         })
     }
 
-    /// Document 01's number.
+    /// Its number.
     pub fn number(self) -> u32 {
         match self {
             Refusal::BadStart => 1,
@@ -93,6 +96,7 @@ impl Refusal {
             Refusal::NoRoom => 21,
             Refusal::AtGenesis => 22,
             Refusal::RemoveAhead => 23,
+            Refusal::BadLists => 24,
             Refusal::BadGame => 31,
         }
     }
@@ -122,6 +126,7 @@ impl Refusal {
             Refusal::NoRoom => "answer larger than the buffer left",
             Refusal::AtGenesis => "anchor at genesis",
             Refusal::RemoveAhead => "remove above the last anchor handed out since the start, or none",
+            Refusal::BadLists => "place list that isn't each place from 0 once",
             Refusal::BadGame => "numbers or sets of the game out of range",
         }
     }

@@ -208,8 +208,8 @@ unsafe extern "C" {
     ) -> Reach;
 }
 
-// Safety, of all of them: each pointer is to as many words (or bytes, of the buffer) as its length says, and no two of
-// what is lent overlap.
+// Safety, of all of them: each pointer is to as many words (or bytes, of place lists and buffer) as its length says, and
+// no two of what is lent overlap.
 unsafe extern "C" {
     pub fn committer_start(
         state: State,
@@ -328,6 +328,8 @@ unsafe extern "C" {
         order: *const u64,
         order_len: usize,
         id: PointId,
+        lists: *const u8,
+        lists_len: usize,
         buffer: *mut u8,
         buffer_len: usize,
     ) -> Reply;

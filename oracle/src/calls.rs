@@ -23,7 +23,12 @@ use crate::types::{CommitAnswer, Id, Info, RemoveAnswer, Start};
 pub struct Oracle {
     pub(crate) board: Board,
     panicked: Option<String>,
+    place_lists: PlaceLists,
 }
+
+/// For each anchor, oldest first, and each round from the anchor's down: which of the points linked there, counted
+/// from 0 by rising digest, stands at each position after the shuffle.
+pub type PlaceLists = Vec<Vec<Vec<u8>>>;
 
 pub(crate) struct Board {
     pub committer: Committer,
@@ -66,7 +71,7 @@ impl Oracle {
             conf: conf(0, NonZeroU8::MIN, 0),
             strict,
         };
-        Oracle { board, panicked: None }
+        Oracle { board, panicked: None, place_lists: Vec::new() }
     }
 
     /// `Committer::init` with a new bottom round, its used mark set as in `DagFront::new`.
@@ -137,7 +142,14 @@ impl Oracle {
 
     /// `Committer::commit` with the resolved point; below the bottom, with a valid trigger made for the call.
     pub fn commit(&mut self, trigger: &Id) -> Outcome<CommitAnswer> {
-        self.call(|board| board.commit(trigger))
+        let outcome = self.call(|board| board.commit(trigger));
+        self.place_lists = rand::take_kept();
+        outcome
+    }
+
+    /// What the shuffles of the last commit did. A conflict and a panic leave them short.
+    pub fn place_lists(&self) -> &PlaceLists {
+        &self.place_lists
     }
 
     /// `Committer::remove_committed`
@@ -256,7 +268,7 @@ impl Board {
 fn conf(genesis: u32, commit_history_rounds: NonZeroU8, deduplicate_rounds: u16) -> MempoolConfig {
     MempoolConfig {
         consensus: ConsensusConfig {
-            commit_history_rounds: commit_history_rounds,
+            commit_history_rounds,
             deduplicate_rounds,
             // read by `stats_since` only, whose epoch doesn't depend on it
             max_consensus_lag_rounds: NonZeroU16::MIN,

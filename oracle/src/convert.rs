@@ -108,7 +108,7 @@ pub fn anchor(data: &AnchorData) -> Anchor {
         proof: Id { round: data.proof_key.round.0, author: anchor.author, digest: *data.proof_key.digest.inner() },
         executable: data.is_executable,
         prev_anchor: data.prev_anchor.map(|round| round.0),
-        points: sorted(data.history.iter().map(|info| plain_id(info.id()))),
+        points: data.history.iter().map(|info| plain_id(info.id())).collect(),
     }
 }
 

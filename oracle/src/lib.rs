@@ -24,8 +24,9 @@ mod outcome;
 mod reads;
 mod types;
 
-pub use calls::Oracle;
+pub use calls::{Oracle, PlaceLists};
 pub use outcome::Outcome;
+pub use rand::{HAS_OWN as HAS_OWN_ORDER, OWN as OWN_ORDER, OwnPcg};
 pub use types::*;
 
 /// For this thread. Maps made from now on take this seed; those that exist keep theirs, also the ones that the thread
@@ -34,8 +35,8 @@ pub fn set_hash_seed(seed: u64) {
     ahash::set_seed(seed);
 }
 
-/// For this thread. 0, as at the beginning: points inside a round are tested by rising digest. Any other number chooses
-/// a permutation.
+/// For this thread. 0, as at the beginning: points inside a round are tested by rising digest, and come out by falling
+/// digest. Any other number chooses permutations; `OWN_ORDER` those of the Rust, if `HAS_OWN_ORDER`.
 pub fn set_shuffle_order(order: u64) {
     rand::set_order(order);
 }

@@ -60,7 +60,7 @@ pub struct Anchor {
     pub proof: Id,
     pub executable: bool,
     pub prev_anchor: Option<u32>,
-    /// the history, sorted by round and inside a round by digest
+    /// the history in the Rust's own order: rounds rise, and inside a round the shuffle is read backwards
     pub points: Vec<Id>,
 }
 

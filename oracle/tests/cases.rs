@@ -165,7 +165,9 @@ fn k13_one_anchor_four_points() {
     assert_eq!(anchors[0].proof, p(14, 0, 'e'));
     assert!(anchors[0].executable);
     assert_eq!(anchors[0].prev_anchor, None);
-    assert_eq!(anchors[0].points, [p(11, 0, 'a'), p(12, 0, 'b'), p(12, 1, 'c'), p(13, 0, 'd')]);
+    // nothing is shuffled here, so inside a round digests fall
+    assert_eq!(anchors[0].points, [p(11, 0, 'a'), p(12, 1, 'c'), p(12, 0, 'b'), p(13, 0, 'd')]);
+    assert_eq!(oracle.place_lists()[..], [[vec![0], vec![0, 1], vec![0]]]);
     assert_eq!(word(&oracle, p(12, 1, 'c')), INIT | COMMITTED | 2);
     assert_eq!(word(&oracle, p(14, 0, 'e')), INIT);
     let state = oracle.state();

@@ -3,21 +3,24 @@
 use std::fmt;
 
 use committer::{Call, PointId, Start};
+use oracle::{HAS_OWN_ORDER, OWN_ORDER, PlaceLists};
 
 use crate::counts::Counts;
 use crate::known::{self, Known, Strict, Tried};
 use crate::library::Side;
+use crate::lists::commit;
 use crate::outlook;
 use crate::removes;
 use crate::rules::{Due, due};
 use crate::rust::Rust;
 use crate::view::{Answer, Point, Refused, State, Told, View};
 
-/// Calls on tables of so many places, from zeroed tables on.
+/// Calls on tables of so many places, from zeroed tables on. The place lists of its commits are the Rust's, by this order of its shuffle.
 #[derive(Clone, Debug, PartialEq, Eq)]
 pub struct List {
     pub places: usize,
     pub calls: Vec<Call>,
+    pub order: u64,
 }
 
 /// A difference that no entry names.
@@ -50,6 +53,8 @@ pub enum Kind {
     Records,
     /// a commit or a remove into a smaller buffer
     Buffer,
+    /// a commit with a damaged place list
+    Lists,
     /// the inspector's memory
     Memory,
     /// an outlook tells other anchors than the commit hands out, or isn't refused as it is
@@ -71,25 +76,43 @@ enum Next {
 
 /// Plays a list on both sides.
 pub fn compare<S: Side>(list: &List, counts: &mut Counts) -> Result<(), Difference> {
+    Pair::<S>::new(list).play(list, counts)
+}
+
+/// The list with the place lists that its commits are lent, and how it ends. Commits after a difference, or after the Rust has panicked,
+/// have none.
+pub fn lent<S: Side>(list: &List, counts: &mut Counts) -> (List, Result<(), Difference>) {
     let mut pair = Pair::<S>::new(list);
-    for (at, call) in list.calls.iter().enumerate() {
-        match pair.step(call, counts) {
-            Ok(Next::On) => {}
-            Ok(Next::Ends) => break,
-            Err((kind, text)) => return Err(Difference { at, kind, text }),
-        }
+    let ended = pair.play(list, counts);
+    let mut list = list.clone();
+    let commits = list.calls.iter_mut().filter_map(|call| match call {
+        Call::Commit(_, lists) => Some(lists),
+        _ => None,
+    });
+    for (lists, lent) in commits.zip(pair.lent) {
+        *lists = lent;
     }
-    Ok(())
+    (list, ended)
 }
 
 type Found = (Kind, String);
+
+/// A commit that the Rust made before ours.
+struct First {
+    told: Told,
+    /// kept by its shuffles
+    lists: PlaceLists,
+}
 
 struct Pair<'a, S> {
     places: usize,
     ours: S,
     rust: Rust,
+    order: u64,
     /// the calls that both took
     taken: Vec<&'a Call>,
+    /// the place lists of the commits
+    lent: Vec<Vec<u8>>,
     /// the round of the last anchor handed out since the start
     last_anchor: Option<u32>,
     /// ours after the last call
@@ -101,30 +124,46 @@ impl<'a, S: Side> Pair<'a, S> {
     fn new(list: &List) -> Self {
         let ours = S::new(list.places);
         let (view, fingerprint) = (ours.view(), ours.fingerprint());
-        let (rust, taken) = (Rust::default(), Vec::new());
-        Pair { places: list.places, ours, rust, taken, last_anchor: None, view, fingerprint }
+        oracle::set_shuffle_order(list.order);
+        let (rust, order) = (Rust::default(), list.order);
+        let (taken, lent) = (Vec::new(), Vec::new());
+        Pair { places: list.places, ours, rust, order, taken, lent, last_anchor: None, view, fingerprint }
+    }
+
+    fn play(&mut self, list: &'a List, counts: &mut Counts) -> Result<(), Difference> {
+        for (at, call) in list.calls.iter().enumerate() {
+            match self.step(call, counts) {
+                Ok(Next::On) => {}
+                Ok(Next::Ends) => break,
+                Err((kind, text)) => return Err(Difference { at, kind, text }),
+            }
+        }
+        Ok(())
     }
 
     fn step(&mut self, call: &'a Call, counts: &mut Counts) -> Result<Next, Found> {
-        if let Call::Commit(trigger) | Call::Outlook(trigger) = call {
-            self.outlook(trigger, counts)?;
+        let first = self.first(call);
+        if let (Call::Commit(trigger, _) | Call::Outlook(trigger), Some(first)) = (call, &first) {
+            self.outlook(trigger, &first.lists, counts)?;
         }
         if let Call::Remove { round, since } = call {
             let tried = removes::smaller_buffers(&self.ours, *round, *since, &self.view);
             counts.removes_cut(tried.map_err(|text| (Kind::Buffer, format!("remove: {text}")))?);
         }
-        let answer = self.ours.call(call);
+        let answer = self.answer(call, first.as_ref());
         self.by_rule(call, &answer)?;
         let fingerprint = self.ours.fingerprint();
         let view = self.ours.view();
-        self.records(call, &answer, &view, counts)?;
+        if let (Call::Commit(..), Some(first)) = (call, &first) {
+            self.records(&answer, &first.lists, &view, counts)?;
+        }
         if let Answer::Refused(why) = &answer {
             counts.call(call, Some(why.number));
             if why.finished.is_empty() {
                 self.unchanged(call, why, fingerprint, &view)?;
                 // the Rust has no outlook
                 if !matches!(call, Call::Outlook(_)) {
-                    self.tried(call, why, counts)?;
+                    self.tried(call, why, first, counts)?;
                 }
                 return Ok(Next::On);
             }
@@ -135,7 +174,44 @@ impl<'a, S: Side> Pair<'a, S> {
         self.fingerprint = fingerprint;
         self.follow(call, &answer);
         let before = std::mem::replace(&mut self.view, view);
-        self.both(call, &answer, &before, counts)
+        self.both(call, &answer, &before, first, counts)
+    }
+
+    /// The Rust commits first: what its shuffles keep is lent to ours. For an outlook another oracle does.
+    fn first(&mut self, call: &Call) -> Option<First> {
+        match call {
+            Call::Commit(..) => {
+                let told = self.rust.call(call);
+                Some(First { told, lists: self.rust.place_lists().clone() })
+            }
+            Call::Outlook(trigger) => {
+                let mut second = self.another();
+                let told = second.call(&commit(*trigger));
+                Some(First { told, lists: second.place_lists().clone() })
+            }
+            _ => None,
+        }
+    }
+
+    /// An oracle in the state that both are in. Points are tested by rising digest, since a commit that met a conflict so may panic in
+    /// another order (entry 5).
+    fn another(&self) -> Rust {
+        oracle::set_shuffle_order(0);
+        let rust = Rust::after(self.taken.iter().copied());
+        oracle::set_shuffle_order(self.order);
+        rust
+    }
+
+    /// Ours; a commit is lent the Rust's numbers in a row.
+    fn answer(&mut self, call: &Call, first: Option<&First>) -> Answer {
+        match (call, first) {
+            (Call::Commit(trigger, _), Some(first)) => {
+                let lists = in_a_row(&first.lists);
+                self.lent.push(lists.clone());
+                self.ours.call(&Call::Commit(*trigger, lists))
+            }
+            _ => self.ours.call(call),
+        }
     }
 
     /// Which anchor was handed out last.
@@ -153,8 +229,8 @@ impl<'a, S: Side> Pair<'a, S> {
     }
 
     /// The outlook of a trigger tells what its commit does, on a copy.
-    fn outlook(&self, trigger: &PointId, counts: &mut Counts) -> Result<(), Found> {
-        let compared = outlook::compared(&self.ours, trigger, &self.taken, &self.view);
+    fn outlook(&self, trigger: &PointId, lists: &PlaceLists, counts: &mut Counts) -> Result<(), Found> {
+        let compared = outlook::compared(&self.ours, trigger, lists, &self.taken, &self.view);
         counts.looked(&compared.map_err(|text| (Kind::Outlook, format!("outlook: {text}")))?);
         Ok(())
     }
@@ -172,11 +248,12 @@ impl<'a, S: Side> Pair<'a, S> {
         Err((Kind::Rule, format!("{}: {}; by document 01: {due:?}", name(call), answer_text(answer))))
     }
 
-    /// The points of the records are those that got their committed mark, each once, and smaller buffers cut the records.
-    fn records(&self, call: &Call, answer: &Answer, view: &View, counts: &mut Counts) -> Result<(), Found> {
+    /// The points of a commit's records are those that got their committed mark, each once; smaller buffers cut the records, and damaged
+    /// place lists refuse them.
+    fn records(&self, answer: &Answer, lists: &PlaceLists, view: &View, counts: &mut Counts) -> Result<(), Found> {
         let records = match answer {
             Answer::Anchors(anchors) => anchors,
-            Answer::Refused(why) if matches!(call, Call::Commit(_)) => &why.finished,
+            Answer::Refused(why) => &why.finished,
             _ => return Ok(()),
         };
         let mut handed: Vec<PointId> = records.iter().flat_map(|record| &record.points).copied().collect();
@@ -192,8 +269,10 @@ impl<'a, S: Side> Pair<'a, S> {
             return Err((Kind::Records, text));
         }
         counts.handed(records.len(), matches!(answer, Answer::Refused(_)));
-        let tried = self.ours.smaller_buffers().map_err(|text| (Kind::Buffer, format!("commit: {text}")))?;
+        let tried = self.ours.smaller_buffers(lists).map_err(|text| (Kind::Buffer, format!("commit: {text}")))?;
         counts.times_met(Known::Entry(14), tried);
+        let tried = self.ours.damaged_lists(lists).map_err(|text| (Kind::Lists, format!("commit: {text}")))?;
+        counts.damaged(tried);
         Ok(())
     }
 
@@ -205,17 +284,27 @@ impl<'a, S: Side> Pair<'a, S> {
         Err((Kind::Changed, format!("{} was refused with {} and changed something", name(call), why.number)))
     }
 
-    /// Gives a refused call to an oracle of its own, in the state that both are in.
-    fn tried(&self, call: &Call, why: &Refused, counts: &mut Counts) -> Result<(), Found> {
-        let mut second = Rust::after(self.taken.iter().copied());
+    /// Gives a refused call to an oracle of its own, in the state that both are in. A commit the Rust has been given already, so that it is
+    /// made anew here.
+    fn tried(&mut self, call: &Call, why: &Refused, first: Option<First>, counts: &mut Counts) -> Result<(), Found> {
+        let (told, after) = match first {
+            None => {
+                let mut second = self.another();
+                (second.call(call), second.view())
+            }
+            Some(first) => {
+                let by_digest = self.by_digest(call, why, &first.told, &self.view, counts)?;
+                let another = self.another();
+                let given = std::mem::replace(&mut self.rust, another);
+                let (second, told) = by_digest.unwrap_or((given, first.told));
+                (told, second.view())
+            }
+        };
         let held = self.view.points.len();
-        let told = second.call(call);
-        let after = second.view();
         let added = after.points.len().saturating_sub(held);
         let bottom = after.state.map(|state| state.bottom);
         let tried = Tried { added, bottom, ..self.at(why, call, &self.view, &told) };
         let conflict = Told::Answer(Answer::Refused(why.clone()));
-        self.in_another_order(call, why, &told, counts)?;
         match tried.known() {
             Some(known) => counts.tried(why.number, known),
             // the Rust refuses a history conflict too
@@ -241,28 +330,35 @@ impl<'a, S: Side> Pair<'a, S> {
         Tried { refused, call, before, told, start, added: 0, bottom: None, places: self.places }
     }
 
-    /// Entry 5: a commit refused with 13 to 15, by an oracle that tests the points of a round in another order. It may meet another faulty
-    /// point, of the same round or of one that the first order doesn't come to; it doesn't commit.
-    fn in_another_order(&self, call: &Call, why: &Refused, told: &Told, counts: &mut Counts) -> Result<(), Found> {
-        if !matches!(call, Call::Commit(_)) || !(13..=15).contains(&why.number) {
-            return Ok(());
+    /// Entry 5: a commit refused with 13 to 15, by an oracle that tests the points of a round by rising digest, and what it says. In the
+    /// list's order the Rust may have met another faulty point, of the same round or of one that the sorted order doesn't come to; it
+    /// doesn't commit.
+    fn by_digest(
+        &self,
+        call: &Call,
+        why: &Refused,
+        other: &Told,
+        before: &View,
+        counts: &mut Counts,
+    ) -> Result<Option<(Rust, Told)>, Found> {
+        if !(13..=15).contains(&why.number) {
+            return Ok(None);
         }
-        let mut third = Rust::after(self.taken.iter().copied());
-        oracle::set_shuffle_order(3);
-        let other = third.call(call);
+        let mut sorted = self.another();
         oracle::set_shuffle_order(0);
-        if other == *told {
-            return Ok(());
+        let told = sorted.call(call);
+        oracle::set_shuffle_order(self.order);
+        if *other != told {
+            let faulty = [13, 14, 15].into_iter().any(|number| match other {
+                Told::Answer(Answer::Refused(other)) => other.number == number,
+                _ => self.at(&Refused { number, ..why.clone() }, call, before, other).known().is_some(),
+            });
+            if !faulty {
+                return Err((Kind::Refused(why.number), format!("commit, in another order: {}", told_text(other))));
+            }
+            counts.met(Known::Entry(5));
         }
-        let faulty = [13, 14, 15].into_iter().any(|number| match &other {
-            Told::Answer(Answer::Refused(other)) => other.number == number,
-            _ => self.at(&Refused { number, ..why.clone() }, call, &self.view, &other).known().is_some(),
-        });
-        if !faulty {
-            return Err((Kind::Refused(why.number), format!("commit, in another order: {}", told_text(&other))));
-        }
-        counts.met(Known::Entry(5));
-        Ok(())
+        Ok(Some((sorted, told)))
     }
 
     /// A start once more, on an oracle that asserts what the Rust asserts of peers and genesis.
@@ -282,13 +378,23 @@ impl<'a, S: Side> Pair<'a, S> {
     }
 
     /// A call that changed something, on the Rust, and what both then hold.
-    fn both(&mut self, call: &'a Call, answer: &Answer, before: &View, counts: &mut Counts) -> Result<Next, Found> {
+    fn both(
+        &mut self,
+        call: &'a Call,
+        answer: &Answer,
+        before: &View,
+        first: Option<First>,
+        counts: &mut Counts,
+    ) -> Result<Next, Found> {
         if matches!(answer, Answer::Looked(_)) {
             return Ok(Next::On);
         }
-        let told = self.rust.call(call);
+        let (told, lists) = match first {
+            Some(first) => (first.told, first.lists),
+            None => (self.rust.call(call), PlaceLists::new()),
+        };
         if let Answer::Refused(why) = answer {
-            return self.finished_before(call, why, before, &told, counts);
+            return self.finished_before(call, why, before, told, counts);
         }
         if let (Answer::Removed(ours), Told::Answer(Answer::Removed(rust))) = (answer, &told)
             && let Some(lesser) = removes::same(ours, rust, &self.taken, before)
@@ -307,8 +413,8 @@ impl<'a, S: Side> Pair<'a, S> {
                 (None, _) => Err((Kind::Taken, format!("{} is taken; the Rust: {}", name(call), told_text(&told)))),
             };
         }
-        if let Answer::Anchors(anchors) = answer {
-            counts.anchors += anchors.len() as u64;
+        if let Answer::Anchors(_) = answer {
+            counts.compared(&lists, self.order == OWN_ORDER && HAS_OWN_ORDER);
         }
         self.taken.push(call);
         self.same(call, counts)
@@ -320,22 +426,29 @@ impl<'a, S: Side> Pair<'a, S> {
         call: &'a Call,
         why: &Refused,
         before: &View,
-        told: &Told,
+        told: Told,
         counts: &mut Counts,
     ) -> Result<Next, Found> {
+        let told = match self.by_digest(call, why, &told, before, counts)? {
+            Some((rust, by_digest)) => {
+                self.rust = rust;
+                by_digest
+            }
+            None => told,
+        };
         let conflict = Refused { finished: Vec::new(), ..why.clone() };
-        if why.number == 13 && *told == Told::Answer(Answer::Refused(conflict)) {
+        if why.number == 13 && told == Told::Answer(Answer::Refused(conflict)) {
             counts.tried(13, Known::Entry(4));
             self.taken.push(call);
             return self.same(call, counts);
         }
-        match self.at(why, call, before, told).known() {
+        match self.at(why, call, before, &told).known() {
             Some(known) => {
                 counts.tried(why.number, known);
                 Ok(Next::Ends)
             }
             None => {
-                let text = format!("{} is refused with {}; the Rust: {}", name(call), why.number, told_text(told));
+                let text = format!("{} is refused with {}; the Rust: {}", name(call), why.number, told_text(&told));
                 Err((Kind::Refused(why.number), text))
             }
         }
@@ -378,6 +491,11 @@ fn keeps_last_proof(ours: Option<&State>, rust: &mut View) -> bool {
         rust.last_committed_proof = ours.last_committed_proof;
     }
     forgotten
+}
+
+/// As they are lent.
+pub fn in_a_row(lists: &PlaceLists) -> Vec<u8> {
+    lists.concat().concat()
 }
 
 fn name(call: &Call) -> &'static str {

@@ -4,6 +4,7 @@ use std::collections::BTreeMap;
 use std::fmt;
 
 use committer::{Call, Removal};
+use oracle::PlaceLists;
 
 use crate::known::{ENTRIES, Known, ROWS, row_is_entry};
 use crate::outlook::Compared;
@@ -25,6 +26,11 @@ pub struct Counts {
     pub states: u64,
     /// anchor records compared with the Rust's
     pub anchors: u64,
+    /// of them those with three linked points or more in a round, and of these those in the Rust's own order
+    pub three_linked: u64,
+    pub own_order: u64,
+    /// commits with a damaged place list
+    pub damaged_lists: u64,
     /// commits that handed out so many anchors, and that were refused after so many
     pub commits: [BTreeMap<usize, u64>; 2],
     /// outlooks compared with the commit on a copy, by anchors
@@ -33,6 +39,8 @@ pub struct Counts {
     pub outlooks_refused: BTreeMap<u32, u64>,
     /// outlooks into smaller buffers
     pub outlook_buffers: u64,
+    /// outlooks whose first linked counts are the lengths of the Rust's shuffles
+    pub outlooks_shuffled: u64,
     /// removes that both took, by rounds drained
     pub removes: BTreeMap<usize, u64>,
     /// removes into smaller buffers
@@ -79,13 +87,27 @@ impl Counts {
         }
     }
 
+    /// Anchor records by their place lists, and whether these are the Rust's own.
+    pub fn compared(&mut self, lists: &PlaceLists, own: bool) {
+        let three = lists.iter().filter(|rounds| rounds.iter().any(|list| list.len() >= 3)).count() as u64;
+        self.anchors += lists.len() as u64;
+        self.three_linked += three;
+        self.own_order += if own { three } else { 0 };
+    }
+
+    pub fn damaged(&mut self, lists: u64) {
+        self.damaged_lists += lists;
+        self.times_met(Known::Entry(6), lists);
+    }
+
     pub fn handed(&mut self, anchors: usize, refused: bool) {
         *self.commits[usize::from(refused)].entry(anchors).or_default() += 1;
     }
 
     pub fn looked(&mut self, compared: &Compared) {
         match compared {
-            Compared::Anchors { anchors, buffers } => {
+            Compared::Anchors { anchors, buffers, shuffled } => {
+                self.outlooks_shuffled += u64::from(*shuffled);
                 *self.outlooks.entry(*anchors).or_default() += 1;
                 self.outlook_buffers += buffers;
             }
@@ -145,6 +167,9 @@ impl Counts {
         self.points += other.points;
         self.states += other.states;
         self.anchors += other.anchors;
+        self.three_linked += other.three_linked;
+        self.own_order += other.own_order;
+        self.damaged_lists += other.damaged_lists;
         for (ours, others) in self.commits.iter_mut().zip(&other.commits) {
             for (anchors, times) in others {
                 *ours.entry(*anchors).or_default() += times;
@@ -157,6 +182,7 @@ impl Counts {
             *self.outlooks_refused.entry(*number).or_default() += times;
         }
         self.outlook_buffers += other.outlook_buffers;
+        self.outlooks_shuffled += other.outlooks_shuffled;
         for (rounds, times) in &other.removes {
             *self.removes.entry(*rounds).or_default() += times;
         }
@@ -182,7 +208,7 @@ pub fn kind(call: &Call) -> &'static str {
         Call::Name(_) => "name",
         Call::Resolve(..) => "resolve",
         Call::Certify(_) => "certify",
-        Call::Commit(_) => "commit",
+        Call::Commit(..) => "commit",
         Call::Remove { .. } => "remove",
         Call::Drop(_) => "drop",
         Call::Gap => "gap question",
@@ -201,6 +227,12 @@ impl fmt::Display for Counts {
             writeln!(f, "  {kind}: {calls}, of them refused {refused}")?;
         }
         writeln!(f, "compared: {} states, {} points, {} anchor records", self.states, self.points, self.anchors)?;
+        writeln!(
+            f,
+            "anchor records with three linked points or more in a round: {}, in the Rust's own order {}",
+            self.three_linked, self.own_order
+        )?;
+        writeln!(f, "commits with a damaged place list: {}", self.damaged_lists)?;
         for (commits, what) in self.commits.iter().zip(["handed out", "finished before a refusal"]) {
             writeln!(f, "commits by anchors {what}: {}", listed(commits))?;
         }
@@ -211,6 +243,7 @@ impl fmt::Display for Counts {
             self.outlooks_with_anchors()
         )?;
         writeln!(f, "outlooks by anchors: {}", listed(&self.outlooks))?;
+        writeln!(f, "outlooks with the first counts of the Rust's shuffles: {}", self.outlooks_shuffled)?;
         writeln!(f, "outlooks refused as the commit is, by number: {}", listed(&self.outlooks_refused))?;
         writeln!(f, "outlooks into buffers that are too small: {}", self.outlook_buffers)?;
         writeln!(f, "removes by rounds drained: {}", listed(&self.removes))?;

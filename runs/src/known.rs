@@ -34,7 +34,7 @@ pub const ENTRIES: [&str; 15] = [
 ];
 
 /// The rows are numbered from 1.
-pub const ROWS: u32 = 23;
+pub const ROWS: u32 = 24;
 
 /// The entry that a row of the table only points to.
 pub fn row_is_entry(row: u32) -> Option<u32> {
@@ -120,7 +120,7 @@ impl Tried<'_> {
     /// A commit whose refusal the Rust doesn't come to: it panics at a trigger or a proof in round 0, where it looks for the previous point,
     /// or at a finished anchor whose top proof is in round 0, which then has no previous anchor.
     fn below_zero(&self) -> bool {
-        let Call::Commit(trigger) = self.call else {
+        let Call::Commit(trigger, _) = self.call else {
             return false;
         };
         let from_zero = self.before.state.as_ref().is_some_and(|state| state.bottom == 0);
@@ -165,7 +165,7 @@ impl Tried<'_> {
             Call::Reset => self.when(done(self.told), entry),
             Call::Gap => self.when(answers(self.told, &Answer::Said(false)), entry),
             Call::Name(_) | Call::Resolve(..) | Call::Certify(_) => self.when(no_call(self.told), entry),
-            Call::Round { .. } | Call::Drop(_) | Call::Commit(_) | Call::Remove { .. } => {
+            Call::Round { .. } | Call::Drop(_) | Call::Commit(..) | Call::Remove { .. } => {
                 self.when(panics(self.told, EMPTY), entry)
             }
             Call::Outlook(_) => None,
@@ -196,8 +196,8 @@ impl Tried<'_> {
                 self.when(done(self.told) && self.added == 1, Known::Entry(10))
             }
             Call::Name(_) | Call::Resolve(..) | Call::Certify(_) => self.when(no_call(self.told), Known::Row(5)),
-            Call::Commit(id) if self.below_bottom(id) => self.when(no_anchors(self.told), Known::Entry(12)),
-            Call::Commit(_) => self.when(no_call(self.told), Known::Entry(12)),
+            Call::Commit(id, _) if self.below_bottom(id) => self.when(no_anchors(self.told), Known::Entry(12)),
+            Call::Commit(..) => self.when(no_call(self.told), Known::Entry(12)),
             _ => None,
         }
     }
@@ -208,7 +208,7 @@ impl Tried<'_> {
 
     fn not_there(&self) -> Option<Known> {
         let known = match self.call {
-            Call::Commit(_) => Known::Entry(12),
+            Call::Commit(..) => Known::Entry(12),
             _ => Known::Row(self.refused.number),
         };
         self.when(no_call(self.told), known)
@@ -296,7 +296,7 @@ pub fn taken(call: &Call, told: &Told) -> Option<Known> {
             (lone_peer_missing(*round, *peers) && panics(told, ONE_PEER)).then_some(Known::Entry(13))
         }
         // the top proof of an anchor in round 0
-        Call::Commit(_) => panics(told, UNDERFLOW).then_some(Known::Entry(7)),
+        Call::Commit(..) => panics(told, UNDERFLOW).then_some(Known::Entry(7)),
         _ => None,
     }
 }

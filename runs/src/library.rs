@@ -1,7 +1,9 @@
 //! The library's side: the proved committer behind a trait, so that tests can put a wrong one in its place.
 
-use committer::{Anchor, Call, Committer, PointId, Status, anchors};
+use committer::{Anchor, Call, Committer, Look, OUTLOOK_BYTES_MAX, PointId, Refusal, Status, anchors, looks};
+use oracle::PlaceLists;
 
+use crate::commits::Commit;
 use crate::view::{Answer, Memory, Point, Refused, Round, State, View};
 
 /// The side that is tested.
@@ -19,14 +21,23 @@ pub trait Side {
     /// The outlook of a trigger, into this buffer.
     fn outlook(&self, trigger: &PointId, buffer: &mut [u8]) -> Result<u32, committer::Refused>;
 
-    /// What a commit of the trigger hands out, or why it is refused, on a copy where the gap question is put.
-    fn would_commit(&self, trigger: &PointId) -> Result<Vec<Anchor>, committer::Refused>;
+    /// What an outlook wrote for so many anchors.
+    fn looks(&self, bytes: &[u8], count: u32) -> Vec<Look>;
+
+    /// What a commit of the trigger with these place lists hands out, or why it is refused, on a copy where the gap question is put. Where
+    /// the lists end too soon, those of an outlook follow.
+    fn would_commit(&self, trigger: &PointId, lists: &[u8]) -> Result<Vec<Anchor>, committer::Refused>;
 
     /// A remove into this buffer, on a copy: what it answers, and the copy's fingerprint after it.
     fn would_remove(&self, round: u32, since: Option<u32>, buffer: &mut [u8]) -> (Result<(), committer::Refused>, u64);
 
-    /// The last call, if it was a commit that wrote records, once more with buffers that are too small: how many, or what is wrong.
-    fn smaller_buffers(&self) -> Result<u64, String> {
+    /// The last call, if it was a commit with these place lists, once more with buffers that are too small: how many, or what is wrong.
+    fn smaller_buffers(&self, _lists: &PlaceLists) -> Result<u64, String> {
+        Ok(0)
+    }
+
+    /// Likewise with each of the lists damaged.
+    fn damaged_lists(&self, _lists: &PlaceLists) -> Result<u64, String> {
         Ok(0)
     }
 }
@@ -34,7 +45,7 @@ pub trait Side {
 /// The library as it is.
 pub struct Library {
     committer: Committer,
-    /// the last call, if it was a commit that wrote records, and what was before it
+    /// the last call, if it was a commit, and what was before it
     commit: Option<(PointId, Committer)>,
 }
 
@@ -48,7 +59,9 @@ impl Side for Library {
 
     fn call(&mut self, call: &Call) -> Answer {
         self.commit = match call {
-            Call::Commit(id) if self.committer.parts().0.order.len() <= COPIED => Some((*id, self.committer.clone())),
+            Call::Commit(id, _) if self.committer.parts().0.order.len() <= COPIED => {
+                Some((*id, self.committer.clone()))
+            }
             _ => None,
         };
         answer(self.committer.call(call))
@@ -81,13 +94,33 @@ impl Side for Library {
         self.committer.outlook(trigger, buffer)
     }
 
-    fn would_commit(&self, trigger: &PointId) -> Result<Vec<Anchor>, committer::Refused> {
+    fn looks(&self, bytes: &[u8], count: u32) -> Vec<Look> {
+        looks(bytes, count, self.committer.parts().1)
+    }
+
+    fn would_commit(&self, trigger: &PointId, lists: &[u8]) -> Result<Vec<Anchor>, committer::Refused> {
         let mut copy = self.committer.clone();
         // refused with 2 where nothing is started; so is the commit
         let _ = copy.gap_question();
-        let mut buffer = vec![UNTOUCHED; LARGE];
-        let count = copy.commit(trigger, &mut buffer)?;
-        Ok(anchors(&buffer, count))
+        let mut handed = Vec::new();
+        let mut lists = lists.to_vec();
+        loop {
+            let mut buffer = vec![UNTOUCHED; LARGE];
+            match copy.commit(trigger, &lists, &mut buffer) {
+                Ok(count) => {
+                    handed.extend(anchors(&buffer, count));
+                    return Ok(handed);
+                }
+                Err(why) if why.refusal == Refusal::BadLists && (why.finished > 0 || lists.is_empty()) => {
+                    handed.extend(anchors(&buffer, why.finished));
+                    lists = first_lists(&copy, trigger)?;
+                    if lists.is_empty() {
+                        return Err(why);
+                    }
+                }
+                Err(why) => return Err(why),
+            }
+        }
     }
 
     fn would_remove(&self, round: u32, since: Option<u32>, buffer: &mut [u8]) -> (Result<(), committer::Refused>, u64) {
@@ -96,78 +129,57 @@ impl Side for Library {
         (given, fingerprint(&copy))
     }
 
-    fn smaller_buffers(&self) -> Result<u64, String> {
-        match &self.commit {
-            Some((trigger, before)) => smaller_buffers(trigger, before, &self.committer),
-            None => Ok(0),
-        }
+    fn smaller_buffers(&self, lists: &PlaceLists) -> Result<u64, String> {
+        self.again(lists).map_or(Ok(0), |commit| commit.smaller_buffers())
+    }
+
+    fn damaged_lists(&self, lists: &PlaceLists) -> Result<u64, String> {
+        self.again(lists).map_or(Ok(0), |commit| commit.damaged_lists(lists))
     }
 }
 
-const LARGE: usize = committer::COMMIT_BYTES_MAX;
+impl Library {
+    fn again(&self, lists: &PlaceLists) -> Option<Commit<'_>> {
+        self.commit.as_ref().map(|(trigger, before)| Commit::new(trigger, lists, before, &self.committer))
+    }
+}
+
+/// The place lists of the first anchor that a commit hands out, nothing shuffled.
+fn first_lists(committer: &Committer, trigger: &PointId) -> Result<Vec<u8>, committer::Refused> {
+    let mut buffer = vec![UNTOUCHED; OUTLOOK_BYTES_MAX];
+    let count = committer.outlook(trigger, &mut buffer)?;
+    Ok(looks(&buffer, count, committer.parts().1).first().map_or(Vec::new(), Look::lists_in_order))
+}
+
+/// The place lists of all anchors that a commit hands out, nothing shuffled: an outlook tells the lengths of the first one's, so the others'
+/// are asked for on a copy. None where the outlook is refused.
+pub fn lists_in_order(committer: &Committer, trigger: &PointId) -> Vec<u8> {
+    let mut copy = committer.clone();
+    let mut buffer = vec![UNTOUCHED; LARGE];
+    let mut all = Vec::new();
+    while let Ok(lists) = first_lists(&copy, trigger)
+        && !lists.is_empty()
+    {
+        let given = copy.commit(trigger, &lists, &mut buffer);
+        all.extend(lists);
+        if !given.is_err_and(|why| why.refusal == Refusal::BadLists && why.finished > 0) {
+            break;
+        }
+    }
+    all
+}
+
+/// The call, or the commit with the place lists that hand out most on this committer, nothing shuffled.
+pub fn with_lists(committer: &Committer, call: &Call) -> Call {
+    match call {
+        Call::Commit(trigger, _) => Call::Commit(*trigger, lists_in_order(committer, trigger)),
+        _ => call.clone(),
+    }
+}
+
+pub(crate) const LARGE: usize = committer::COMMIT_BYTES_MAX;
 /// What is in a buffer before a call.
 pub const UNTOUCHED: u8 = 0xa5;
-
-/// A commit into buffers that end inside each record: 21 with the records before, then the same commit writes the others and leaves what it
-/// left at once. Before a refusal it ends likewise.
-fn smaller_buffers(trigger: &PointId, before: &Committer, after: &Committer) -> Result<u64, String> {
-    let mut large = vec![UNTOUCHED; LARGE];
-    let whole = before.clone().commit(trigger, &mut large);
-    let records = anchors(&large, whole.unwrap_or_else(|why| why.finished));
-    let mut end = 0;
-    let mut tried = 0;
-    for (n, record) in (0..).zip(&records) {
-        let begin = end;
-        end += record.bytes();
-        for length in [begin, begin + 82, end - 1] {
-            let mut buffer = vec![UNTOUCHED; length];
-            let mut committer = before.clone();
-            let cut = committer.commit(trigger, &mut buffer);
-            let refused = committer::Refused { refusal: committer::Refusal::NoRoom, finished: n };
-            if cut != Err(refused) {
-                return Err(format!("a buffer of {length} bytes: {cut:?}, due {refused:?}"));
-            }
-            if buffer[..begin] != large[..begin] || buffer[begin..].iter().any(|byte| *byte != UNTOUCHED) {
-                return Err(format!("a buffer of {length} bytes holds other bytes than the records before"));
-            }
-            if n == 0 && committer != *before {
-                return Err(format!("a buffer of {length} bytes: refused with 0 anchors, and something changed"));
-            }
-            let mut rest = vec![UNTOUCHED; LARGE];
-            let again = committer.commit(trigger, &mut rest);
-            let due =
-                whole.map(|count| count - n).map_err(|why| committer::Refused { finished: why.finished - n, ..why });
-            if again != due || rest[..LARGE - begin] != large[begin..] || committer != *after {
-                return Err(format!(
-                    "after a buffer of {length} bytes: {again:?}, due {due:?}, or other records or tables"
-                ));
-            }
-            tried += 1;
-        }
-    }
-    exact_buffer(trigger, before, after, &large[..end], &whole)?;
-    Ok(tried)
-}
-
-/// A buffer of the records' length is enough.
-fn exact_buffer(
-    trigger: &PointId,
-    before: &Committer,
-    after: &Committer,
-    records: &[u8],
-    whole: &Result<u32, committer::Refused>,
-) -> Result<(), String> {
-    let mut buffer = vec![UNTOUCHED; records.len()];
-    let mut committer = before.clone();
-    let given = committer.commit(trigger, &mut buffer);
-    if given != *whole {
-        return Err(format!("a buffer of just {} bytes: {given:?}, due {whole:?}", records.len()));
-    }
-    if buffer != records || committer != *after {
-        return Err(format!("a buffer of just {} bytes: other records or tables", records.len()));
-    }
-    Ok(())
-}
 
 fn fingerprint(committer: &Committer) -> u64 {
     let (tables, state) = committer.parts();

@@ -6,10 +6,10 @@ use committer::{Call, Link, PointId, PointInfo, Start, record};
 
 use crate::compare::List;
 
-/// A list, a call to a line; digests are letters in their order.
+/// A list, a call to a line; digests are letters in their order. The order is that of the Rust's shuffle.
 pub fn written(list: &List) -> String {
     let letters = letters(list);
-    let mut text = format!("tables of {} places\n", list.places);
+    let mut text = format!("tables of {} places, order {}\n", list.places, list.order);
     for call in &list.calls {
         text += &Writer { letters: &letters }.call(call);
         text += "\n";
@@ -43,7 +43,7 @@ fn nth(n: usize) -> String {
 
 fn digests(call: &Call) -> Vec<[u8; 32]> {
     match call {
-        Call::Name(id) | Call::Certify(id) | Call::Commit(id) | Call::Outlook(id) => vec![id.digest],
+        Call::Name(id) | Call::Certify(id) | Call::Commit(id, _) | Call::Outlook(id) => vec![id.digest],
         Call::Resolve(id, info) => {
             let links = info.includes.iter().chain(&info.witness).map(|link| link.digest);
             [id.digest, info.top_proof.digest].into_iter().chain(links).collect()
@@ -64,7 +64,8 @@ impl Writer<'_> {
             Call::Name(id) => format!("name({})", self.id(id)),
             Call::Resolve(id, info) => self.resolve(id, info),
             Call::Certify(id) => format!("certify({})", self.id(id)),
-            Call::Commit(id) => format!("commit({})", self.id(id)),
+            Call::Commit(id, lists) if lists.is_empty() => format!("commit({})", self.id(id)),
+            Call::Commit(id, lists) => format!("commit({}, lists {})", self.id(id), numbers(lists)),
             Call::Remove { round, since: None } => format!("remove({round}, none)"),
             Call::Remove { round, since: Some(since) } => format!("remove({round}, since {since})"),
             Call::Drop(round) => format!("drop({round})"),
@@ -123,6 +124,10 @@ fn start(with: &Start) -> String {
 fn set(peers: u32) -> String {
     let members: Vec<_> = (0..32).filter(|n| peers >> n & 1 == 1).map(|n| n.to_string()).collect();
     format!("{{{}}}", members.join(","))
+}
+
+fn numbers(bytes: &[u8]) -> String {
+    bytes.iter().map(u8::to_string).collect::<Vec<_>>().join(" ")
 }
 
 fn status(status: u32) -> String {

@@ -1,32 +1,48 @@
-//! Outlooks. The Rust has none: each is compared with the commit of the same trigger, made on a copy.
+//! Outlooks. The Rust has none: each is compared with the commit of the same trigger, made on a copy, and the first anchor's linked counts
+//! with the lengths of the Rust's shuffles.
 
 use std::collections::{HashMap, HashSet};
 
-use committer::{Anchor, Call, OUTLOOK_BYTES, OUTLOOK_BYTES_MAX, PointId, PointInfo, Refusal, Refused, Start, looks};
+use committer::{Anchor, Call, Look, OUTLOOK_BYTES_MAX, PointId, PointInfo, Refusal, Refused, Start};
+use oracle::PlaceLists;
 
+use crate::compare::in_a_row;
 use crate::library::{Side, UNTOUCHED};
 use crate::view::View;
 
 /// What was found the same.
 pub enum Compared {
-    /// so many anchors, and how many smaller buffers were refused
+    /// so many anchors, how many smaller buffers were refused, and whether the Rust came to the first anchor
     Anchors {
         anchors: usize,
         buffers: u64,
+        shuffled: bool,
     },
     Refused(u32),
 }
 
-/// The outlook of a trigger on a side that took these calls and holds this.
-pub fn compared<S: Side>(ours: &S, trigger: &PointId, taken: &[&Call], view: &View) -> Result<Compared, String> {
+/// The outlook of a trigger on a side that took these calls and holds this; the lists are those of the Rust's commit.
+pub fn compared<S: Side>(
+    ours: &S,
+    trigger: &PointId,
+    lists: &PlaceLists,
+    taken: &[&Call],
+    view: &View,
+) -> Result<Compared, String> {
     let before = ours.fingerprint();
     let mut buffer = vec![UNTOUCHED; OUTLOOK_BYTES_MAX];
     let told = ours.outlook(trigger, &mut buffer);
-    let compared = match ours.would_commit(trigger) {
+    let compared = match ours.would_commit(trigger, &in_a_row(lists)) {
         Ok(anchors) => {
-            same_anchors(&anchors, &told, &buffer, &Histories::of(taken, view))?;
-            let buffers = other_buffers(ours, trigger, &buffer, anchors.len())?;
-            Compared::Anchors { anchors: anchors.len(), buffers }
+            let count = anchors.len() as u32;
+            if told != Ok(count) {
+                return Err(format!("{told:?}, and the commit hands out {count} anchors"));
+            }
+            let looks = ours.looks(&buffer, count);
+            same_anchors(&anchors, &looks, &Histories::of(taken, view))?;
+            let shuffled = first_as_shuffled(&looks, lists)?;
+            let buffers = other_buffers(ours, trigger, &buffer, &looks)?;
+            Compared::Anchors { anchors: anchors.len(), buffers, shuffled }
         }
         Err(why) => {
             let due = Err(Refused { finished: 0, ..why });
@@ -45,47 +61,51 @@ pub fn compared<S: Side>(ours: &S, trigger: &PointId, taken: &[&Call], view: &Vi
     Ok(compared)
 }
 
-/// The anchors of the commit, each with the number of points of its history by the marks before the commit.
-fn same_anchors(
-    anchors: &[Anchor],
-    told: &Result<u32, Refused>,
-    buffer: &[u8],
-    histories: &Histories,
-) -> Result<(), String> {
-    let count = anchors.len() as u32;
-    if *told != Ok(count) {
-        return Err(format!("{told:?}, and the commit hands out {count} anchors"));
-    }
+/// The anchors of the commit, each with the number of points of its history, and those linked in each round, by the marks before the commit.
+fn same_anchors(anchors: &[Anchor], looks: &[Look], histories: &Histories) -> Result<(), String> {
     let mut handed: HashSet<PointId> = HashSet::new();
-    for (look, anchor) in looks(buffer, count).iter().zip(anchors) {
+    for (look, anchor) in looks.iter().zip(anchors) {
         let now = histories.of_anchor(&anchor.anchor);
-        let left: HashSet<PointId> = now.difference(&handed).copied().collect();
+        let left: HashSet<PointId> = now.points.difference(&handed).copied().collect();
         handed.extend(&anchor.points);
         if left != anchor.points.iter().copied().collect() {
             return Err(format!("{} points are linked from {}, and the commit hands out others", left.len(), look));
         }
-        if (look.anchor, look.points as usize) != (anchor.anchor, now.len()) {
-            return Err(format!("{look}; by the marks {} {}", anchor.anchor.text(" "), now.len()));
+        let due = Look { anchor: anchor.anchor, points: now.points.len() as u32, linked: now.linked };
+        if *look != due {
+            return Err(format!("{look}; by the marks {due}"));
         }
+    }
+    if looks.len() != anchors.len() {
+        return Err(format!("{} anchors can be read, the commit hands out {}", looks.len(), anchors.len()));
     }
     Ok(())
 }
 
+/// The first anchor's linked counts are the lengths of the Rust's shuffles, if it came to one.
+fn first_as_shuffled(looks: &[Look], lists: &PlaceLists) -> Result<bool, String> {
+    let (Some(look), Some(rounds)) = (looks.first(), lists.first()) else {
+        return Ok(false);
+    };
+    let due: Vec<u32> = rounds.iter().map(|list| list.len() as u32).collect();
+    if look.linked == due { Ok(true) } else { Err(format!("{look}; the Rust shuffles {due:?}")) }
+}
+
 /// A buffer of just the bytes needed will do; one byte less, one anchor less or none: 21 and no byte written.
-fn other_buffers<S: Side>(ours: &S, trigger: &PointId, whole: &[u8], anchors: usize) -> Result<u64, String> {
-    let length = OUTLOOK_BYTES * anchors;
+fn other_buffers<S: Side>(ours: &S, trigger: &PointId, whole: &[u8], looks: &[Look]) -> Result<u64, String> {
+    let length = looks.iter().map(Look::bytes).sum();
     if whole[length..].iter().any(|byte| *byte != UNTOUCHED) {
         return Err("bytes beyond the anchors were written".into());
     }
     let mut exact = vec![UNTOUCHED; length];
     let given = ours.outlook(trigger, &mut exact);
-    if given != Ok(anchors as u32) || exact != whole[..length] {
+    if given != Ok(looks.len() as u32) || exact != whole[..length] {
         return Err(format!("a buffer of just {length} bytes: {given:?}, or other bytes"));
     }
-    if anchors == 0 {
+    let Some(last) = looks.last() else {
         return Ok(0);
-    }
-    let shorter = [0, length - OUTLOOK_BYTES, length - 1];
+    };
+    let shorter = [0, length - last.bytes(), length - 1];
     for length in shorter {
         let mut buffer = vec![UNTOUCHED; length];
         let given = ours.outlook(trigger, &mut buffer);
@@ -95,6 +115,14 @@ fn other_buffers<S: Side>(ours: &S, trigger: &PointId, whole: &[u8], anchors: us
         }
     }
     Ok(shorter.len() as u64)
+}
+
+/// What links of uncommitted points lead to from an anchor, down to its lowest round.
+struct History {
+    /// those not committed, with the anchor
+    points: HashSet<PointId>,
+    /// how many in each round, committed ones too, the anchor's round first
+    linked: Vec<u32>,
 }
 
 /// Histories by the links that were resolved and the marks that there are.
@@ -124,18 +152,21 @@ impl Histories {
         histories
     }
 
-    /// The anchor and the points that links of points not committed lead to from there, none of them committed, down to the limit.
-    fn of_anchor(&self, anchor: &PointId) -> HashSet<PointId> {
+    fn of_anchor(&self, anchor: &PointId) -> History {
         let limit = (self.with.genesis + 1).max(anchor.round.saturating_sub(self.with.commit_history_rounds));
         let lowest = limit.max(self.bottom);
-        let mut found = HashSet::new();
+        let mut linked = HashSet::new();
         let mut next = vec![*anchor];
         while let Some(id) = next.pop() {
-            if id.round >= lowest && self.uncommitted.contains(&id) && found.insert(id) {
+            if id.round >= lowest && linked.insert(id) && self.uncommitted.contains(&id) {
                 next.extend(self.links.get(&id).into_iter().flatten());
             }
         }
-        found
+        let in_round = |round| linked.iter().filter(|id| id.round == round).count() as u32;
+        History {
+            linked: (lowest..=anchor.round).rev().map(in_round).collect(),
+            points: linked.intersection(&self.uncommitted).copied().collect(),
+        }
     }
 }
 

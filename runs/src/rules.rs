@@ -25,7 +25,7 @@ pub fn due(call: &Call, before: &View, places: usize, last_anchor: Option<u32>) 
         }
         (Call::Resolve(id, info), Some(state)) => place(id, state).or_else(|| resolve(id, info, before)),
         (Call::Certify(id), Some(state)) => place(id, state).or((!before.holds_point(id)).then_some(9)),
-        (Call::Commit(id) | Call::Outlook(id), Some(state)) => trigger(id, state, before),
+        (Call::Commit(id, _) | Call::Outlook(id), Some(state)) => trigger(id, state, before),
         (Call::Remove { round, .. }, Some(_)) => last_anchor.is_none_or(|last| last < *round).then_some(23),
         (Call::Drop(_) | Call::Gap | Call::Reset, Some(_)) => None,
     };

@@ -3,7 +3,7 @@
 use committer::{
     Anchor, Call, JournalDagEvent, Link, MempoolPeerCounters, MempoolPeerStats, PointId, PointInfo, Removal, Start,
 };
-use oracle::{CommitAnswer, Event, Id, Info, Oracle, Outcome, PeerStats, RemoveAnswer};
+use oracle::{CommitAnswer, Event, Id, Info, Oracle, Outcome, PeerStats, PlaceLists, RemoveAnswer};
 
 use crate::removes::score;
 use crate::view::{Answer, Memory, PeerMemory, Point, Refused, Round, State, Told, View};
@@ -49,10 +49,15 @@ impl Rust {
             Call::Drop(round) => said(oracle.drop_upto(*round)),
             Call::Gap => said(oracle.gap_question()),
             Call::Reset => done(oracle.reset()),
-            Call::Commit(id) => committed(oracle.commit(&plain(id)?)),
+            Call::Commit(id, _) => committed(oracle.commit(&plain(id)?)),
             Call::Remove { round, since } => removed(oracle.remove(*round, *since)),
             Call::Outlook(_) => return Err("the Rust has no outlook"),
         })
+    }
+
+    /// Of the last commit.
+    pub fn place_lists(&self) -> &PlaceLists {
+        self.0.place_lists()
     }
 
     /// A remove as it is timed: its answer is counted and not read.

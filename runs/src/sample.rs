@@ -2,12 +2,12 @@
 
 use std::collections::BTreeSet;
 
-use committer::{Anchor, Call, record};
+use committer::{Anchor, Call, Committer, record};
 
-use crate::compare::{List, compare};
+use crate::compare::{List, lent};
 use crate::counts::{Counts, kind};
 use crate::known::Known;
-use crate::library::{Library, Side};
+use crate::library::{Library, with_lists};
 use crate::lists::{Growth, Taste, chained, removing};
 use crate::random::Random;
 use crate::rust::Rust;
@@ -19,6 +19,8 @@ const PLACES: usize = 20;
 const BUFFER: usize = 4096;
 /// It reads 65,536 bytes at most.
 const BYTES_MAX: usize = 59_000;
+/// Of the Rust's shuffle.
+const ORDER: u64 = 2026;
 /// So many points at least are left at the end.
 const LEFT_LEAST: usize = 16;
 
@@ -88,25 +90,27 @@ fn remove(n: u64) -> Option<Vec<Call>> {
     (kinds.len() > 1 && kinds.last() >= Some(&4)).then_some(list.calls)
 }
 
-/// The list on tables of `replay`, if no call is refused and the Rust answers as document 01.
+/// The list on tables of `replay`, its commits with their place lists, if no call is refused and the Rust answers as document 01.
 fn alike(list: List) -> Option<(List, Counts)> {
-    let list = List { places: PLACES, ..list };
+    let list = List { places: PLACES, order: ORDER, ..list };
     if !taken(&list.calls) {
         return None;
     }
     let mut counts = Counts::default();
-    compare::<Library>(&list, &mut counts).unwrap_or_else(|why| panic!("{why}"));
-    // commits and removes are also made with smaller buffers there, which the Rust doesn't have
-    let alike = counts.known.keys().all(|known| *known == Known::Entry(14)) && counts.memory_lesser == 0;
+    let (list, ended) = lent::<Library>(&list, &mut counts);
+    ended.unwrap_or_else(|why| panic!("{why}"));
+    // commits and removes are also made with smaller buffers there, and commits with damaged lists, which the Rust doesn't have
+    let no_answer = |known: &Known| [Known::Entry(6), Known::Entry(14)].contains(known);
+    let alike = counts.known.keys().all(no_answer) && counts.memory_lesser == 0;
     (alike && counts.refusals.is_empty()).then_some((list, counts))
 }
 
 /// Whether the library takes all calls, each with an answer that has room in the buffer of `replay`.
 fn taken(calls: &[Call]) -> bool {
-    let mut library = Library::new(PLACES);
-    calls.iter().all(|call| match library.call(call) {
-        Answer::Refused(_) => false,
-        Answer::Removed(told) => told.bytes() <= BUFFER,
+    let mut committer = Committer::new(PLACES);
+    calls.iter().all(|call| match committer.call(&with_lists(&committer, call)) {
+        committer::Answer::Refused(..) => false,
+        committer::Answer::Removed(told) => told.bytes() <= BUFFER,
         _ => true,
     })
 }
@@ -122,6 +126,7 @@ fn words_left(calls: &[Call]) -> usize {
 
 /// A line for each call, then the state and the points. The Rust's own assertions hold.
 fn played(calls: &[Call]) -> String {
+    oracle::set_shuffle_order(ORDER);
     let mut rust = Rust::strict();
     let mut text = String::new();
     for call in calls {
@@ -139,7 +144,7 @@ pub fn line(call: &Call, answer: &Answer) -> String {
         (Call::Gap, Answer::Said(yes)) => format!("gap {}", yes_or_no(*yes)),
         (Call::Drop(_), Answer::Said(yes)) => format!("drop {}", yes_or_no(*yes)),
         (_, Answer::Done) => "ok".into(),
-        (Call::Commit(_), Answer::Anchors(anchors)) => anchor_lines(anchors) + "ok",
+        (Call::Commit(..), Answer::Anchors(anchors)) => anchor_lines(anchors) + "ok",
         (Call::Remove { .. }, Answer::Removed(told)) => told.to_string() + "ok",
         (_, Answer::Refused(why)) if why.number == 13 => {
             anchor_lines(&why.finished) + &format!("refused 13 {}", why.round)
@@ -150,14 +155,9 @@ pub fn line(call: &Call, answer: &Answer) -> String {
     what + "\n"
 }
 
-/// A line for each anchor. The points of a round are a set in the Rust; a record has them by digest.
+/// A line for each anchor.
 fn anchor_lines(anchors: &[Anchor]) -> String {
-    let line = |anchor: &Anchor| {
-        let mut sorted = anchor.clone();
-        sorted.points.sort_unstable_by_key(|id| (id.round, id.digest));
-        format!("{sorted}\n")
-    };
-    anchors.iter().map(line).collect()
+    anchors.iter().map(|anchor| format!("{anchor}\n")).collect()
 }
 
 fn yes_or_no(yes: bool) -> &'static str {

@@ -19,6 +19,7 @@ pub fn shrink<S: Side>(list: &List, found: &Difference) -> (List, Difference) {
         let before = shown.list.clone();
         shown.fewer_calls();
         shown.fewer_places();
+        shown.plainer_order();
         shown.later_starts();
         shown.simpler_calls();
         shown.lower_rounds();
@@ -85,6 +86,15 @@ impl<S: Side> Shown<S> {
     fn fewer_places(&mut self) {
         for places in [1, 2, 4, 8, 16, 32] {
             if places < self.list.places && self.take(List { places, ..self.list.clone() }) {
+                return;
+            }
+        }
+    }
+
+    /// Nothing shuffled, or the first order.
+    fn plainer_order(&mut self) {
+        for order in [0, 1] {
+            if order < self.list.order && self.take(List { order, ..self.list.clone() }) {
                 return;
             }
         }
@@ -172,7 +182,7 @@ fn each_round(call: &mut Call, f: &mut impl FnMut(&mut u32)) {
             f(&mut with.bottom);
         }
         Call::Round { round, .. } | Call::Drop(round) | Call::Remove { round, .. } => f(round),
-        Call::Name(id) | Call::Certify(id) | Call::Commit(id) | Call::Outlook(id) => f(&mut id.round),
+        Call::Name(id) | Call::Certify(id) | Call::Commit(id, _) | Call::Outlook(id) => f(&mut id.round),
         Call::Resolve(id, info) => {
             f(&mut id.round);
             if info.proof {
@@ -185,7 +195,7 @@ fn each_round(call: &mut Call, f: &mut impl FnMut(&mut u32)) {
 
 fn each_digest(call: &mut Call, f: &mut impl FnMut(&mut [u8; 32])) {
     match call {
-        Call::Name(id) | Call::Certify(id) | Call::Commit(id) | Call::Outlook(id) => f(&mut id.digest),
+        Call::Name(id) | Call::Certify(id) | Call::Commit(id, _) | Call::Outlook(id) => f(&mut id.digest),
         Call::Resolve(id, info) => {
             f(&mut id.digest);
             f(&mut info.top_proof.digest);

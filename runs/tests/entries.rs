@@ -2,12 +2,15 @@
 //! Rust does by the entry or row.
 
 use committer::{Call, JournalDagEvent, PointId, PointInfo, Start};
-use runs::compare::{List, compare};
+use runs::compare::{List, lent};
 use runs::counts::Counts;
 use runs::known::Known;
 use runs::library::{Library, Side};
-use runs::lists::{digest, link, valid};
+use runs::lists::{commit, digest, link, valid};
 use runs::view::Answer;
+
+/// Of the Rust's shuffle.
+const ORDER: u64 = 1;
 
 /// 11.0.a and so on.
 fn id(round: u32, author: u32, letter: char) -> PointId {
@@ -58,15 +61,15 @@ fn list_a(after_gap: bool, certified: bool) -> Vec<Call> {
     if certified {
         calls.push(Call::Certify(id(11, 0, 'a')));
     }
-    calls.push(Call::Commit(id(13, 0, 'c')));
+    calls.push(commit(id(13, 0, 'c')));
     calls
 }
 
 /// The library's number, round and finished anchors at the last call, 0 if it isn't refused; and what the harness has met.
 fn played(calls: Vec<Call>) -> ((u32, u32, usize), Counts) {
-    let list = List { places: 12, calls };
     let mut counts = Counts::default();
-    compare::<Library>(&list, &mut counts).unwrap_or_else(|found| panic!("{found}"));
+    let (list, ended) = lent::<Library>(&List { places: 12, calls, order: ORDER }, &mut counts);
+    ended.unwrap_or_else(|found| panic!("{found}"));
     let mut library = Library::new(12);
     let last = list.calls.iter().map(|call| library.call(call)).last().expect("calls");
     let numbers = match last {
@@ -89,14 +92,14 @@ fn entries_1_3_12_14() {
     let one = Start { deduplicate_rounds: 5, ..start(10, 2, 1, None) };
     let mut calls = begun(one, 10);
     put(&mut calls, id(10, 0, 'a'), PointInfo { status: 3, ..PointInfo::default() });
-    calls.push(Call::Commit(id(10, 0, 'a')));
+    calls.push(commit(id(10, 0, 'a')));
     meets(calls, (15, 0, 0), Known::Entry(1));
     let mut calls = list_a(false, true);
     calls.push(Call::Drop(13));
     meets(calls, (0, 0, 0), Known::Entry(3));
     for (round, number) in [(11, 6), (10, 9)] {
         let mut calls = begun(start(10, 1, 1, None), 10);
-        calls.push(Call::Commit(id(round, 0, 'a')));
+        calls.push(commit(id(round, 0, 'a')));
         meets(calls, (number, 0, 0), Known::Entry(12));
     }
     meets(list_a(false, true), (0, 0, 1), Known::Entry(14));
@@ -111,7 +114,7 @@ fn entry_4() {
     put(&mut calls, c, proof(c, &[(0, 'a'), (1, 'b')]));
     put(&mut calls, id(13, 0, 'd'), proof(id(13, 0, 'd'), &[(0, 'c')]));
     put(&mut calls, id(14, 0, 'e'), trigger(&[(0, 'd')]));
-    calls.extend([Call::Certify(c), Call::Commit(id(14, 0, 'e'))]);
+    calls.extend([Call::Certify(c), commit(id(14, 0, 'e'))]);
     meets(calls, (13, 11, 1), Known::Entry(4));
 }
 
@@ -126,23 +129,50 @@ fn entry_5() {
         put(&mut calls, id(12, 0, 'c'), top(id(10, 0, 'z'), &[(0, low), (1, high)]));
         put(&mut calls, d, proof(d, &[(0, 'c')]));
         put(&mut calls, id(14, 0, 'e'), trigger(&[(0, 'd')]));
-        calls.extend([Call::Certify(id(12, 0, 'c')), Call::Commit(id(14, 0, 'e'))]);
+        calls.extend([Call::Certify(id(12, 0, 'c')), commit(id(14, 0, 'e'))]);
         let (given, _) = played(calls);
         assert_eq!(given, numbers);
     }
+}
+
+/// The commit with lists, 11.0.a and 11.1.b below the anchor 12.0.c; the Rust's own are lent by the harness.
+#[test]
+fn entry_6() {
+    let mut calls = begun(Start { deduplicate_rounds: 5, ..start(10, 2, 3, Some(0)) }, 14);
+    let [a, b, c, d] = [id(11, 0, 'a'), id(11, 1, 'b'), id(12, 0, 'c'), id(13, 0, 'd')];
+    put(&mut calls, a, includes(&[]));
+    put(&mut calls, b, includes(&[]));
+    put(&mut calls, c, top(id(10, 0, 'z'), &[(0, 'a'), (1, 'b')]));
+    put(&mut calls, d, proof(d, &[(0, 'c')]));
+    put(&mut calls, id(14, 0, 'e'), trigger(&[(0, 'd')]));
+    calls.push(Call::Certify(c));
+    let with_lists = |lists: &[u8]| {
+        let mut library = Library::new(12);
+        calls.iter().for_each(|call| assert_eq!(library.call(call), Answer::Done));
+        match library.call(&Call::Commit(id(14, 0, 'e'), lists.to_vec())) {
+            Answer::Anchors(anchors) => Ok(anchors[0].points.clone()),
+            Answer::Refused(why) => Err(why.number),
+            other => panic!("{other:?}"),
+        }
+    };
+    assert_eq!(with_lists(&[0, 0, 1]), Ok(vec![b, a, c]));
+    assert_eq!(with_lists(&[0, 1, 0]), Ok(vec![a, b, c]));
+    assert_eq!(with_lists(&[0, 0, 0]), Err(24));
+    calls.push(commit(id(14, 0, 'e')));
+    meets(calls, (0, 0, 1), Known::Entry(6));
 }
 
 #[test]
 fn entry_7() {
     let mut calls = begun(start(0, 1, 1, Some(0)), 3);
     three(&mut calls, 1, id(0, 0, 'z'));
-    calls.extend([Call::Certify(id(1, 0, 'a')), Call::Commit(id(3, 0, 'c'))]);
+    calls.extend([Call::Certify(id(1, 0, 'a')), commit(id(3, 0, 'c'))]);
     meets(calls, (0, 0, 1), Known::Entry(7));
     let mut calls = begun(start(0, 1, 1, None), 3);
     let e = id(0, 0, 'e');
     put(&mut calls, e, proof(e, &[]));
     three(&mut calls, 1, e);
-    calls.push(Call::Commit(id(3, 0, 'c')));
+    calls.push(commit(id(3, 0, 'c')));
     let (given, counts) = played(calls);
     assert_eq!(given, (16, 0, 0));
     assert_eq!(counts.tried.get(&(16, Known::Entry(7))), Some(&1), "{counts}");
@@ -175,7 +205,7 @@ fn entry_8() {
     ] {
         put(&mut calls, id, info);
     }
-    calls.extend([Call::Certify(id(5, 0, 'f')), Call::Commit(id(7, 0, 'h'))]);
+    calls.extend([Call::Certify(id(5, 0, 'f')), commit(id(7, 0, 'h'))]);
     calls.push(Call::Remove { round: 5, since: Some(0) });
     let mut met = [false; 2];
     for seed in 0..32 {
@@ -186,7 +216,7 @@ fn entry_8() {
         met[usize::from(counts.known.contains_key(&Known::Entry(8)))] = true;
     }
     assert_eq!(met, [true, true]);
-    let list = List { places: 12, calls };
+    let (list, _) = lent::<Library>(&List { places: 12, calls, order: ORDER }, &mut Counts::default());
     let mut library = Library::new(12);
     let Some(Answer::Removed(told)) = list.calls.iter().map(|call| library.call(call)).last() else {
         panic!("a remove");
@@ -225,7 +255,7 @@ fn two(told: Option<PointInfo>, used: Option<u32>) -> Vec<Call> {
     calls.push(Call::Name(id(10, 0, 'a')));
     calls.extend(told.map(|info| Call::Resolve(id(10, 0, 'a'), info)));
     put(&mut calls, id(11, 0, 'b'), trigger(&[(0, 'a')]));
-    calls.push(Call::Commit(id(11, 0, 'b')));
+    calls.push(commit(id(11, 0, 'b')));
     calls
 }
 
@@ -239,7 +269,7 @@ fn rows_14_to_16() {
     meets(two(None, Some(1)), (16, 0, 0), Known::Row(16));
     let mut calls = begun(start(10, 1, 1, None), 12);
     three(&mut calls, 10, id(11, 0, 'b'));
-    calls.push(Call::Commit(id(12, 0, 'c')));
+    calls.push(commit(id(12, 0, 'c')));
     meets(calls, (16, 0, 0), Known::Row(16));
 }
 
@@ -248,12 +278,12 @@ fn rows_17_18_20_22() {
     let with = Start { deduplicate_rounds: 5, bottom: 20, ..start(10, 2, 1, Some(0)) };
     let mut calls = begun(with, 23);
     three(&mut calls, 21, id(20, 0, 'z'));
-    calls.extend([Call::Certify(id(21, 0, 'a')), Call::Drop(10), Call::Gap, Call::Commit(id(23, 0, 'c'))]);
+    calls.extend([Call::Certify(id(21, 0, 'a')), Call::Drop(10), Call::Gap, commit(id(23, 0, 'c'))]);
     meets(calls, (17, 0, 0), Known::Row(17));
     meets(list_a(false, false), (18, 0, 0), Known::Row(18));
     meets(list_a(true, true), (20, 0, 0), Known::Row(20));
     let mut calls = begun(start(10, 1, 1, None), 12);
     three(&mut calls, 10, id(9, 0, 'z'));
-    calls.push(Call::Commit(id(12, 0, 'c')));
+    calls.push(commit(id(12, 0, 'c')));
     meets(calls, (22, 0, 0), Known::Row(22));
 }

@@ -3,8 +3,8 @@
 
 use std::marker::PhantomData;
 
-use committer::{Anchor, Call, JournalDagEvent, OUTLOOK_BYTES, PointId, Removal};
-use runs::compare::{Kind, List, compare};
+use committer::{Anchor, Call, JournalDagEvent, LOOK_BYTES, Look, OUTLOOK_BYTES_MAX, PointId, Removal};
+use runs::compare::{Difference, Kind, List, compare, lent};
 use runs::counts::Counts;
 use runs::library::{Library, Side};
 use runs::lists::{chained, grown, removing};
@@ -21,10 +21,13 @@ trait Fault {
 
     fn view(_view: &mut View) {}
 
-    /// the number of anchors that an outlook tells; what it wrote for each may be changed
-    fn outlook(_told: &mut [u8], count: u32) -> u32 {
+    /// the number of anchors that an outlook tells; what it wrote for these may be changed
+    fn outlook(_looks: &[Look], _told: &mut [u8], count: u32) -> u32 {
         count
     }
+
+    /// the lists that a commit is taken to be lent; an outlook has told the first anchor
+    fn lists(_first: &Look, _lists: &mut Vec<u8>) {}
 
     /// added to the fingerprint after a call with this answer
     fn written(_answer: &Answer) -> u64 {
@@ -51,7 +54,7 @@ impl<F: Fault> Side for Wrong<F> {
 
     fn call(&mut self, call: &Call) -> Answer {
         let before = self.view();
-        let answer = F::answer(call, &before, self.library.call(call));
+        let answer = F::answer(call, &before, self.library.call(&self.misread(call)));
         self.written += F::written(&answer);
         answer
     }
@@ -68,16 +71,35 @@ impl<F: Fault> Side for Wrong<F> {
 
     fn outlook(&self, trigger: &PointId, buffer: &mut [u8]) -> Result<u32, committer::Refused> {
         let count = self.library.outlook(trigger, buffer)?;
-        Ok(F::outlook(&mut buffer[..OUTLOOK_BYTES * count as usize], count))
+        let looks = self.library.looks(buffer, count);
+        Ok(F::outlook(&looks, buffer, count))
     }
 
-    fn would_commit(&self, trigger: &PointId) -> Result<Vec<Anchor>, committer::Refused> {
-        self.library.would_commit(trigger)
+    fn looks(&self, bytes: &[u8], count: u32) -> Vec<Look> {
+        self.library.looks(bytes, count)
+    }
+
+    fn would_commit(&self, trigger: &PointId, lists: &[u8]) -> Result<Vec<Anchor>, committer::Refused> {
+        self.library.would_commit(trigger, lists)
     }
 
     fn would_remove(&self, round: u32, since: Option<u32>, buffer: &mut [u8]) -> (Result<(), committer::Refused>, u64) {
         let (given, fingerprint) = self.library.would_remove(round, since, buffer);
         (F::cut(buffer.len(), given), fingerprint ^ self.written)
+    }
+}
+
+impl<F: Fault> Wrong<F> {
+    fn misread(&self, call: &Call) -> Call {
+        let mut call = call.clone();
+        if let Call::Commit(trigger, lists) = &mut call {
+            let mut buffer = vec![0; OUTLOOK_BYTES_MAX];
+            let count = self.library.outlook(trigger, &mut buffer).unwrap_or(0);
+            if let Some(first) = self.library.looks(&buffer, count.min(1)).first() {
+                F::lists(first, lists);
+            }
+        }
+        call
     }
 }
 
@@ -301,9 +323,21 @@ impl Fault for Number {
 struct Points;
 
 impl Fault for Points {
-    fn outlook(told: &mut [u8], count: u32) -> u32 {
+    fn outlook(looks: &[Look], told: &mut [u8], count: u32) -> u32 {
         if count > 1 {
-            told[2 * OUTLOOK_BYTES - 1] += 1;
+            told[looks[0].bytes() + LOOK_BYTES - 1] += 1;
+        }
+        count
+    }
+}
+
+/// Or one linked point too many in the lowest round.
+struct Linked;
+
+impl Fault for Linked {
+    fn outlook(looks: &[Look], told: &mut [u8], count: u32) -> u32 {
+        if count > 1 {
+            told[looks[0].bytes() + looks[1].bytes() - 1] += 1;
         }
         count
     }
@@ -313,7 +347,7 @@ impl Fault for Points {
 struct LeftOut;
 
 impl Fault for LeftOut {
-    fn outlook(_: &mut [u8], count: u32) -> u32 {
+    fn outlook(_: &[Look], _: &mut [u8], count: u32) -> u32 {
         count.saturating_sub(1)
     }
 }
@@ -321,14 +355,22 @@ impl Fault for LeftOut {
 #[test]
 fn faults_of_outlooks_are_caught() {
     assert_eq!(found_in_chains::<Points>(), Kind::Outlook);
+    assert_eq!(found_in_chains::<Linked>(), Kind::Outlook);
     assert_eq!(found_in_chains::<LeftOut>(), Kind::Outlook);
 }
 
-/// The list and the kind of the first difference in lists that commit.
-fn found_in_chains<F: Fault>() -> Kind {
+/// The first list that commits and shows a difference.
+fn first_chain<F: Fault>() -> (List, Difference) {
     let lists = (0..400).map(|n| chained(Random::of(7, 5, n)));
-    let found = lists.into_iter().find_map(|list| compare::<Wrong<F>>(&list, &mut Counts::default()).err());
-    found.expect("the fault is caught").kind
+    let mut shown = lists.filter_map(|list| {
+        let found = compare::<Wrong<F>>(&list, &mut Counts::default()).err()?;
+        Some((list, found))
+    });
+    shown.next().expect("the fault is caught")
+}
+
+fn found_in_chains<F: Fault>() -> Kind {
+    first_chain::<F>().1.kind
 }
 
 #[test]
@@ -337,6 +379,76 @@ fn faults_of_commits_are_caught() {
     assert_eq!(found_in_chains::<History>(), Kind::Records);
     assert_eq!(found_in_chains::<ConflictRound>(), Kind::Refused(13));
     assert_eq!(found_in_chains::<Number>(), Kind::Refused(14));
+}
+
+/// Each list of the first anchor.
+fn each_list(first: &Look, lists: &mut [u8], change: impl Fn(&mut [u8])) {
+    let mut rest = lists;
+    for count in &first.linked {
+        let (list, after) = rest.split_at_mut((*count as usize).min(rest.len()));
+        change(list);
+        rest = after;
+    }
+}
+
+/// Byte k is read as the position of rank k.
+struct Inverse;
+
+impl Fault for Inverse {
+    fn lists(first: &Look, lists: &mut Vec<u8>) {
+        each_list(first, lists, |list| {
+            let places = list.to_vec();
+            (0..).zip(places).for_each(|(position, place)| list[usize::from(place)] = position);
+        });
+    }
+}
+
+/// Points come out in the order of the lists, not in its reverse.
+struct Forwards;
+
+impl Fault for Forwards {
+    fn lists(first: &Look, lists: &mut Vec<u8>) {
+        each_list(first, lists, |list| list.reverse());
+    }
+}
+
+/// Ranks count new points only, so that an anchor reads as many bytes.
+struct NewOnly;
+
+impl Fault for NewOnly {
+    fn lists(first: &Look, lists: &mut Vec<u8>) {
+        let (new, all) = (first.points as usize, first.linked.iter().sum::<u32>() as usize);
+        lists.drain(new.min(lists.len())..all.min(lists.len()));
+    }
+}
+
+/// The lists are read as if nothing were shuffled.
+struct Unread;
+
+impl Fault for Unread {
+    fn lists(first: &Look, lists: &mut Vec<u8>) {
+        each_list(first, lists, |list| list.sort_unstable());
+    }
+}
+
+#[test]
+fn faults_of_place_lists_are_caught() {
+    assert_eq!(found_in_chains::<Inverse>(), Kind::Answer);
+    assert_eq!(found_in_chains::<Forwards>(), Kind::Answer);
+    assert_eq!(found_in_chains::<NewOnly>(), Kind::Refused(24));
+    assert_eq!(found_in_chains::<Unread>(), Kind::Answer);
+}
+
+/// Lists of one or two are their own inverse: one of three points is left.
+#[test]
+fn an_inverse_permutation_needs_three_points() {
+    let (list, found) = first_chain::<Inverse>();
+    let (short, _) = shrink::<Wrong<Inverse>>(&list, &found);
+    let (short, _) = lent::<Wrong<Inverse>>(&short, &mut Counts::default());
+    let Some(Call::Commit(_, lists)) = short.calls.last() else {
+        panic!("the difference shows at a commit");
+    };
+    assert!([[0, 1, 2, 0], [0, 2, 0, 1]].contains(&lists[..].try_into().unwrap()), "{}", notation::written(&short));
 }
 
 /// Changes what a remove reports.
@@ -517,6 +629,7 @@ fn the_library_passes_chains() {
         compare::<Library>(&list, &mut counts).unwrap_or_else(|found| panic!("{found}\n{}", notation::written(&list)));
     }
     assert!(counts.anchors > 100 && counts.outlooks_with_anchors() > 100, "{counts}");
+    assert!(counts.three_linked > 50 && counts.damaged_lists > 500, "{counts}");
 }
 
 /// A word is written where 9 is given.

@@ -33,15 +33,18 @@ fn lists_are_written_as_in_the_document() {
     let with = Start { genesis: 10, commit_history_rounds: 1, bottom: 10, peers: 3, used: Some(0), ..Start::default() };
     let top_proof = PointId { round: 10, author: 0, digest: digest(9) };
     let info = PointInfo { status: 1, trigger: true, top_proof, includes: vec![link(0, 5)], ..PointInfo::default() };
-    let calls = vec![Call::Start(with), Call::Name(point(11, 1, 7)), Call::Resolve(point(11, 1, 7), info), Call::Gap];
-    let list = List { places: 3, calls };
+    let commit = Call::Commit(point(11, 1, 7), vec![0, 1, 0]);
+    let calls =
+        vec![Call::Start(with), Call::Name(point(11, 1, 7)), Call::Resolve(point(11, 1, 7), info), Call::Gap, commit];
+    let list = List { places: 3, calls, order: 7 };
     assert_eq!(
         notation::written(&list),
-        "tables of 3 places\n\
+        "tables of 3 places, order 7\n\
          start(genesis 10, H 1, dedup 0, bottom 10, peers {0,1}, no gap, used 0)\n\
          name(11.1.b)\n\
          resolve(11.1.b, valid, trigger, top 10.0.c, includes 0:a)\n\
-         gap question\n",
+         gap question\n\
+         commit(11.1.b, lists 0 1 0)\n",
     );
     let records: Vec<u8> = list.calls.iter().flat_map(record::encode).collect();
     assert_eq!(notation::records(&list).len(), 2 * records.len());

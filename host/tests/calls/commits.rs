@@ -1,36 +1,38 @@
 //! Commits: K13 of document 01, list A of docs/DIFFERENCES.md, chains of anchors, each refusal, buffers.
 
-use committer::{Anchor, Committer, PointId, PointInfo, Refusal, Refused, Start, anchors};
+use std::cmp::Reverse;
+
+use committer::{Anchor, Answer, Call, Committer, PointId, PointInfo, Refusal, Refused, Start, anchors};
 
 use crate::common::{
-    assert_outlook, assert_unchanged, beginning, buffer, link, point, refuses, started, valid, version,
+    assert_outlook, assert_unchanged, beginning, buffer, link, lists, point, refuses, started, valid, version,
 };
 
 const LARGE: usize = committer::COMMIT_BYTES_MAX;
 
-fn put(committer: &mut Committer, id: PointId, info: PointInfo) {
+pub fn put(committer: &mut Committer, id: PointId, info: PointInfo) {
     committer.name(&id).expect("a new point");
     committer.resolve(&id, &info).expect("a named point");
 }
 
 /// A valid anchor whose top proof is this one.
-fn anchor(top_proof: PointId, includes: &[PointId]) -> PointInfo {
+pub fn anchor(top_proof: PointId, includes: &[PointId]) -> PointInfo {
     PointInfo { top_proof, ..valid(includes, &[]) }
 }
 
-fn proof(id: PointId, includes: &[PointId]) -> PointInfo {
+pub fn proof(id: PointId, includes: &[PointId]) -> PointInfo {
     PointInfo { proof: true, top_proof: id, ..valid(includes, &[]) }
 }
 
-fn trigger(includes: &[PointId]) -> PointInfo {
+pub fn trigger(includes: &[PointId]) -> PointInfo {
     PointInfo { trigger: true, ..valid(includes, &[]) }
 }
 
-/// Commits into a large buffer; the outlook before it says the same.
+/// Commits into a large buffer, with right lists; the outlook before it says the same.
 fn commit(committer: &mut Committer, id: &PointId) -> Result<Vec<Anchor>, (Refused, Vec<Anchor>)> {
     assert_outlook(committer, id);
     let mut bytes = buffer(LARGE);
-    let given = committer.commit(id, &mut bytes);
+    let given = committer.commit(id, &lists(committer, id), &mut bytes);
     let count = given.unwrap_or_else(|why| why.finished);
     let records = anchors(&bytes, count);
     assert_eq!(records.len(), count as usize);
@@ -44,7 +46,7 @@ fn refused(number: u32, round: u32, finished: u32) -> Refused {
 }
 
 /// Start at 10, used by 0, no gap.
-fn used() -> Start {
+pub fn used() -> Start {
     Start { used: Some(0), ..beginning() }
 }
 
@@ -62,7 +64,7 @@ fn k13() {
     put(&mut committer, t, trigger(&[p]));
     committer.certify(&a).unwrap();
     let records = commit(&mut committer, &t).unwrap();
-    let points = vec![low, left, right, a];
+    let points = vec![low, right, left, a];
     assert_eq!(records, [Anchor { anchor: a, proof: p, executable: true, previous: 0, points: points.clone() }]);
     for held in committer.points() {
         assert_eq!(held.is_committed(), points.contains(&held.id), "{held:?}");
@@ -130,7 +132,7 @@ fn list_a_and_its_bytes() {
     let mut list = list_a();
     let (a, p) = (point(11, 0), point(12, 0));
     let mut bytes = buffer(200);
-    assert_eq!(list.committer.commit(&list.trigger, &mut bytes), Ok(1));
+    assert_eq!(list.committer.commit(&list.trigger, &[0], &mut bytes), Ok(1));
     let id = |id: &PointId| [&id.round.to_be_bytes()[..], &[id.author as u8], &id.digest].concat();
     let record = [&id(&a)[..], &id(&p), &[1], &[0; 4], &[0, 0, 0, 1], &id(&a)].concat();
     assert_eq!(record.len(), 120);
@@ -157,18 +159,68 @@ fn chains_of_anchors() {
     }
 }
 
+/// As hosts commit: the outlook, the first anchor's lists by its counts, 24 after it, and again. The records are those of
+/// one commit with all lists.
+#[test]
+fn anchor_by_anchor() {
+    for count in 1..=9 {
+        let mut list = certified(chain(count, &short(), as_it_is));
+        let mut whole = list.committer.clone();
+        let expected = commit(&mut whole, &list.trigger).unwrap();
+        let mut records = Vec::new();
+        for left in (1..=count).rev() {
+            let Answer::Looked(looks) = list.committer.call(&Call::Outlook(list.trigger)) else { panic!("an outlook") };
+            assert_eq!(looks.len(), left as usize);
+            let mut bytes = buffer(LARGE);
+            let due = if left == 1 { Ok(1) } else { Err(refused(24, 0, 1)) };
+            assert_eq!(list.committer.commit(&list.trigger, &looks[0].lists_in_order(), &mut bytes), due);
+            records.extend(anchors(&bytes, 1));
+        }
+        assert_eq!(records, expected);
+        assert_unchanged(&list.committer, &whole);
+    }
+}
+
+/// Each byte of the lists wrong or missing in turn: 24 with the anchors before it. The lists from its anchor on then give
+/// what is left.
+#[test]
+fn each_byte_of_the_lists() {
+    let list = certified(chain(3, &short(), as_it_is));
+    let mut whole = list.committer.clone();
+    let mut large = buffer(LARGE);
+    assert_eq!(whole.commit(&list.trigger, &[0; 5], &mut large), Ok(3));
+    let records = anchors(&large, 3);
+    // the second and the third anchor have a point below them in their lists
+    for (at, finished) in [0, 1, 1, 2, 2].into_iter().enumerate() {
+        let mut wrong = [0; 5];
+        wrong[at] = 1;
+        for lists in [&wrong[..], &wrong[..at]] {
+            let mut committer = list.committer.clone();
+            let mut bytes = buffer(LARGE);
+            assert_eq!(committer.commit(&list.trigger, lists, &mut bytes), Err(refused(24, 0, finished as u32)));
+            let end = records[..finished].iter().map(Anchor::bytes).sum::<usize>();
+            assert_eq!(bytes[..end], large[..end]);
+            assert!(bytes[end..].iter().all(|byte| *byte == 0xa5));
+            let rest = &[0; 5][[0, 1, 3][finished]..];
+            assert_eq!(committer.commit(&list.trigger, rest, &mut bytes), Ok(3 - finished as u32));
+            assert_eq!(anchors(&bytes, 3 - finished as u32), records[finished..]);
+            assert_unchanged(&committer, &whole);
+        }
+    }
+}
+
 /// Every length up to that of two records: 21 with those that fit; what comes after is as if nothing had been between.
 #[test]
 fn buffers_of_every_length() {
     let list = certified(chain(2, &short(), as_it_is));
     let mut whole = list.committer.clone();
     let mut large = buffer(LARGE);
-    assert_eq!(whole.commit(&list.trigger, &mut large), Ok(2));
+    assert_eq!(whole.commit(&list.trigger, &[0; 3], &mut large), Ok(2));
     let (one, two) = (120, 120 + 83 + 2 * 37);
     for length in 0..=two + 3 {
         let mut committer = list.committer.clone();
         let mut bytes = buffer(length);
-        let given = committer.commit(&list.trigger, &mut bytes);
+        let given = committer.commit(&list.trigger, &[0; 3], &mut bytes);
         let (finished, end) = if length < one {
             (0, 0)
         } else if length < two {
@@ -186,7 +238,7 @@ fn buffers_of_every_length() {
                 assert_eq!(committer.summary().unwrap().last_committed_proof, Some(12));
                 assert_eq!(committer.points().iter().filter(|point| point.is_committed()).count(), 1);
                 let mut rest = buffer(two - one);
-                assert_eq!(committer.commit(&list.trigger, &mut rest), Ok(1));
+                assert_eq!(committer.commit(&list.trigger, &[0; 2], &mut rest), Ok(1));
                 assert_eq!(rest, large[one..two]);
                 assert_unchanged(&committer, &whole);
             }
@@ -396,18 +448,20 @@ fn ids_2_5_6_9() {
         (9, version(13, 0, 1)),
     ] {
         let mut bytes = buffer(300);
-        refuses(&mut committer, number, |c| c.commit(&id, &mut bytes));
+        refuses(&mut committer, number, |c| c.commit(&id, &[], &mut bytes));
         assert_eq!(bytes, buffer(300));
     }
     committer.name(&point(13, 2)).unwrap();
-    refuses(&mut committer, 9, |c| c.commit(&point(13, 2), &mut []));
-    refuses(&mut Committer::new(4), 2, |c| c.commit(&list.trigger, &mut []));
+    refuses(&mut committer, 9, |c| c.commit(&point(13, 2), &[], &mut []));
+    refuses(&mut Committer::new(4), 2, |c| c.commit(&list.trigger, &[], &mut []));
     // below the bottom, not a trigger, or at genesis: no anchors
     committer.resolve(&point(13, 2), &valid(&[], &[])).unwrap();
     let before = committer.clone();
     for id in [point(9, 0), point(0, 31), point(13, 2), point(11, 0)] {
-        assert_eq!(committer.commit(&id, &mut []), Ok(0), "{id:?}");
-        assert_unchanged(&committer, &before);
+        for lists in [&[][..], &[9, 9]] {
+            assert_eq!(committer.commit(&id, lists, &mut []), Ok(0), "{id:?}");
+            assert_unchanged(&committer, &before);
+        }
     }
 }
 
@@ -437,7 +491,7 @@ fn the_largest_history() {
     let records = commit(&mut committer, &t).unwrap();
     assert_eq!(records.len(), 1);
     assert_eq!(records[0].points.len(), 14 + 254 * 16 + 1);
-    assert!(records[0].points.is_sorted_by_key(|id| (id.round, id.digest)));
+    assert!(records[0].points.is_sorted_by_key(|id| (id.round, Reverse(id.digest))));
     assert_eq!(records[0].points.iter().map(|id| id.round).min(), Some(11));
 }
 
@@ -445,7 +499,7 @@ fn the_largest_history() {
 fn records_that_are_cut_short() {
     let mut list = certified(chain(3, &short(), as_it_is));
     let mut bytes = buffer(LARGE);
-    assert_eq!(list.committer.commit(&list.trigger, &mut bytes), Ok(3));
+    assert_eq!(list.committer.commit(&list.trigger, &[0; 5], &mut bytes), Ok(3));
     let whole = anchors(&bytes, 3);
     assert_eq!(anchors(&bytes, 2), whole[..2]);
     assert_eq!(anchors(&bytes[..120 + 156], 3), whole[..1]);

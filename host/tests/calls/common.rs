@@ -2,9 +2,10 @@
 
 use committer::sys::Memory;
 use committer::{
-    Committer, Link, OUTLOOK_BYTES, OUTLOOK_BYTES_MAX, PointId, PointInfo, Refusal, Refused, Start, Status, anchors,
-    looks,
+    Committer, Link, Look, OUTLOOK_BYTES_MAX, PointId, PointInfo, Refusal, Refused, Start, Status, anchors, looks,
 };
+
+use crate::model::Model;
 
 /// Genesis 10, H 2, bottom 10, all 32 peers.
 pub fn beginning() -> Start {
@@ -44,6 +45,17 @@ pub fn version(round: u32, author: u32, version: u32) -> PointId {
 
 pub fn point(round: u32, author: u32) -> PointId {
     version(round, author, 0)
+}
+
+/// A digest told by a letter.
+pub fn digest(letter: char) -> [u8; 32] {
+    let mut digest = [0; 32];
+    digest[0] = letter as u8;
+    digest
+}
+
+pub fn id(round: u32, author: u32, letter: char) -> PointId {
+    PointId { round, author, digest: digest(letter) }
 }
 
 pub fn link(to: &PointId) -> Link {
@@ -101,9 +113,18 @@ pub fn buffer(length: usize) -> Vec<u8> {
     vec![0xa5; length]
 }
 
-/// The outlook of a trigger is what a commit would do, once the gap question is put: the same anchors, the first with as
-/// many points (the histories of the others lose what the ones before them hold), or the same refusal. It changes
-/// nothing, and writes only if it isn't refused.
+/// Right lists for all anchors that a commit of this trigger finishes: those that leave each round by rising digest.
+pub fn lists(committer: &Committer, trigger: &PointId) -> Vec<u8> {
+    lists_of(&Model::of(committer).looks(trigger))
+}
+
+fn lists_of(looks: &[Look]) -> Vec<u8> {
+    looks.iter().flat_map(Look::lists_in_order).collect()
+}
+
+/// The outlook of a trigger is what a commit with right lists would do, once the gap question is put: the same anchors,
+/// the first with as many points and lists as long (the histories of the others lose what the ones before them hold),
+/// or the same refusal. It changes nothing, and writes only if it isn't refused.
 pub fn assert_outlook(committer: &Committer, trigger: &PointId) {
     let mut bytes = buffer(OUTLOOK_BYTES_MAX);
     let before = committer.clone();
@@ -112,18 +133,21 @@ pub fn assert_outlook(committer: &Committer, trigger: &PointId) {
     let mut copy = before.clone();
     // refused with 2 if nothing is started, as commit and outlook are
     let _ = copy.gap_question();
+    let ahead = Model::of(committer).looks(trigger);
     let mut records = buffer(committer::COMMIT_BYTES_MAX);
-    match copy.commit(trigger, &mut records) {
+    match copy.commit(trigger, &lists_of(&ahead), &mut records) {
         Ok(count) => {
             assert_eq!(told, Ok(count));
-            let (looks, anchors) = (looks(&bytes, count), anchors(&records, count));
-            assert_eq!(looks.len(), anchors.len());
-            for (n, (look, anchor)) in looks.iter().zip(&anchors).enumerate() {
-                assert_eq!(look.anchor, anchor.anchor);
+            let (looks, anchors) = (looks(&bytes, count, committer.parts().1), anchors(&records, count));
+            assert_eq!([looks.len(), anchors.len()], [ahead.len(); 2]);
+            assert_eq!(looks.first(), ahead.first());
+            for ((look, later), anchor) in looks.iter().zip(&ahead).zip(&anchors) {
                 let points = anchor.points.len() as u32;
-                assert!(if n == 0 { look.points == points } else { look.points >= points }, "{look} {anchor}");
+                assert_eq!((later.anchor, later.points), (anchor.anchor, points));
+                assert!(look.anchor == anchor.anchor && look.points >= points, "{look} {anchor}");
+                assert!(look.linked.iter().zip(&later.linked).all(|(now, then)| now >= then), "{look} {later}");
             }
-            assert_outlook_buffers(committer, trigger, &bytes, count);
+            assert_outlook_buffers(committer, trigger, &bytes, &looks);
         }
         Err(why) => {
             assert_eq!(told, Err(Refused { finished: 0, ..why }));
@@ -134,14 +158,14 @@ pub fn assert_outlook(committer: &Committer, trigger: &PointId) {
 }
 
 /// Just as many bytes as are needed will do; with one less, or none, it is 21 and no byte is written.
-fn assert_outlook_buffers(committer: &Committer, trigger: &PointId, whole: &[u8], count: u32) {
-    let length = OUTLOOK_BYTES * count as usize;
+fn assert_outlook_buffers(committer: &Committer, trigger: &PointId, whole: &[u8], told: &[Look]) {
+    let length = told.iter().map(Look::bytes).sum::<usize>();
     assert!(whole[length..].iter().all(|byte| *byte == 0xa5), "bytes beyond the outlook were touched");
     let mut bytes = buffer(length);
-    assert_eq!(committer.outlook(trigger, &mut bytes), Ok(count));
+    assert_eq!(committer.outlook(trigger, &mut bytes), Ok(told.len() as u32));
     assert_eq!(bytes, whole[..length]);
-    if count > 0 {
-        for short in [length - 1, length - OUTLOOK_BYTES, 0] {
+    if let Some(last) = told.last() {
+        for short in [length - 1, length - last.bytes(), 0] {
             let mut bytes = buffer(short);
             let due = Refused { refusal: Refusal::NoRoom, finished: 0 };
             assert_eq!(committer.outlook(trigger, &mut bytes), Err(due));

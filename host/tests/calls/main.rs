@@ -6,6 +6,7 @@ mod common;
 mod draws;
 mod full_size;
 mod games;
+mod lists;
 mod model;
 mod noise;
 mod outlooks;

@@ -1,11 +1,12 @@
-//! Document 01 once more, as plainly as it can be said: maps, and heights by following every path.
+//! Documents 01 and 02 once more, as plainly as they can be said: maps, and heights by following every path.
 
 use std::cmp::Reverse;
 use std::collections::{BTreeMap, BTreeSet};
 
 use committer::{
-    Anchor, Answer, Call, Entry, JournalDagEvent, Link, Look, Memory, MempoolPeerCounters, MempoolPeerStats, Point,
-    PointId, PointInfo, ROUND_MAX, Refusal, Refused, Removal, RetainedRound, Start, Status, Summary,
+    Anchor, Answer, Call, Committer, Entry, JournalDagEvent, LINK_WORDS, Link, Look, Memory, MempoolPeerCounters,
+    MempoolPeerStats, Point, PointId, PointInfo, ROUND_MAX, Refusal, Refused, Removal, RetainedRound, Start, Status,
+    Summary, digest_bytes,
 };
 
 pub struct Model {
@@ -15,6 +16,7 @@ pub struct Model {
     memory: Memory,
 }
 
+#[derive(Clone)]
 struct Store {
     with: Start,
     bottom: u32,
@@ -31,6 +33,7 @@ struct Store {
 
 type Key = (u32, [u8; 32]);
 
+#[derive(Clone)]
 struct Held {
     author: u32,
     info: Option<PointInfo>,
@@ -50,12 +53,22 @@ struct EnqueuedAnchor {
     prev_proof_round: u32,
 }
 
+/// The points linked in each round of a history, from the anchor's down; inside a round by rising digest.
+type Linked = Vec<Vec<Key>>;
+
 /// By key; 0 for none.
 struct Heights(BTreeMap<Key, u32>);
 
 impl Model {
     pub fn new(places: usize) -> Model {
         Model { places, store: None, memory: Memory { last: 0, entries: Vec::new() } }
+    }
+
+    /// What the tables hold.
+    pub fn of(committer: &Committer) -> Model {
+        let places = committer.parts().0.order.len();
+        let store = committer.summary().map(|summary| Store::of(committer, summary));
+        Model { places, store, memory: committer.memory() }
     }
 
     pub fn call(&mut self, call: &Call) -> Answer {
@@ -75,7 +88,7 @@ impl Model {
             Call::Certify(id) => store.certify(id),
             Call::Drop(round) => Ok(store.drop(*round)),
             Call::Gap => Ok(store.ask()),
-            Call::Commit(id) => Ok(store.commit(id)),
+            Call::Commit(id, lists) => Ok(store.commit(id, lists)),
             Call::Outlook(id) => Ok(store.outlook(id).map_or_else(|stop| refused(stop, Vec::new()), Answer::Looked)),
             Call::Reset => {
                 self.store = None;
@@ -121,6 +134,23 @@ impl Model {
             emit_first_after_gap: store.gap,
             rounds: store.rounds.values().copied().collect(),
         })
+    }
+
+    /// What an outlook would tell of each anchor once those before it are committed, up to the one that is refused: the
+    /// lengths of the place lists that a commit of this trigger reads.
+    pub fn looks(&self, trigger: &PointId) -> Vec<Look> {
+        let Some(mut store) = self.store.clone() else { return Vec::new() };
+        store.ask();
+        let heights = Heights(store.heights());
+        let mut looks = Vec::new();
+        for e in store.anchors(trigger, &heights).unwrap_or_default() {
+            let Ok(look) = store.look(&e, &heights) else { break };
+            store
+                .dequeue(&e, &heights, &mut &look.lists_in_order()[..])
+                .expect("the gap question is put, lists are right");
+            looks.push(look);
+        }
+        looks
     }
 
     /// The ids of the points, each with whether it is resolved.
@@ -172,6 +202,35 @@ impl Store {
             gap: with.after_gap.then_some(false),
             rounds: BTreeMap::from([(with.bottom, bottom)]),
             points: BTreeMap::new(),
+        }
+    }
+
+    fn of(committer: &Committer, summary: Summary) -> Store {
+        let (tables, state) = committer.parts();
+        let places = tables.order[..state.count].iter().map(|place| *place as usize);
+        let points = places.zip(committer.points()).map(|(place, point)| {
+            let info = point.status.map(|status| info_of(&tables.links[place * LINK_WORDS..], &point, status));
+            let held = Held { author: point.id.author, info, top: point.is_top(), committed: point.is_committed() };
+            ((point.id.round, point.id.digest), held)
+        });
+        let with = Start {
+            genesis: summary.genesis,
+            commit_history_rounds: summary.commit_history_rounds,
+            deduplicate_rounds: summary.deduplicate_rounds,
+            bottom: summary.bottom,
+            ..Start::default()
+        };
+        Store {
+            with,
+            bottom: summary.bottom,
+            top: summary.top,
+            last_committed_proof: summary.last_committed_proof,
+            last_anchor: summary.last_anchor,
+            full_history_bottom: summary.full_history_bottom,
+            first_executable: summary.first_executable,
+            gap: summary.emit_first_after_gap,
+            rounds: summary.rounds.iter().map(|round| (round.round, *round)).collect(),
+            points: points.collect(),
         }
     }
 
@@ -376,14 +435,14 @@ impl Store {
         }
     }
 
-    /// The tests of an anchor that commit and outlook share: 22, 13 to 15, 17, 18; its history, by rising round and
-    /// digest.
-    fn history(&self, anchor: &PointId, heights: &Heights) -> Result<Vec<PointId>, Stop> {
+    /// The tests of an anchor that commit and outlook share: 22, 13 to 15, 17, 18.
+    fn linked(&self, anchor: &PointId, heights: &Heights) -> Result<Linked, Stop> {
         if anchor.round <= self.with.genesis {
             return Err((22, 0));
         }
         let limit = (self.with.genesis + 1).max(anchor.round.saturating_sub(self.with.commit_history_rounds));
-        let needed = self.needed(anchor, limit.max(self.bottom));
+        let lowest = limit.max(self.bottom);
+        let needed = self.needed(anchor, lowest);
         let mut downwards: Vec<&Key> = needed.iter().collect();
         downwards.sort_by_key(|key| (Reverse(key.0), key.1));
         for key in downwards {
@@ -394,11 +453,28 @@ impl Store {
         if self.full_history_bottom <= limit && limit < self.bottom {
             return Err((17, 0));
         }
-        let history: Vec<Key> = needed.into_iter().filter(|key| !self.points[key].committed).collect();
-        if history.iter().any(|key| heights.of(key) == 0) {
+        if needed.iter().any(|key| !self.points[key].committed && heights.of(key) == 0) {
             return Err((18, 0));
         }
-        Ok(history.iter().map(|key| PointId { round: key.0, author: self.points[key].author, digest: key.1 }).collect())
+        let of_round = |round: u32| needed.range((round, [0; 32])..=(round, [255; 32])).copied().collect();
+        Ok((lowest..=anchor.round).rev().map(of_round).collect())
+    }
+
+    /// The history, rounds rising: of each round the points in the order that its list says, from the last to the first,
+    /// without those that are committed. 24 for a list that isn't each place from 0 once. The lists read are taken off.
+    fn ordered(&self, linked: &Linked, lists: &mut &[u8]) -> Result<Vec<PointId>, Stop> {
+        let mut rounds = Vec::new();
+        for keys in linked {
+            let (list, rest) = lists.split_at_checked(keys.len()).ok_or((24, 0))?;
+            let places: BTreeSet<usize> = list.iter().map(|place| usize::from(*place)).collect();
+            if !places.into_iter().eq(0..keys.len()) {
+                return Err((24, 0));
+            }
+            rounds.push(list.iter().rev().map(|place| &keys[usize::from(*place)]).collect::<Vec<_>>());
+            *lists = rest;
+        }
+        let out = rounds.into_iter().rev().flatten().filter(|key| !self.points[key].committed);
+        Ok(out.map(|key| PointId { round: key.0, author: self.points[key].author, digest: key.1 }).collect())
     }
 
     /// The anchor and what uncommitted points from it downwards link to.
@@ -417,15 +493,16 @@ impl Store {
 
     fn outlook(&self, id: &PointId) -> Result<Vec<Look>, Stop> {
         let heights = Heights(self.heights());
-        let anchors = self.anchors(id, &heights)?;
-        let look = |e: &EnqueuedAnchor| {
-            let points = self.history(&e.anchor, &heights)?.len() as u32;
-            Ok(Look { anchor: e.anchor, points })
-        };
-        anchors.iter().map(look).collect()
+        self.anchors(id, &heights)?.iter().map(|e| self.look(e, &heights)).collect()
     }
 
-    fn commit(&mut self, id: &PointId) -> Answer {
+    fn look(&self, e: &EnqueuedAnchor, heights: &Heights) -> Result<Look, Stop> {
+        let linked = self.linked(&e.anchor, heights)?;
+        let points = linked.iter().flatten().filter(|key| !self.points[key].committed).count() as u32;
+        Ok(Look { anchor: e.anchor, points, linked: linked.iter().map(|keys| keys.len() as u32).collect() })
+    }
+
+    fn commit(&mut self, id: &PointId, mut lists: &[u8]) -> Answer {
         let heights = Heights(self.heights());
         let mut finished = Vec::new();
         let anchors = match self.anchors(id, &heights) {
@@ -433,7 +510,7 @@ impl Store {
             Err(stop) => return refused(stop, finished),
         };
         for e in anchors {
-            match self.dequeue(&e, &heights) {
+            match self.dequeue(&e, &heights, &mut lists) {
                 Ok(anchor) => finished.push(anchor),
                 Err(stop) => return refused(stop, finished),
             }
@@ -441,12 +518,13 @@ impl Store {
         Answer::Handed(finished)
     }
 
-    /// One anchor handed out.
-    fn dequeue(&mut self, e: &EnqueuedAnchor, heights: &Heights) -> Result<Anchor, Stop> {
-        let points = self.history(&e.anchor, heights)?;
+    /// One anchor handed out; its lists are taken off.
+    fn dequeue(&mut self, e: &EnqueuedAnchor, heights: &Heights, lists: &mut &[u8]) -> Result<Anchor, Stop> {
+        let linked = self.linked(&e.anchor, heights)?;
         if self.gap == Some(false) {
             return Err((20, 0));
         }
+        let points = self.ordered(&linked, lists)?;
         let executable = self.first_executable <= e.anchor.round;
         let first = executable && self.gap == Some(true);
         let previous = e.prev_proof_round.saturating_sub(1);
@@ -663,6 +741,25 @@ impl Heights {
 fn refused((number, round): Stop, finished: Vec<Anchor>) -> Answer {
     let refusal = Refusal::of(number, round).expect("a number of the table");
     Answer::Refused(Refused { refusal, finished: finished.len() as u32 }, finished)
+}
+
+/// What a resolved point was resolved with: the words of its place, and what the point shows.
+fn info_of(words: &[u64], point: &Point, status: Status) -> PointInfo {
+    let digest = |at: usize| digest_bytes(&std::array::from_fn(|i| words[at + i]));
+    let links = |first: usize| {
+        let there = (0..32).filter(move |peer| words[8 + first + peer] != 0);
+        there.map(|peer| Link { peer: peer as u32, digest: digest(72 + 4 * (first + peer)) }).collect()
+    };
+    PointInfo {
+        status: status.number(),
+        proof: point.proof,
+        trigger: point.trigger,
+        cause: point.cause,
+        top_proof: PointId { round: words[1] as u32, author: words[2] as u32, digest: digest(3) },
+        evidence: words[0] as u32,
+        includes: links(0),
+        witness: links(32),
+    }
 }
 
 /// The include under the point's own author.

@@ -6,7 +6,7 @@ use committer::{Answer, Call, Committer, PLACES_MAX, PointId, PointInfo, STATE_B
 use crate::common::{
     Noise, add, assert_outlook, assert_unchanged, beginning, buffer, fill_memory, point, started, valid,
 };
-use crate::outlooks::two_anchors;
+use crate::outlooks::{trigger_of_two, two_anchors};
 use crate::removes::{board, two_proofs_committed};
 
 /// One call of each kind but start, with arguments made up.
@@ -21,7 +21,7 @@ fn calls(noise: &mut Noise) -> Vec<Call> {
         Call::Name(id),
         Call::Resolve(id, info),
         Call::Certify(id),
-        Call::Commit(id),
+        Call::Commit(id, vec![0; noise.below(9) as usize]),
         Call::Outlook(id),
         Call::Drop(round),
         Call::Remove { round: noise.below(40), since: noise.one_in(2).then(|| noise.below(40)) },
@@ -274,12 +274,12 @@ fn one_changed_bit() {
 #[test]
 fn one_changed_bit_before_an_outlook() {
     let board = two_anchors(true);
-    let mut refused = [0; 24];
+    let mut refused = [0; 25];
     for seed in 0..3000 {
         let mut committer = board.clone();
         flip(&mut committer, &mut Noise::new(seed));
-        assert_outlook(&committer, &point(16, 0));
-        refused[number(&committer.call(&Call::Outlook(point(16, 0)))) as usize] += 1;
+        assert_outlook(&committer, &trigger_of_two());
+        refused[number(&committer.call(&Call::Outlook(trigger_of_two()))) as usize] += 1;
     }
     assert!(refused[0] > 100 && refused[2] > 100 && refused[3..].iter().sum::<u32>() > 20, "{refused:?}");
 }

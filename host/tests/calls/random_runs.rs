@@ -3,19 +3,25 @@
 
 use std::collections::BTreeMap;
 
-use committer::{Answer, Call, Committer, Link, PLACES_MAX, PointId, PointInfo, Start};
+use committer::{Anchor, Answer, Call, Committer, Link, PLACES_MAX, PointId, PointInfo, Start};
 
 use crate::common::{Noise, assert_outlook, assert_unchanged, version};
 use crate::model::Model;
 
 struct Run {
     noise: Noise,
+    /// of place lists alone
+    lists: Noise,
     committer: Committer,
     model: Model,
     /// how many calls of a name were answered with a number, 0 if not refused
     answers: BTreeMap<(&'static str, u32), u32>,
     /// how many anchors commits handed out, and outlooks told
     anchors: [u32; 2],
+    /// how many records have three points or more of a round, not by falling digest
+    mixed: u32,
+    /// how many commits were refused with 24 after an anchor
+    stopped: u32,
     /// how many events of a kind, and stats of peers, removes reported
     events: [u32; 6],
     peers: u32,
@@ -29,10 +35,13 @@ impl Run {
     fn new(seed: u64, places: usize, authors: u32) -> Run {
         Run {
             noise: Noise::new(seed),
+            lists: Noise::new(seed + 2_000_000),
             committer: Committer::new(places),
             model: Model::new(places),
             answers: BTreeMap::new(),
             anchors: [0; 2],
+            mixed: 0,
+            stopped: 0,
             events: [0; 6],
             peers: 0,
             authors,
@@ -47,7 +56,14 @@ impl Run {
         assert_eq!(answer, expected, "{call:?}");
         match &answer {
             Answer::Refused(why, _) if why.finished == 0 => assert_unchanged(&self.committer, &before),
-            Answer::Handed(anchors) => self.anchors[0] += anchors.len() as u32,
+            Answer::Refused(why, finished) => {
+                self.mixed += mixed(finished);
+                self.stopped += u32::from(why.number() == 24);
+            }
+            Answer::Handed(anchors) => {
+                self.anchors[0] += anchors.len() as u32;
+                self.mixed += mixed(anchors);
+            }
             Answer::Looked(looks) => self.anchors[1] += looks.len() as u32,
             Answer::Removed(told) => {
                 told.events.iter().for_each(|event| self.events[event.kind() as usize] += 1);
@@ -55,7 +71,7 @@ impl Run {
             }
             _ => {}
         }
-        if let Call::Outlook(trigger) | Call::Commit(trigger) = call {
+        if let Call::Outlook(trigger) | Call::Commit(trigger, _) = call {
             assert_outlook(&before, trigger);
         }
         *self.answers.entry((name(call), number(&answer))).or_insert(0) += 1;
@@ -76,7 +92,7 @@ impl Run {
         match self.noise.below(100) {
             0..10 => self.any_round(),
             10..41 => Call::Name(self.any_id()),
-            41..43 => Call::Commit(self.any_trigger()),
+            41..43 => self.any_commit(),
             43..45 => Call::Outlook(self.any_trigger()),
             45..75 => self.any_resolve(),
             75..90 => Call::Certify(self.any_known()),
@@ -148,6 +164,34 @@ impl Run {
             return self.any_known();
         }
         triggers[self.noise.below(triggers.len() as u32) as usize]
+    }
+
+    /// A commit whose lists mostly are right.
+    fn any_commit(&mut self) -> Call {
+        let trigger = self.any_trigger();
+        let mut lists = self.any_lists(&trigger);
+        match (self.lists.below(6), lists.len() as u32) {
+            (0, n) if n > 0 => lists[self.lists.below(n) as usize] = self.lists.below(5) as u8,
+            (1, n) if n > 0 => lists.truncate(self.lists.below(n) as usize),
+            (2, _) => lists.extend([self.lists.word() as u8; 3]),
+            _ => {}
+        }
+        Call::Commit(trigger, lists)
+    }
+
+    /// Right lists for all anchors of a commit, each shuffled.
+    fn any_lists(&mut self, trigger: &PointId) -> Vec<u8> {
+        let looks = self.model.looks(trigger);
+        looks.iter().flat_map(|look| &look.linked).flat_map(|length| self.shuffled(*length)).collect()
+    }
+
+    /// The places below n in any order.
+    fn shuffled(&mut self, n: u32) -> Vec<u8> {
+        let mut list: Vec<u8> = (0..n as u8).collect();
+        for last in (1..n).rev() {
+            list.swap(last as usize, self.lists.below(last + 1) as usize);
+        }
+        list
     }
 
     /// A round that mostly isn't above the last anchor.
@@ -230,7 +274,7 @@ impl Run {
     fn after_row(&mut self) {
         let call = match self.noise.below(28) {
             0..9 => Call::Outlook(self.any_trigger()),
-            9..15 => Call::Commit(self.any_trigger()),
+            9..15 => self.any_commit(),
             15..17 => Call::Gap,
             17..19 => Call::Drop(self.any_drop()),
             19 => self.any_call(),
@@ -296,6 +340,13 @@ impl Run {
     }
 }
 
+/// How many of these have three points or more of a round, not by falling digest.
+fn mixed(anchors: &[Anchor]) -> u32 {
+    let of_round = |a: &PointId, b: &PointId| a.round == b.round;
+    let is_mixed = |points: &[PointId]| points.len() > 2 && !points.is_sorted_by(|a, b| a.digest > b.digest);
+    anchors.iter().filter(|anchor| anchor.points.chunk_by(of_round).any(is_mixed)).count() as u32
+}
+
 fn name(call: &Call) -> &'static str {
     match call {
         Call::Start(_) => "start",
@@ -306,7 +357,7 @@ fn name(call: &Call) -> &'static str {
         Call::Drop(_) => "drop",
         Call::Gap => "gap",
         Call::Reset => "reset",
-        Call::Commit(_) => "commit",
+        Call::Commit(..) => "commit",
         Call::Outlook(_) => "outlook",
         Call::Remove { .. } => "remove",
     }
@@ -377,6 +428,7 @@ fn small_boards() {
 fn boards_that_commit() {
     let mut answers = Answers::new();
     let mut anchors = [0; 2];
+    let (mut mixed, mut stopped) = (0, 0);
     for seed in 0..250 {
         let mut run = Run::new(seed, 130, 1 + seed as u32 % 3);
         let noise = &mut run.noise;
@@ -401,10 +453,13 @@ fn boards_that_commit() {
         }
         add(&mut answers, &run.answers);
         anchors = [anchors[0] + run.anchors[0], anchors[1] + run.anchors[1]];
+        mixed += run.mixed;
+        stopped += run.stopped;
     }
-    assert_met(&answers, 10, &[("commit", &[0, 13, 14, 16, 18, 20]), ("outlook", &[0, 13, 14, 15, 16, 17, 18])]);
+    assert_met(&answers, 10, &[("commit", &[0, 13, 14, 16, 18, 20, 24]), ("outlook", &[0, 13, 14, 15, 16, 17, 18])]);
     assert_met(&answers, 10, &[("remove", &[0, 23])]);
-    assert!(!answers.contains_key(&("outlook", 20)));
+    assert!(!answers.contains_key(&("outlook", 20)) && !answers.contains_key(&("outlook", 24)));
+    assert!(mixed >= 20 && stopped >= 10, "records of three in a round, 24 after an anchor: {mixed}, {stopped}");
     assert!(anchors[0] >= 100 && anchors[1] >= 500, "handed out and told: {anchors:?}");
 }
 
@@ -433,7 +488,9 @@ fn boards_that_remove() {
             if top % 2 == 1 {
                 run.make(&Call::Gap);
                 run.make(&Call::Certify(version(top - 2, 0, 0)));
-                run.make(&Call::Commit(version(top, 0, 0)));
+                let trigger = version(top, 0, 0);
+                let lists = run.any_lists(&trigger);
+                run.make(&Call::Commit(trigger, lists));
             }
             if !run.noise.one_in(3) {
                 let call = run.any_remove();

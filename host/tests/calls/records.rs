@@ -34,7 +34,8 @@ fn one_of_each() -> Vec<Call> {
         Call::Resolve(id, info),
         Call::Resolve(id, PointInfo { status: 255, ..PointInfo::default() }),
         Call::Certify(id),
-        Call::Commit(id),
+        Call::Commit(id, vec![2, 0, 1, 255]),
+        Call::Commit(id, vec![]),
         Call::Remove { round: 77, since: Some(12) },
         Call::Remove { round: 77, since: None },
         Call::Drop(4_000_000_000),
@@ -62,7 +63,7 @@ fn bytes_of_records() {
     assert_eq!(encode(&Call::Drop(0x0102_0304)), [0, 0, 0, 6, 1, 8, 1, 2, 3, 4]);
     assert_eq!(encode(&Call::Remove { round: 1, since: Some(2) }), [0, 0, 0, 11, 1, 7, 0, 0, 0, 1, 1, 0, 0, 0, 2]);
     let lengths: Vec<usize> = one_of_each().iter().map(|call| encode(call).len() - 6).collect();
-    assert_eq!(lengths, [22, 22, 8, 37, 82 + 34 * 33, 82, 37, 37, 9, 9, 4, 0, 0, 37]);
+    assert_eq!(lengths, [22, 22, 8, 37, 82 + 34 * 33, 82, 37, 41, 37, 9, 9, 4, 0, 0, 37]);
     let start = encode(&one_of_each()[0]);
     assert_eq!(start[6..], [0, 0, 0, 1, 0, 0, 0, 2, 0, 0, 0, 3, 0, 0, 0, 4, 0, 0, 0, 5, 1, 6]);
     assert_eq!(encode(&one_of_each()[1])[27], 255);
@@ -79,7 +80,7 @@ fn broken_records() {
         for length in 0..whole.len() {
             assert_eq!(decode(&whole[..length]), Err(Broken { at: 0 }), "cut to {length}");
         }
-        // a version or a kind that is unknown, one byte more or less than the kind's
+        // a version or a kind that is unknown, one byte more or less than the kind's; lists may have any length
         let mut version = whole.clone();
         version[4] = 2;
         let mut kind = whole.clone();
@@ -90,9 +91,12 @@ fn broken_records() {
         let mut shorter = whole.clone();
         shorter.pop();
         shorter[2..4].copy_from_slice(&(whole.len() as u16 - 5).to_be_bytes());
-        for bytes in [version, kind, longer, shorter] {
+        for bytes in [version, kind] {
             assert_eq!(decode(&bytes), Err(Broken { at: 0 }));
         }
+        let lists = if let Call::Commit(_, lists) = &call { Some(lists.len()) } else { None };
+        assert_eq!(decode(&longer).is_ok(), lists.is_some());
+        assert_eq!(decode(&shorter).is_ok(), lists.is_some_and(|length| length > 0));
     }
     assert_eq!(decode(&[0, 0, 0, 1, 1]), Err(Broken { at: 0 }));
     let long = [vec![0, 0, 0x10, 1, 1, 9], vec![0; 5000]].concat();
@@ -100,6 +104,17 @@ fn broken_records() {
     let mut two = [encode(&Call::Gap), encode(&Call::Reset)].concat();
     two[10] = 9;
     assert_eq!(calls(&two).collect::<Vec<_>>(), [Ok(Call::Gap), Err(Broken { at: 6 })]);
+}
+
+/// A record has room for 4,057 bytes of lists.
+#[test]
+fn the_longest_lists() {
+    let commit = |length| Call::Commit(point(11, 0), vec![7; length]);
+    let whole = encode(&commit(4057));
+    assert_eq!((whole.len(), decode(&whole)), (4100, Ok((commit(4057), 4100))));
+    assert_eq!(encode(&commit(4058)), whole);
+    let longer = [&[0, 0, 0x10, 1], &whole[4..], &[7]].concat();
+    assert_eq!(decode(&longer), Err(Broken { at: 0 }));
 }
 
 /// Numbers that have no room in a record are recorded so that the answer is the same.

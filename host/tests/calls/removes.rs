@@ -5,18 +5,7 @@ use committer::{
     Start, Status, removal,
 };
 
-use crate::common::{assert_unchanged, buffer, refuses};
-
-/// A digest told by a letter.
-fn digest(letter: char) -> [u8; 32] {
-    let mut digest = [0; 32];
-    digest[0] = letter as u8;
-    digest
-}
-
-fn id(round: u32, author: u32, letter: char) -> PointId {
-    PointId { round, author, digest: digest(letter) }
-}
+use crate::common::{assert_unchanged, buffer, digest, id, refuses};
 
 fn link(&(peer, letter): &(u32, char)) -> Link {
     Link { peer, digest: digest(letter) }
@@ -58,14 +47,14 @@ fn put(calls: &mut Vec<Call>, id: PointId, info: PointInfo) {
     calls.extend([Call::Name(id), Call::Resolve(id, info)]);
 }
 
-/// An anchor by 0, its proof and its trigger, one above the other, and the commit.
+/// An anchor by 0 without links, its proof and its trigger, one above the other, and the commit.
 fn anchor(calls: &mut Vec<Call>, round: u32, letters: [char; 3], top_proof: PointId) {
     let [f, g, h] = letters;
     put(calls, id(round, 0, f), PointInfo { top_proof, ..valid() });
     let proof = id(round + 1, 0, g);
     put(calls, proof, PointInfo { proof: true, top_proof: proof, ..includes(&[(0, f)]) });
     put(calls, id(round + 2, 0, h), PointInfo { trigger: true, ..includes(&[(0, g)]) });
-    calls.extend([Call::Certify(id(round, 0, f)), Call::Commit(id(round + 2, 0, h))]);
+    calls.extend([Call::Certify(id(round, 0, f)), Call::Commit(id(round + 2, 0, h), vec![0])]);
 }
 
 const FGH: [char; 3] = ['f', 'g', 'h'];

@@ -7,7 +7,8 @@ use std::hint::black_box;
 use std::time::Instant;
 
 use committer::{Call, Committer, KEY_WORDS, LINK_WORDS, Link, PLACES_MAX, PointId, PointInfo, Start, Tables};
-use runs::lists::digest;
+use runs::compare::in_a_row;
+use runs::lists::{commit, digest};
 use runs::rust::Rust;
 use runs::view::{Answer, Told};
 
@@ -40,6 +41,7 @@ struct Times {
 }
 
 fn main() {
+    oracle::set_shuffle_order(oracle::OWN_ORDER);
     print_machine();
     let times: Vec<Times> = SIZES.into_iter().map(measured).collect();
     print_calls(&times);
@@ -235,18 +237,26 @@ fn print_commits() {
     }
 }
 
+/// The place lists of the Rust's commit.
+fn lists(calls: &[Call], trigger: &PointId) -> Vec<u8> {
+    let mut rust = Rust::after(calls);
+    rust.call(&commit(*trigger));
+    in_a_row(rust.place_lists())
+}
+
 /// The commit, the table test, and the one less the other.
 fn our_commit(points: u32, calls: &[Call], trigger: &PointId) -> [f64; 3] {
     let mut before = Committer::new(PLACES_MAX);
     calls.iter().for_each(|call| take(&mut before, call));
     let mut work = before.clone();
     let mut buffer = vec![0; committer::COMMIT_BYTES_MAX];
+    let lists = lists(calls, trigger);
     let mut times: [Vec<f64>; 3] = Default::default();
     for _ in 0..repetitions(points) {
         restore(&mut work, &before, points + 2);
         let test = clock(|| work.gap_question().expect("started"));
         restore(&mut work, &before, points + 2);
-        let ours = clock(|| assert_eq!(work.commit(trigger, &mut buffer), Ok(1)));
+        let ours = clock(|| assert_eq!(work.commit(trigger, &lists, &mut buffer), Ok(1)));
         assert_eq!(committer::anchors(&buffer, 1)[0].points.len(), points as usize);
         for (times, time) in times.iter_mut().zip([ours, test, ours - test]) {
             times.push(time);
@@ -256,7 +266,7 @@ fn our_commit(points: u32, calls: &[Call], trigger: &PointId) -> [f64; 3] {
 }
 
 fn rust_commit(points: u32, calls: &[Call], trigger: &PointId) -> f64 {
-    let commit = Call::Commit(*trigger);
+    let commit = commit(*trigger);
     let mut times = Vec::new();
     for _ in 0..(40_000 / points as usize).clamp(25, 200) {
         let mut rust = Rust::after(calls);
@@ -323,7 +333,8 @@ fn our_outlook(anchors: u32, calls: &[Call], trigger: &PointId) -> (usize, [f64;
     let mut before = Committer::new(PLACES_MAX);
     calls.iter().for_each(|call| take(&mut before, call));
     let mut work = before.clone();
-    let mut buffer = vec![0; committer::COMMIT_BYTES_MAX];
+    let mut buffer = vec![0; committer::COMMIT_BYTES_MAX.max(committer::OUTLOOK_BYTES_MAX)];
+    let lists = lists(calls, trigger);
     let mut points = 0;
     let mut times: [Vec<f64>; 3] = Default::default();
     for _ in 0..repetitions(held) {
@@ -332,7 +343,7 @@ fn our_outlook(anchors: u32, calls: &[Call], trigger: &PointId) -> (usize, [f64;
         restore(&mut work, &before, held);
         let outlook = clock(|| assert_eq!(work.outlook(trigger, &mut buffer), Ok(anchors)));
         restore(&mut work, &before, held);
-        let commit = clock(|| assert_eq!(work.commit(trigger, &mut buffer), Ok(anchors)));
+        let commit = clock(|| assert_eq!(work.commit(trigger, &lists, &mut buffer), Ok(anchors)));
         points = committer::anchors(&buffer, anchors).iter().map(|anchor| anchor.points.len()).sum();
         for (times, time) in times.iter_mut().zip([outlook, commit, test]) {
             times.push(time);
@@ -419,7 +430,8 @@ impl Removed {
         for (id, info) in [anchor, proof, trigger].into_iter().zip(infos) {
             calls.extend([Call::Name(id), Call::Resolve(id, info)]);
         }
-        calls.extend([Call::Certify(anchor), Call::Commit(trigger)]);
+        // the anchor is all of its history
+        calls.extend([Call::Certify(anchor), Call::Commit(trigger, vec![0])]);
         calls
     }
 

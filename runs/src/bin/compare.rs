@@ -6,7 +6,7 @@ use std::process::ExitCode;
 use std::sync::atomic::{AtomicBool, Ordering};
 use std::time::Instant;
 
-use runs::compare::{Difference, List, compare};
+use runs::compare::{Difference, List, compare, lent};
 use runs::counts::Counts;
 use runs::known::Known;
 use runs::library::Library;
@@ -30,6 +30,10 @@ const CALLS_LEAST: u64 = 100_000;
 /// Anchor records that both handed out, and commits refused with 13, 14, 15, 16, 18, 20 that the Rust was given.
 const ANCHORS_LEAST: u64 = 5_000;
 const COMMITS_LEAST: u64 = 100;
+/// Of the records those with three linked points or more in a round.
+const THREE_LEAST: u64 = 5_000;
+/// Commits with a damaged place list.
+const DAMAGED_LISTS_LEAST: u64 = 5_000;
 /// Outlooks that tell anchors.
 const OUTLOOKS_LEAST: u64 = 5_000;
 /// Removes that both took, events of each kind that both reported, events with another proof in the Rust.
@@ -88,12 +92,16 @@ fn seed() -> Option<u64> {
 fn work(seed: u64, worker: u64, stop: &AtomicBool) -> (Counts, Option<Failure>) {
     oracle::set_hash_seed(seed.wrapping_mul(2).wrapping_add(worker));
     let mut counts = Counts::default();
-    for (n, task) in (0..).zip(tasks(seed)) {
+    for (n, mut task) in (0..).zip(tasks(seed)) {
         if stop.load(Ordering::Relaxed) {
             break;
         }
         if n % 2 != worker && !task.twice {
             continue;
+        }
+        // half of the lists of either worker
+        if oracle::HAS_OWN_ORDER && n / 2 % 2 == 0 {
+            task.list.order = oracle::OWN_ORDER;
         }
         *counts.lists.entry(task.family).or_default() += 1;
         if let Err(found) = compare::<Library>(&task.list, &mut counts) {
@@ -140,6 +148,7 @@ fn report((task, found): &Failure) -> ExitCode {
     println!("\nA difference that docs/DIFFERENCES.md doesn't name, in a list of the family '{}'.", task.family);
     println!("{found}");
     let (list, found) = shrink::<Library>(&task.list, found);
+    let (list, _) = lent::<Library>(&list, &mut Counts::default());
     println!("\nThe shortest list found:\n{}\n{found}", notation::written(&list));
     println!("\nIts records:\n{}", notation::records(&list));
     ExitCode::FAILURE
@@ -158,6 +167,12 @@ fn enough(counts: &Counts) -> ExitCode {
     }
     if counts.anchors < ANCHORS_LEAST {
         println!("{} anchor records were compared only, not {ANCHORS_LEAST}", counts.anchors);
+        good = false;
+    }
+    let (three, lists) = (counts.three_linked, counts.damaged_lists);
+    if three < THREE_LEAST || lists < DAMAGED_LISTS_LEAST {
+        println!("{three} records with three linked points were compared, not {THREE_LEAST}, or");
+        println!("{lists} damaged place lists were tried, not {DAMAGED_LISTS_LEAST}");
         good = false;
     }
     let outlooks = counts.outlooks_with_anchors();

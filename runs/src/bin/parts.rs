@@ -1,10 +1,14 @@
-//! Writes the recorded runs of `crates/recorded` anew: parts 0 to 102 as they stand in FOLDER/stdin, the parts of remove, the sample that
-//! `record` wrote into SAMPLE, and the part that is cut short. Texts are what the library answers, those of the sample the Rust's.
+//! Writes the recorded runs of `crates/recorded` anew: parts 0 to 102 as they stand in FOLDER/stdin, their commits with the Rust's place
+//! lists, the parts of remove and of place lists, the sample that `record` wrote into SAMPLE, and the part that is cut short. Texts are what
+//! the library answers, those of the sample the Rust's.
 //!
 //!     cargo run --release --offline --bin parts -- FOLDER SAMPLE
 
 use committer::{Anchor, Answer, Look};
 use committer::{Call, Committer, Link, PointId, PointInfo, Start, record};
+use runs::compare::{List, lent};
+use runs::counts::Counts;
+use runs::library::Library;
 use std::fs;
 use std::process::ExitCode;
 
@@ -51,7 +55,7 @@ fn anchor(calls: &mut Vec<Call>, round: u32, letters: [char; 3], top_proof: Poin
     let proof = id(round + 1, 0, g);
     put(calls, proof, PointInfo { proof: true, top_proof: proof, ..includes(&[(0, f)]) });
     put(calls, id(round + 2, 0, h), PointInfo { trigger: true, ..includes(&[(0, g)]) });
-    calls.extend([Call::Certify(id(round, 0, f)), Call::Commit(id(round + 2, 0, h))]);
+    calls.extend([Call::Certify(id(round, 0, f)), Call::Commit(id(round + 2, 0, h), vec![0])]);
 }
 const FGH: [char; 3] = ['f', 'g', 'h'];
 fn list(with: &Start, round: u32, points: Points) -> Vec<Call> {
@@ -103,6 +107,80 @@ fn retained(c: PointInfo, e: PointInfo, more: Points) -> Vec<Call> {
     with(list(&start(0b11), 7, points), [remove(7, Some(4))])
 }
 
+// ---- place lists (02, N1)
+
+/// Anchor, proof and trigger, the anchor with these links and this top proof, certified.
+fn chain(calls: &mut Vec<Call>, round: u32, letters: [char; 3], info: PointInfo) {
+    let [d, e, f] = letters;
+    put(calls, id(round, 0, d), info);
+    let proof = id(round + 1, 0, e);
+    put(calls, proof, PointInfo { proof: true, top_proof: proof, ..includes(&[(0, d)]) });
+    put(calls, id(round + 2, 0, f), PointInfo { trigger: true, ..includes(&[(0, e)]) });
+    calls.push(Call::Certify(id(round, 0, d)));
+}
+const DEF: [char; 3] = ['d', 'e', 'f'];
+fn from_10(commit_history_rounds: u32, peers: u32) -> Start {
+    Start { genesis: 10, commit_history_rounds, bottom: 10, peers, used: Some(0), ..Start::default() }
+}
+fn under(l: &[(u32, char)]) -> PointInfo {
+    PointInfo { top_proof: id(10, 0, 'z'), ..includes(l) }
+}
+/// K13: 11.0.a, 12.0.b, 12.1.c, anchor 13.0.d.
+fn four(with: Start) -> Vec<Call> {
+    let mut calls = rounds(&with, 15);
+    put(&mut calls, id(11, 0, 'a'), valid());
+    put(&mut calls, id(12, 0, 'b'), includes(&[(0, 'a')]));
+    put(&mut calls, id(12, 1, 'c'), includes(&[(0, 'a')]));
+    chain(&mut calls, 13, DEF, under(&[(0, 'b'), (1, 'c')]));
+    calls
+}
+/// Two anchors, 12.0.b and 14.0.d.
+fn two() -> Vec<Call> {
+    let mut calls = rounds(&from_10(2, 1), 16);
+    put(&mut calls, id(11, 0, 'a'), valid());
+    chain(&mut calls, 12, ['b', 'c', 'd'], under(&[(0, 'a')]));
+    // 14.0.d is no trigger here, but the next anchor
+    let d = calls.len() - 2;
+    calls[d] = Call::Resolve(id(14, 0, 'd'), PointInfo { top_proof: id(13, 0, 'c'), ..includes(&[(0, 'c')]) });
+    let e = id(15, 0, 'e');
+    put(&mut calls, e, PointInfo { proof: true, top_proof: e, ..includes(&[(0, 'd')]) });
+    put(&mut calls, id(16, 0, 'f'), PointInfo { trigger: true, ..includes(&[(0, 'e')]) });
+    calls.push(Call::Certify(id(14, 0, 'd')));
+    calls
+}
+fn listed() -> Vec<Vec<Call>> {
+    let commit = |round, bytes: &[u8]| Call::Commit(id(round, 0, 'f'), bytes.to_vec());
+    let look = |round| Call::Outlook(id(round, 0, 'f'));
+    // 127: 24 for a place twice, a byte not below its count, lists too short, none; then right ones with two bytes behind
+    let wrong: [&[u8]; 5] = [&[0, 0, 0, 0], &[0, 2, 0, 0], &[1, 1, 0, 0], &[0, 0, 1], &[]];
+    let tried = wrong.into_iter().chain([&[0, 0, 1, 0, 255, 255][..]]).map(|bytes| commit(15, bytes));
+    let mut lists = vec![with(four(from_10(2, 3)), std::iter::once(look(15)).chain(tried))];
+    // 128: 20 before 24
+    let after_gap = four(Start { after_gap: true, ..from_10(2, 3) });
+    lists.push(with(after_gap, [commit(15, &[]), Call::Gap, commit(15, &[]), commit(15, &[0, 1, 0, 0])]));
+    // 129: three points in a round
+    let mut calls = rounds(&from_10(2, 7), 14);
+    let three = [(0, 'a'), (1, 'b'), (2, 'c')];
+    three.into_iter().for_each(|(peer, letter)| put(&mut calls, id(11, peer, letter), valid()));
+    chain(&mut calls, 12, DEF, under(&three));
+    lists.push(with(calls, [look(14), commit(14, &[0, 1, 2, 0])]));
+    // 130: two anchors, anchor by anchor
+    lists.push(with(two(), [look(16), commit(16, &[0, 0]), look(16), commit(16, &[0, 0, 0]), look(16)]));
+    // 131, 132: at once; the second one's lists wrong
+    lists.push(with(two(), [commit(16, &[0; 5])]));
+    lists.push(with(two(), [commit(16, &[0, 0, 1, 0, 0])]));
+    // 133: a round without linked points
+    let mut calls = rounds(&from_10(2, 1), 15);
+    put(&mut calls, id(11, 0, 'a'), valid());
+    chain(&mut calls, 13, DEF, PointInfo { witness: links(&[(0, 'a')]), ..under(&[]) });
+    lists.push(with(calls, [look(15), commit(15, &[0, 0])]));
+    // 134: a history that ends at the bottom
+    let mut calls = rounds(&Start { bottom: 15, ..from_10(4, 1) }, 18);
+    chain(&mut calls, 16, DEF, PointInfo { top_proof: id(15, 0, 'z'), ..valid() });
+    lists.push(with(calls, [look(18), commit(18, &[0])]));
+    lists
+}
+
 fn parts() -> Vec<Vec<u8>> {
     let mut lists: Vec<Vec<Call>> = Vec::new();
     // 103: 23 before the anchor and above it, nothing to drain
@@ -149,7 +227,7 @@ fn parts() -> Vec<Vec<u8>> {
     lists.push(with(calls, [remove(10, Some(4))]));
     let points = ['a', 'b', 'c'].map(|letter| (id(2, 0, letter), valid())).to_vec();
     lists.push(with(list(&start(0b1), 14, points), [remove(14, Some(0))]));
-    let mut parts: Vec<Vec<u8>> = lists.iter().map(|calls| calls.iter().flat_map(record::encode).collect()).collect();
+    let mut parts: Vec<Vec<u8>> = lists.iter().map(|calls| encoded(calls)).collect();
     // 125, 126: records of 8 and 10 bytes
     for length in [8, 10] {
         let mut part = record::encode(&Call::Start(start(0b11)));
@@ -159,7 +237,38 @@ fn parts() -> Vec<Vec<u8>> {
         part.extend(broken);
         parts.push(part);
     }
+    parts.extend(listed().iter().map(|calls| encoded(calls)));
     parts
+}
+
+fn encoded(calls: &[Call]) -> Vec<u8> {
+    calls.iter().flat_map(record::encode).collect()
+}
+
+/// Of the Rust's shuffle.
+const ORDER: u64 = 1;
+
+/// The part, its commits with the Rust's place lists. One that is broken or has no commit stays. The Rust has no other top proof of a proof than the proof itself,
+/// which is read of anchors only.
+fn lent_lists(part: &[u8]) -> Vec<u8> {
+    let Ok(mut calls) = record::calls(part).collect::<Result<Vec<Call>, _>>() else {
+        return part.to_vec();
+    };
+    if !calls.iter().any(|call| matches!(call, Call::Commit(..))) {
+        return part.to_vec();
+    }
+    assert!(encoded(&calls) == part, "a record is what its call is written as");
+    let for_rust = |call: &Call| match call {
+        Call::Resolve(id, info) if info.proof => Call::Resolve(*id, PointInfo { top_proof: *id, ..info.clone() }),
+        _ => call.clone(),
+    };
+    let list = List { places: 20, calls: calls.iter().map(for_rust).collect(), order: ORDER };
+    let (list, ended) = lent::<Library>(&list, &mut Counts::default());
+    ended.unwrap_or_else(|why| panic!("{why}"));
+    for (call, lent) in calls.iter_mut().zip(list.calls).filter(|(call, _)| matches!(call, Call::Commit(..))) {
+        *call = lent;
+    }
+    encoded(&calls)
 }
 
 // ---- texts, as `replay` writes them
@@ -229,7 +338,7 @@ fn main() -> ExitCode {
     for _ in 0..=102 {
         let (length, rest) = input.split_first_chunk::<4>().unwrap();
         let (part, rest) = rest.split_at(u32::from_be_bytes(*length) as usize);
-        all.push(part.to_vec());
+        all.push(lent_lists(part));
         input = rest;
     }
     // the part that is cut short stands last

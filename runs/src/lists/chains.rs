@@ -8,7 +8,7 @@ use std::collections::BTreeMap;
 use committer::{Call, Link, PointId, PointInfo, Start};
 
 use crate::compare::List;
-use crate::lists::digest;
+use crate::lists::{commit, digest};
 use crate::random::Random;
 
 /// What a list is like. Percentages, but for `peers`.
@@ -148,9 +148,9 @@ fn list(mut chains: Chains, rounds: u32) -> List {
     }
     // the triggers once more, oldest and newest first
     let last = [chains.triggers.first().copied(), chains.triggers.last().copied()];
-    chains.calls.extend(last.into_iter().flatten().map(Call::Commit));
+    chains.calls.extend(last.into_iter().flatten().map(commit));
     chains.remove();
-    List { places: chains.most, calls: chains.calls }
+    List { places: chains.most, calls: chains.calls, order: chains.random.word() }
 }
 
 impl Chains {
@@ -422,7 +422,7 @@ impl Chains {
             self.anchor = Some(id);
         }
         if self.random.chance(self.taste.commits) {
-            self.calls.push(Call::Commit(id));
+            self.calls.push(commit(id));
             self.handed = Some(id.round - 2);
             if self.random.chance(self.taste.removes) {
                 self.remove();
@@ -479,12 +479,12 @@ impl Chains {
         }
         if self.random.chance(4) && !self.triggers.is_empty() {
             let id = *self.random.pick(&self.triggers);
-            self.calls.push(Call::Commit(id));
+            self.calls.push(commit(id));
         }
         if self.random.chance(2) {
             let round = self.random.within(self.bottom(), self.top());
             if let Some(id) = self.rounds[&round].first().map(|point| point.id) {
-                self.calls.push(Call::Commit(id));
+                self.calls.push(commit(id));
             }
         }
     }

@@ -48,7 +48,7 @@ fn change(call: &mut Call, digest: [u8; 32], random: &mut Random) {
                 *peers ^= 1 << random.below(32);
             }
         }
-        Call::Name(id) | Call::Certify(id) | Call::Commit(id) | Call::Outlook(id) => change_id(id, digest, random),
+        Call::Name(id) | Call::Certify(id) | Call::Commit(id, _) | Call::Outlook(id) => change_id(id, digest, random),
         Call::Resolve(id, info) => {
             if random.chance(25) {
                 change_id(id, digest, random);

@@ -6,6 +6,7 @@ use std::collections::BTreeMap;
 use committer::{Call, Link, PointId, PointInfo, ROUND_MAX, Start};
 
 use crate::compare::List;
+use crate::lists::commit;
 use crate::random::Random;
 
 /// What the lists are like.
@@ -86,8 +87,8 @@ impl Growth {
         }
     }
 
-    pub fn list(self) -> List {
-        List { places: self.taste.places, calls: self.calls }
+    pub fn list(mut self) -> List {
+        List { places: self.taste.places, calls: self.calls, order: self.random.word() }
     }
 
     fn step(&mut self) {
@@ -375,7 +376,7 @@ impl Growth {
             .map(|point| point.id)
             .collect();
         if let Some(id) = triggers.last() {
-            self.calls.push(Call::Commit(*id));
+            self.calls.push(commit(*id));
             self.handed = id.round.checked_sub(2);
         }
     }
@@ -430,7 +431,7 @@ impl Growth {
             4 => Call::Certify(id),
             5 => Call::Drop(id.round),
             6 => Call::Gap,
-            7 if self.taste.commits => Call::Commit(id),
+            7 if self.taste.commits => commit(id),
             8 if self.taste.commits => Call::Remove { round: id.round, since: Some(0) },
             _ => Call::Reset,
         };
@@ -468,7 +469,7 @@ impl Growth {
         let call = match self.random.below(4) {
             0 => Call::Resolve(id, PointInfo { status: 1, ..PointInfo::default() }),
             1 => Call::Certify(id),
-            2 if self.taste.commits => Call::Commit(id),
+            2 if self.taste.commits => commit(id),
             _ => Call::Name(id),
         };
         self.calls.push(call);
@@ -519,7 +520,7 @@ impl Growth {
         let id = PointId { round, author: self.random.below(self.taste.peers), digest: self.digest() };
         let call = match self.random.below(3) {
             0 => Call::Resolve(id, PointInfo { status: 1, ..PointInfo::default() }),
-            1 if self.taste.commits => Call::Commit(id),
+            1 if self.taste.commits => commit(id),
             _ => Call::Certify(id),
         };
         self.calls.push(call);

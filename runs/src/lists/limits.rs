@@ -2,7 +2,7 @@
 
 use committer::{Call, Link, PLACES_MAX, PointId, PointInfo, ROUND_MAX, Start};
 
-use super::{digest, link, point, valid};
+use super::{commit, digest, link, point, valid};
 use crate::compare::List;
 
 pub fn limits() -> Vec<List> {
@@ -64,7 +64,7 @@ fn anchor(calls: &mut Vec<Call>, round: u32) {
     for (id, info) in [anchor, proof, trigger].into_iter().zip(infos) {
         calls.extend([Call::Name(id), Call::Resolve(id, info)]);
     }
-    calls.extend([Call::Certify(anchor), Call::Commit(trigger)]);
+    calls.extend([Call::Certify(anchor), commit(trigger)]);
 }
 
 /// Every round's point is a proof and the anchor of the next, or every second one: the most anchors that one commit can have, H 1.
@@ -81,12 +81,7 @@ fn many_anchors(step: u32) -> List {
         calls.push(Call::Resolve(id, PointInfo { proof, trigger: round == 521, top_proof, ..valid(includes, vec![]) }));
         calls.push(Call::Certify(id));
     }
-    calls.extend([
-        Call::Commit(at(521, 0, 0)),
-        Call::Commit(at(521, 0, 0)),
-        Call::Drop(300),
-        Call::Commit(at(521, 0, 0)),
-    ]);
+    calls.extend([commit(at(521, 0, 0)), commit(at(521, 0, 0)), Call::Drop(300), commit(at(521, 0, 0))]);
     list(511, start(1, 1), calls)
 }
 
@@ -119,18 +114,19 @@ fn large_history() -> List {
             ));
         }
     }
-    calls.extend([Call::Commit(at(268, 0, 0)), Call::Certify(at(266, 0, 0)), Call::Commit(at(268, 0, 0))]);
+    calls.extend([commit(at(268, 0, 0)), Call::Certify(at(266, 0, 0)), commit(at(268, 0, 0))]);
     list(PLACES_MAX, start(255, ALL), calls)
 }
 
 const ALL: u32 = u32::MAX;
+const ORDER: u64 = 1;
 
 fn start(commit_history_rounds: u32, peers: u32) -> Start {
     Start { genesis: 10, commit_history_rounds, bottom: 10, peers, used: Some(0), ..Start::default() }
 }
 
 fn list(places: usize, with: Start, calls: impl IntoIterator<Item = Call>) -> List {
-    List { places, calls: std::iter::once(Call::Start(with)).chain(calls).collect() }
+    List { places, calls: std::iter::once(Call::Start(with)).chain(calls).collect(), order: ORDER }
 }
 
 /// The number of a point's digest: peers in the low bits, so that the orders of authors and digests differ.

@@ -6,7 +6,7 @@ mod growth;
 mod limits;
 mod short;
 
-use committer::{Link, PointId, PointInfo};
+use committer::{Call, Link, PointId, PointInfo};
 
 pub use chains::{chained, removing};
 pub use damage::damaged;
@@ -27,6 +27,11 @@ pub fn point(round: u32, author: u32, number: u32) -> PointId {
 
 pub fn link(peer: u32, number: u32) -> Link {
     Link { peer, digest: digest(number) }
+}
+
+/// A commit; its place lists are the Rust's, and are lent where it is played.
+pub fn commit(trigger: PointId) -> Call {
+    Call::Commit(trigger, Vec::new())
 }
 
 /// A valid point without marks.

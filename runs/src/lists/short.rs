@@ -2,7 +2,7 @@
 
 use committer::{Call, Link, PointInfo, Start};
 
-use super::{link, point, valid};
+use super::{commit, link, point, valid};
 use crate::compare::List;
 
 /// Places of the tables; one less than the points that can be named, so that the table is full in some lists.
@@ -102,7 +102,7 @@ fn removing() -> impl Iterator<Item = List> {
         (point(7, 0, 8), trigger),
     ];
     prefix.extend(points.into_iter().flat_map(|(id, info)| [Call::Name(id), Call::Resolve(id, info)]));
-    prefix.extend([Call::Certify(point(5, 0, 6)), Call::Commit(point(7, 0, 8))]);
+    prefix.extend([Call::Certify(point(5, 0, 6)), commit(point(7, 0, 8))]);
     let remove = |round, since| Call::Remove { round, since };
     let letters = vec![
         remove(3, Some(0)),
@@ -128,6 +128,6 @@ fn words(prefix: Vec<Call>, letters: Vec<Call>, length: u32) -> impl Iterator<It
             calls.push(letters[number % base].clone());
             number /= base;
         }
-        List { places: PLACES, calls }
+        List { places: PLACES, calls, order: 1 }
     })
 }

@@ -1,7 +1,6 @@
-//! The comparison, where rand_pcg is there.
-
-extern crate rand_core;
-extern crate rand_pcg;
+//! Compares draws of the library with those of rand_pcg, its source unchanged, and times both.
+//!
+//!     cargo run --release --offline --bin draws -- [SEED]
 
 use std::collections::BTreeSet;
 use std::hint::black_box;
@@ -9,9 +8,9 @@ use std::process::ExitCode;
 use std::time::Instant;
 
 use committer::{Answer, Committer, Pcg};
-use rand_core::{RngCore, SeedableRng};
-use rand_pcg::Pcg64;
+use oracle::OwnPcg;
 use runs::compare::List;
+use runs::library::with_lists;
 use runs::lists::chained;
 use runs::random::Random;
 
@@ -26,7 +25,11 @@ const ANCHORS_LEAST: usize = 100;
 
 type Digest = [u8; 32];
 
-pub fn main() -> ExitCode {
+fn main() -> ExitCode {
+    if !oracle::HAS_OWN_ORDER {
+        eprintln!("the sources of rand are missing: see the README of the oracle");
+        return ExitCode::FAILURE;
+    }
     let Some(seed) = std::env::args().nth(1).map_or(Some(SEED), |text| text.parse().ok()) else {
         eprintln!("usage: draws [SEED], a number; {SEED} if left out");
         return ExitCode::from(2);
@@ -60,16 +63,20 @@ fn anchors(list: &List) -> Vec<Digest> {
     let mut committer = Committer::new(list.places);
     let mut digests = Vec::new();
     for call in &list.calls {
-        if let Answer::Handed(anchors) | Answer::Refused(_, anchors) = committer.call(call) {
+        if let Answer::Handed(anchors) | Answer::Refused(_, anchors) = committer.call(&with_lists(&committer, call)) {
             digests.extend(anchors.iter().map(|anchor| anchor.anchor.digest));
         }
     }
     digests
 }
 
+fn own(seed: Digest) -> OwnPcg {
+    OwnPcg::from_seed(seed).expect("the sources are there")
+}
+
 fn same_draws(digest: &Digest) -> Result<(), String> {
     let mut ours = Pcg::from_digest(digest);
-    let mut rust = Pcg64::from_seed(*digest);
+    let mut rust = own(*digest);
     for n in 1..=DRAWS {
         let (ours, rust) = (ours.next_u64(), rust.next_u64());
         if ours != rust {
@@ -86,7 +93,7 @@ const TIMED: u32 = 100_000;
 
 fn print_times() {
     let mut ours = Pcg::from_digest(&[1; 32]);
-    let mut rust = Pcg64::from_seed([1; 32]);
+    let mut rust = own([1; 32]);
     let [mut our_times, mut rust_times] = [const { Vec::new() }; 2];
     for _ in 0..TURNS {
         our_times.push(nanoseconds(|| ours.next_u64()));
