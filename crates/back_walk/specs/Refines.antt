@@ -35,7 +35,7 @@ use Rattle.commit_state.specs.Numbers.{roundsHold}
 use Rattle.commit_state.specs.Reads.{window-in}
 use Rattle.commit_state.specs.declared.state.State.{State}
 use Rattle.tables_test.specs.Model.{shape-says, range-says}
-use Rattle.tables_test.specs.View.{view, seen-used}
+use Rattle.tables_test.specs.View.{view, seen-used, seen-given}
 use Rattle.tables_test.specs.Edges.{resolved-is}
 use Rattle.tables_test.specs.Whole.{sized}
 use Rattle.tables_test.specs.Refines.{Started, counted}
@@ -224,8 +224,8 @@ module _ (s : State) (ks ls cs os : List ℕ) (fk : Fit ks) (fl : Fit ls) (h : c
     module _ (st : 0 < statusAt ks q) where
       -- a resolved one holds what it was given
       pub given-at : v .pt q .resolution ≡ givenAt ks ls q
-      unfolding pointAt resolutionAt
-      given-at = ap (λ (p : Point). p .resolution) point ∙ rw (ne-eqb (statusAt ks q) 0 (λ e. omega arith)) refl
+      unfolding view
+      given-at = seen-given ks ls cs os n q u st
 
       pub previous-at : previous (v .pt q) ≡ cond (hasPrevious ks ls q) (some (digestAt ls (q * 328 + 72 + authorAt ks q * 4))) none
       unfolding hasPrevious

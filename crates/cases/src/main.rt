@@ -177,6 +177,8 @@ fn with_point(
         evidence: 0,
         includes: refs.len() / 5,
         witness: 0,
+        payload_len: 0,
+        payload_bytes: 0,
     };
     let resolution = resolve(
         named.state,

@@ -106,7 +106,7 @@ one-kept s ks ls cs os l from b at e = by (numberFor (t .check) (s .«emit_first
     t : Tested
     t = testedOf s ks ls cs os (e .anchor)
 
-    by : (c : Check) → isFailed (oneWith s ks cs os l from b at e t c .check) ≡ true → (oneWith s ks cs os l from b at e t c .state ≡ s) × (oneWith s ks cs os l from b at e t c .certs ≡ cs) × (oneWith s ks cs os l from b at e t c .buffer ≡ b)
+    by : (c : Check) → isFailed (oneWith s ks ls cs os l from b at e t c .check) ≡ true → (oneWith s ks ls cs os l from b at e t c .state ≡ s) × (oneWith s ks ls cs os l from b at e t c .certs ≡ cs) × (oneWith s ks ls cs os l from b at e t c .buffer ≡ b)
     by Passed d = absurd (true≢false (sym d))
     by (Failed r) d = (refl, refl, refl)
 

@@ -22,7 +22,7 @@ use Rattle.models.specs.Refusal.{refusalOf, unlessFailed, orNext, not-failed}
 use Rattle.models.specs.declared.refusal.Refusal.{Refusal}
 use Rattle.models.specs.declared.refusal.Check.{Check}
 use Rattle.models.specs.declared.refusal.Check.the-variants.{Passed, Failed}
-use Rattle.models.specs.Tables.{roundAt, authorAt, placeAt, Used}
+use Rattle.models.specs.Tables.{roundAt, authorAt, placeAt, Inside, Used}
 use Rattle.dag_round_keys.specs.Sorted.{sorted-apart}
 use Rattle.commit_state.specs.View.{gapOf, progressOf}
 use Rattle.commit_state.specs.declared.state.State.{State}
@@ -47,7 +47,7 @@ use Rattle.output_record.specs.Marks.{Small, marksAll}
 use Rattle.output_record.specs.ModelState.{afterState}
 use Rattle.output_record.specs.History.{Picks, history-is}
 use Rattle.output_record.specs.Refines.{anchor-ready, tables-ready, record-is, drawn-length, record-size, committed-view, committed-counts}
-use Rattle.commit_dequeue.specs.Model.{Pickable, Listing, Drawable, Placed, numberFor, number-fits, countsFor, sizeFor, recordFor, listedFor, Step, oneWith, oneIn, oneOf}
+use Rattle.commit_dequeue.specs.Model.{Pickable, Listing, Drawable, Placed, numberFor, number-fits, countsFor, sizeFor, recordFor, lenFor, bytesFor, listedFor, Step, oneWith, oneIn, oneOf}
 
 -- what the commit of the anchor e, from byte at on, leaves of the store v, the lists l and the buffer b, in 01's terms
 pub record Says (v : Store) (l b : List ℕ) (at : ℕ) (e : EnqueuedAnchor) (c : Check) (v′ : Store) (l′ b′ : List ℕ) (end : ℕ) : Type 0 where
@@ -73,13 +73,13 @@ waiting-is (suc zero) = refl
 waiting-is (suc (suc n)) = ap not (lt-ltb 0 (suc n) (omega arith)) ∙ sym (ne-eqb (suc (suc n)) 1 (λ e. omega arith))
 
 -- 20, 24 and 21 after its tests; the record's length is asked of right lists only
-number-is : (c : Check) (a gap n left size : ℕ) (w ok : Bool) → w ≡ eqb gap 1 → (ok ≡ true → size ≡ 83 + n * 37)
+number-is : (c : Check) (a gap n left size : ℕ) (w ok : Bool) → w ≡ eqb gap 1 → (ok ≡ true → size ≡ 99 + n * 37)
     → unlessFailed (numberFor c gap ok n left) (good a) ≡ then (unlessFailed c (good a)) (λ x. refuse w 20 (refuse (not ok) 24 (refuse (ltb left size) 21 (good a))))
 unfolding unlessFailed numberFor orNext refuse refusalOf
 number-is (Failed r) a gap n left size w ok e d = refl
 number-is Passed a gap n left size w false e d = rw e (byTest (eqb gap 1) (λ g. rw g refl) (λ g. rw g refl))
 number-is Passed a gap n left size w true e d =
-    rw (e, d refl) (byTest (eqb gap 1) (λ g. rw g refl) (λ g. rw g (byTest (ltb left (83 + n * 37)) (λ l. rw l refl) (λ l. rw l refl))))
+    rw (e, d refl) (byTest (eqb gap 1) (λ g. rw g refl) (λ g. rw g (byTest (ltb left (99 + n * 37)) (λ l. rw l refl) (λ l. rw l refl))))
 
 module _ (s : State) (ks ls cs os : List ℕ) (fk : Fit ks) (fl : Fit ls) (h : countsAsStarted (view s ks ls cs os) ≡ true) (e : EnqueuedAnchor) (x : Anchored (view s ks ls cs os) e) where
   -- the store
@@ -138,8 +138,8 @@ module _ (s : State) (ks ls cs os : List ℕ) (fk : Fit ks) (fl : Fit ls) (h : c
 
   module _ (l : List ℕ) (ok : listsOk (countsFor s ks os (t .marks) (t .lowest .0) (e .anchor)) l ≡ true) where
     -- the record's length
-    size-is : length (recordBytes v l e) ≡ 83 + t .count * 37
-    size-is = record-size s ks ls cs os fk fl h e anchor-used proof-used (t .marks) (t .low) (t .high) high-le picks l (sym (right-is l) ∙ ok) ∙ ap (λ (n : ℕ). 83 + n * 37) (sym count-is)
+    size-is : length (recordBytes v l e) ≡ 99 + t .count * 37
+    size-is = record-size s ks ls cs os fk fl h e anchor-used proof-used (t .marks) (t .low) (t .high) high-le picks l (sym (right-is l) ∙ ok) ∙ ap (λ (n : ℕ). 99 + n * 37) (sym count-is)
 
     -- the number of points that come out
     drawn-count : t .count ≡ length (drawnBy ks os (s .count) cs (t .marks) (roundsBy (roundAt ks (e .anchor)) (t .lowest .0)) l)
@@ -147,9 +147,9 @@ module _ (s : State) (ks ls cs os : List ℕ) (fk : Fit ks) (fl : Fit ls) (h : c
     drawn-count = count-is ∙ sym (drawn-length s ks ls cs os fk fl h e anchor-used proof-used (t .marks) (t .low) (t .high) high-le picks l (sym (right-is l) ∙ ok))
 
     -- the record
-    record-same : recordFor s ks cs os (t .marks) (t .lowest .0) l e ≡ recordBytes v l e
+    record-same : Tested v (e .anchor) → recordFor s ks cs os (t .marks) (t .lowest .0) l e (lenFor ls cs os t) (bytesFor ls cs os t) ≡ recordBytes v l e
     unfolding recordFor testedOf testedIn spanOf
-    record-same = record-is s ks ls cs os fk fl h e anchor-used proof-used l (sym (right-is l) ∙ ok)
+    record-same = record-is s ks ls cs os fk fl h e anchor-used proof-used (t .marks) (t .low) (t .high) high-le picks l (sym (right-is l) ∙ ok)
 
   -- ---- what the code is given
 
@@ -178,6 +178,13 @@ module _ (s : State) (ks ls cs os : List ℕ) (fk : Fit ks) (fl : Fit ls) (h : c
   picked-ready r is =
       let (a, b, c, d, f) = tables-ready s ks ls cs os fk fl h e anchor-used proof-used (t .marks) (t .low) (t .high) high-le picks in
       subst (λ (y : code.Tested). (y .count ≤ 4096) × Pickable ks cs os (y .low) (y .high) × Small os cs (y .high)) (sym is) (count-most, (low-le, a, b, c, d), f)
+
+  -- for the sums over them
+  pub sums-ready : (r : code.Tested) → r ≡ t → (r .low ≤ r .high) × (r .high ≤ length os) × (r .high ≤ 4096) × (length cs ≤ 4096) × (length cs * 328 ≤ length ls) × Inside os (r .high) (length cs)
+  sums-ready r is =
+      let (n, (a, b, c, d, f), g) = picked-ready r is in
+      let (k, l, w) = shape-says ks ls cs os (held .shaped) in
+      (a, b, omega (arith, b, c, w), c, omega (arith, l, w), f)
 
   module _ (l : List ℕ) (from : ℕ) where
     -- its record, from what the tests and the lists gave
@@ -225,6 +232,10 @@ module _ (s : State) (ks ls cs os : List ℕ) (fk : Fit ks) (fl : Fit ls) (h : c
         unfolding unlessFailed
         passes = sym outcome-is ∙ ap (λ (c : Check). unlessFailed c (good (e .anchor))) z
 
+        -- its tests
+        tested-whole : Tested v (e .anchor)
+        tested-whole = test-good v here _ _ (e .anchor) _ passes .0
+
         -- its lists are right
         right : listedFor s ks os l from e t ≡ true
         right = number-fits (t .check) (s .«emit_first_after_gap») (listedFor s ks os l from e t) (t .count) (length b - at) z .0
@@ -235,25 +246,25 @@ module _ (s : State) (ks ls cs os : List ℕ) (fk : Fit ks) (fl : Fit ls) (h : c
         rest-same = rest-is s ks ls cs os fk fl held (e .anchor) anchor-used l from _ refl
 
         -- its last byte
-        end-is : at + 83 + t .count * 37 ≡ at + length (recordBytes v here e)
+        end-is : at + 99 + t .count * 37 ≡ at + length (recordBytes v here e)
         end-is = omega (arith, size-is here right)
 
-        end-within : at + 83 + t .count * 37 ≤ length b
+        end-within : at + 99 + t .count * 37 ≤ length b
         end-within = let p = test-good v here _ _ (e .anchor) _ passes in omega (arith, size-is here right, p .3)
 
         says-taken : Says v here b at e Passed (view (afterState s (roundAt ks (e .anchor)) (roundAt ks (e .proof)) (authorAt ks (e .anchor))) ks ls (marksAll os (t .marks) (t .low) cs (t .high)) os)
-            (drop (from + sizeFor s ks os (t .marks) (t .lowest .0) (e .anchor)) l) (written b at (recordFor s ks cs os (t .marks) (t .lowest .0) here e)) (at + 83 + t .count * 37)
+            (drop (from + sizeFor s ks os (t .marks) (t .lowest .0) (e .anchor)) l) (written b at (recordFor s ks cs os (t .marks) (t .lowest .0) here e (lenFor ls cs os t) (bytesFor ls cs os t))) (at + 99 + t .count * 37)
         unfolding unlessFailed
         says-taken = record {
           outcome = sym passes;
           taken = λ y. (
             committed-view s ks ls cs os fk fl h e anchor-used proof-used (t .marks) (t .low) (t .high) high-le picks long,
             rest-same,
-            ap (written b at) (record-same here right),
+            ap (written b at) (record-same here right tested-whole),
             end-is,
           );
           stayed = λ r y. absurd (not-failed r (sym y));
-          again = committed-counts s ks ls cs os fk fl h e anchor-used proof-used (t .marks) (t .low) (t .high) high-le picks long x (test-good v here _ _ (e .anchor) _ passes .0);
+          again = committed-counts s ks ls cs os fk fl h e anchor-used proof-used (t .marks) (t .low) (t .high) high-le picks long x tested-whole;
           long = written-length b at _;
           within = end-within;
         }
@@ -278,7 +289,7 @@ module _ (s : State) (ks ls cs os : List ℕ) (fk : Fit ks) (fl : Fit ls) (h : c
       unfolding oneOf oneIn oneWith
       one-is = by k refl
         where
-          by : (c : Check) → k ≡ c → SaysOf (oneWith s ks cs os l from b at e t c)
+          by : (c : Check) → k ≡ c → SaysOf (oneWith s ks ls cs os l from b at e t c)
           by Passed d = says-taken d
           by (Failed r) d = says-refused r d
 

@@ -31,6 +31,8 @@ use output_record::after::mark_all;
 use output_record::record::executable;
 use output_record::record::previous_anchor;
 use output_record::record::put_record;
+use output_record::sums::PayloadSums;
+use output_record::sums::payload_sums;
 
 // The tests of one anchor; the state, the next free byte, and the offset after the anchor's lists.
 pub struct One {
@@ -55,7 +57,7 @@ fn number_for(check: Check, gap: u32, listed: bool, count: usize, left: usize) -
     if !listed {
         return Check::Failed(Refusal::Number(BAD_LISTS));
     }
-    if left < 83 + count * 37 {
+    if left < 99 + count * 37 {
         return Check::Failed(Refusal::Number(NO_ROOM));
     }
     Check::Passed
@@ -81,7 +83,7 @@ fn list_anchor(
     lists_fit(keys, order, s.count, marks, lists, from, round, lowest)
 }
 
-// The record of the anchor, of `count` points, in the order that its lists say, which end at `lists_end`.
+// The record of the anchor, of `count` points, in the order that its lists say, which end at `lists_end`; then the sums over them.
 fn put_anchor(
     s: State,
     keys: &[u64],
@@ -95,13 +97,14 @@ fn put_anchor(
     marks: &[bool; 4096],
     lowest: Round,
     count: usize,
+    sums: PayloadSums,
 ) -> usize
     requires { ⌜ Drawable s (now keys) (now certs) (now order) (now lists) «lists_end» (now marks) (lowest .0) (enqueuedOf e) count ⌝ }
     requires { ⌜ Placed (now keys) (now certs) (enqueuedOf e) ⌝ }
-    requires { ⌜ at + 83 + count * 37 ≤ length (now b) ⌝ }
-    ensures { λ r. ⌜ (r ≡ at + 83 + count * 37) × (now (b .exit) ≡ written (now (b .entry)) at (recordFor s (now (keys .entry)) (now (certs .entry)) (now (order .entry))
+    requires { ⌜ at + 99 + count * 37 ≤ length (now b) ⌝ }
+    ensures { λ r. ⌜ (r ≡ at + 99 + count * 37) × (now (b .exit) ≡ written (now (b .entry)) at (recordFor s (now (keys .entry)) (now (certs .entry)) (now (order .entry))
         (now (marks .entry)) (lowest .0) (drop («lists_end» - sizeFor s (now (keys .entry)) (now (order .entry)) (now (marks .entry)) (lowest .0) (e .anchor))
-        (now (lists .entry))) (enqueuedOf e))) ⌝ }
+        (now (lists .entry))) (enqueuedOf e) (sums .len) (sums .bytes))) ⌝ }
 {
     let anchor = e.anchor as usize;
     let proof = e.proof as usize;
@@ -127,6 +130,7 @@ fn put_anchor(
         x,
         before,
         count,
+        sums,
     )
 }
 
@@ -180,6 +184,7 @@ pub fn dequeue_anchor(
             lists_end: from,
         };
     }
+    let sums = payload_sums(&marks, links, certs, order, t.low, t.high);
     let lists_end = listed.end;
     let end = put_anchor(
         s,
@@ -194,6 +199,7 @@ pub fn dequeue_anchor(
         &marks,
         t.lowest,
         t.count,
+        sums,
     );
     let next = next_state(s, keys, certs, e);
     mark_all(&marks, order, certs, t.low, t.high);

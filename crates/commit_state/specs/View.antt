@@ -1,5 +1,5 @@
 -- State and tables read as the store of document 01.
-use Prim.Native.Nat.{ℕ, zero, suc, _+_, _*_, _%_}
+use Prim.Native.Nat.{ℕ, zero, suc, _+_, _*_, _/_, _%_}
 use mathlib.Core.List.{List, [], _∷_, map}
 use mathlib.Core.Bool.{Bool, true, _&&_, cond}
 use mathlib.Core.Option.{Option, none, some}
@@ -11,7 +11,7 @@ use Rattle.spec.specs.Store as store
 use Rattle.spec.specs.Store.{Resolution, Point, Phase, unresolved, noRound}
 use Rattle.models.specs.Digest.{digestAt}
 use Rattle.models.specs.Cert.{flagsOf, bitOf}
-use Rattle.models.specs.Tables.{roundAt, authorAt, digestOf, statusAt, marksAt, evidenceAt, targetAt}
+use Rattle.models.specs.Tables.{roundAt, authorAt, digestOf, statusAt, marksAt, evidenceAt, payloadAt, targetAt}
 use Rattle.commit_state.specs.declared.state.Entry.{Entry}
 use Rattle.commit_state.specs.declared.state.Memory.{Memory}
 use Rattle.commit_state.specs.declared.state.RoundRecord.{RoundRecord}
@@ -41,6 +41,8 @@ givenAt ks ls q = record {
   evidence = evidenceAt ls q;
   includes = refsFrom ls q 0 0 32;
   witness = refsFrom ls q 32 0 32;
+  payloadLen = payloadAt ls q / 4294967296;
+  payloadBytes = payloadAt ls q % 4294967296;
 }
 
 unfoldable pub resolutionAt : List ℕ → List ℕ → ℕ → Resolution

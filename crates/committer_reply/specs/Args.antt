@@ -40,6 +40,8 @@ infoIn t = record {
   evidence = t .evidence;
   includes = t .includes;
   witness = t .witness;
+  «payload_len» = t .«payload_len»;
+  «payload_bytes» = t .«payload_bytes»;
 }
 
 -- ---- laws

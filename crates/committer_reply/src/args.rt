@@ -66,6 +66,8 @@ pub struct Resolution {
     pub evidence: u32,
     pub includes: usize,
     pub witness: usize,
+    pub payload_len: u32,
+    pub payload_bytes: u32,
 }
 
 // What a resolution gives, as its call takes it.
@@ -83,5 +85,7 @@ pub fn info_in(resolution: Resolution) -> PointInfo
         evidence: resolution.evidence,
         includes: resolution.includes,
         witness: resolution.witness,
+        payload_len: resolution.payload_len,
+        payload_bytes: resolution.payload_bytes,
     }
 }

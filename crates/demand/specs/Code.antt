@@ -1,9 +1,9 @@
--- Demand 3 (01: 'Demand 3') of the code: whatever list of calls is made, one after another on the tables that the one before left, with
--- answers, tables and bytes as their contracts say.
+-- Demand 3 (01: 'Demand 3') and the sums (02: N2) of the code: whatever list of calls is made, one after another on the tables that the one
+-- before left, with answers, tables and bytes as their contracts say.
 use Prim.Native.Nat.{ℕ, suc}
 use mathlib.Core.Path.{_≡_, refl, sym, _∙_, subst, ap, ap₂}
 use mathlib.Core.Bool.{true}
-use mathlib.Core.List.{List, [], _∷_, _++_, map}
+use mathlib.Core.List.{List, [], _∷_, _++_, map, List·Memᴰ}
 use lib.Dec.{eqb}
 use Rattle.laws.specs.Lists.{NoDup, joined}
 use Rattle.spec.specs.Ids.{Id}
@@ -11,9 +11,9 @@ use Rattle.spec.specs.Store.{Store, retained}
 use Rattle.spec.specs.Rules.{countsAsStarted}
 use Rattle.spec.specs.Calls as calls
 use Rattle.spec.specs.Calls.{Call, StartArgs, start, commit, call, done, flag, anchors, refused}
-use Rattle.spec.specs.Demand.{AllInList, after, History, wrote, histories, Given, gave, resolutions, AllExact, AsSaid, AllAsSaid, AllArrive}
+use Rattle.spec.specs.Demand.{AllInList, after, History, wrote, histories, Given, gave, resolutions, AllExact, AsSaid, AllAsSaid, AllArrive, Summed}
 use Rattle.spec.specs.HeightEquations.{Sized}
-use Rattle.spec.specs.Demand3.{demand-3}
+use Rattle.spec.specs.Demand3.{demand-3, sums-follow}
 use Rattle.models.specs.Digest.{Fit}
 use Rattle.tables_test.specs.Whole.{sized}
 use Rattle.tables_test.specs.Refines.{counted}
@@ -48,7 +48,7 @@ lastTables d (m ∷ ms) = lastTables (m .left .tables) ms
 abbrev pub callsOf : List Made → List Call
 callsOf ms = map (λ (m : Made). m .what) ms
 
--- the histories, read from the bytes that its commits left, and the links that its accepted resolutions gave
+-- the histories, read from the bytes that its commits left, and the links and numbers that its accepted resolutions gave
 unfoldable pub historiesIn : List Made → List History
 historiesIn [] = []
 historiesIn (m ∷ ms) = wrote (viewOf (m .before)) (m .what) (outcome m) ++ historiesIn ms
@@ -76,6 +76,11 @@ SecondHalf = (d : Tables) → Fit (d .keys) → Fit (d .links) → countsAsStart
     → Chained d ms → AllArrive (viewOf d) (callsOf ms)
     → l .before ≡ lastTables d ms → l .what ≡ commit i ls b
     → (l .left .answer ≡ m .left .answer) × (l .left .buffer ≡ m .left .buffer)
+
+-- 02, N2: "Sums follow from the ids in the record and from what was resolved": in each record, as read from the bytes that its commits left
+abbrev pub SumsFollow : Type 0
+SumsFollow = (s : Made) (b : StartArgs) (ms : List Made) → s .what ≡ start b → answerOf (s .left .answer) ≡ done → Chained (s .left .tables) ms → AllInList (callsOf ms)
+    → (h : History) → List·Memᴰ h (historiesIn ms) → Summed (resolutionsIn ms) h
 
 -- ---- the code's lists are the definitions'
 
@@ -142,19 +147,24 @@ answer-same x y e = sym (from-answer x) ∙ (ap fromAnswer e ∙ from-answer y)
 made-is : (m : Made) (s : Store) (c : Call) → viewOf (m .before) ≡ s → m .what ≡ c → outcome m ≡ call s c
 made-is m s c e f = m .did .answer ∙ ap₂ call e f
 
--- ---- the theorem
+-- what a start that is done answers and leaves in 01's terms
+start-is : (s : Made) (b : StartArgs) → s .what ≡ start b → answerOf (s .left .answer) ≡ done
+    → (call (viewOf (s .before)) (start b) .answer ≡ done) × (viewOf (s .left .tables) ≡ call (viewOf (s .before)) (start b) .store)
+start-is s b f a =
+    let o : outcome s ≡ call (viewOf (s .before)) (start b) = made-is s (viewOf (s .before)) (start b) refl f in
+    (ap (λ (x : calls.Outcome). x .answer) (sym o) ∙ (answer-is s ∙ a), sym (left-is s) ∙ ap (λ (x : calls.Outcome). x .store) o)
+
+-- ---- the theorems
 
 first-half : FirstHalf
 first-half s b ms f a r i =
-    let o : outcome s ≡ call (viewOf (s .before)) (start b) = made-is s (viewOf (s .before)) (start b) refl f in
-    let t : call (viewOf (s .before)) (start b) .store ≡ viewOf (s .left .tables) = ap (λ (x : calls.Outcome). x .store) (sym o) ∙ left-is s in
-    let e : viewOf (s .left .tables) ≡ call (viewOf (s .before)) (start b) .store = sym t in
-    let (x, y, z, w) = demand-3 .0 (viewOf (s .before)) b (callsOf ms) (ap (λ (x : calls.Outcome). x .answer) (sym o) ∙ (answer-is s ∙ a)) i in
+    let (d, e) = start-is s b f a in
+    let (x, y, z, w) = demand-3 .0 (viewOf (s .before)) b (callsOf ms) d i in
     let hs : historiesIn ms ≡ histories (call (viewOf (s .before)) (start b) .store) (callsOf ms) = histories-is (call (viewOf (s .before)) (start b) .store) (s .left .tables) ms e r in (
       rw hs x,
       rw (hs, resolutions-is (call (viewOf (s .before)) (start b) .store) (s .left .tables) ms e r) y,
       said-is (call (viewOf (s .before)) (start b) .store) (s .left .tables) ms e r z,
-      λ q. subst (λ u. retained u q ≡ eqb q (b .bottom)) t (w q),
+      λ q. subst (λ u. retained u q ≡ eqb q (b .bottom)) (sym e) (w q),
     )
 
 second-half : SecondHalf
@@ -170,3 +180,9 @@ second-half d fk fl c i ls b n m l ms m0 m1 a r v l0 l1 =
 
 pub demand-3-of-code : FirstHalf × SecondHalf
 demand-3-of-code = (first-half, second-half)
+
+pub sums-of-code : SumsFollow
+sums-of-code s b ms f a r i h m =
+    let (d, e) = start-is s b f a in
+    subst (λ g. Summed g h) (sym (resolutions-is (call (viewOf (s .before)) (start b) .store) (s .left .tables) ms e r))
+    (sums-follow (viewOf (s .before)) b (callsOf ms) d i h (subst (λ hs. List·Memᴰ h hs) (histories-is (call (viewOf (s .before)) (start b) .store) (s .left .tables) ms e r) m))

@@ -1,9 +1,9 @@
--- Demand 3 (01: 'Demand 3') of the code's loop over recorded calls, the ten of 01's lists and resets: for all bytes, tables and buffers that it
--- is given, with no premise about their widths.
+-- Demand 3 (01: 'Demand 3') and the sums (02: N2) of the code's loop over recorded calls, the ten of 01's lists and resets: for all bytes,
+-- tables and buffers that it is given, with no premise about their widths.
 use Prim.Native.Nat.{ℕ, zero, suc, _+_, _<_, _^_}
 use mathlib.Core.Path.{_≡_, refl, sym, _∙_, subst, ap, ap₂}
 use mathlib.Core.Bool.{Bool, true, false, cond}
-use mathlib.Core.List.{List, [], _∷_, _++_}
+use mathlib.Core.List.{List, [], _∷_, _++_, List·Memᴰ}
 use native.Mathlib.Omega.{arith}
 use lib.Dec.{eqb}
 use lib.ListN.{getD}
@@ -16,7 +16,7 @@ use Rattle.spec.specs.Rules.{countsAsStarted}
 use Rattle.spec.specs.Calls as calls
 use Rattle.spec.specs.Calls.{Call, StartArgs, start, resetAll, round, name, resolve, certify, gapQuestion, commit, outlook, remove, drop, call, isStart, done, flag, anchors, refused}
 use Rattle.spec.specs.Preservation.{isResetCall}
-use Rattle.spec.specs.Demand.{InList, AllInList, History, AllExact, AllArrive}
+use Rattle.spec.specs.Demand.{InList, AllInList, History, AllExact, AllArrive, Summed}
 use Rattle.models.specs.Digest.{words, words-length}
 use Rattle.commit_answer.specs.Answer.{Tables, viewOf, Left, outcomeOf, answerOf, Did, byTables, call-by}
 use Rattle.commit_answer.specs.declared.answer.Outcome.{Outcome}
@@ -28,7 +28,7 @@ use Rattle.trace.specs.declared.head.Kind.the-variants as kind
 use Rattle.play_calls.specs.Calls.{takesBuffer, modelBy}
 use Rattle.play.specs.Plays.{Plays, PlaysAt}
 use Rattle.play.specs.Runs.{Runs, none-yet, one-more}
-use Rattle.demand.specs.Code.{Made, Chained, lastTables, callsOf, historiesIn, resolutionsIn, AllSaid, demand-3-of-code}
+use Rattle.demand.specs.Code.{Made, Chained, lastTables, callsOf, historiesIn, resolutionsIn, AllSaid, demand-3-of-code, sums-of-code}
 
 -- ---- the calls of a run
 
@@ -200,16 +200,26 @@ counts-is s i ls b n e =
     byTest (countsAsStarted s) (λ t. t)
     (λ f. absurd (clash (ap handsOut e) (ap (λ (o : calls.Outcome). handsOut (o .answer)) (call-by s (commit i ls b) refl ∙ ap (λ (y : Bool). byTables y s (commit i ls b)) f))))
 
--- ---- the theorem
+-- a stretch of the calls of a run, up to a reset
+stretch : (bs : List ℕ) (d : Tables) (w : List ℕ) (p : ℕ) (e : Tables) (v : List ℕ) (r : Runs bs d w p e v) (xs ys zs : List Made) (s : Made) → madeIn bs d w p e v r ≡ xs ++ (s ∷ (ys ++ zs)) → NoReset ys
+    → Chained (s .left .tables) ys × AllInList (callsOf ys)
+stretch bs d w p e v r xs ys zs s g n =
+    let h : Chained d (xs ++ (s ∷ (ys ++ zs))) = subst (λ (ms : List Made). Chained d ms) g (run-chained bs d w p e v r .0) in
+    let t : AllFit (xs ++ (s ∷ (ys ++ zs))) = subst (λ (ms : List Made). AllFit ms) g (run-fits bs d w p e v r) in
+    (chained-left (s .left .tables) ys zs (chained-right d xs (s ∷ (ys ++ zs)) h .1), all-in ys (fit-left ys zs (fit-right xs (s ∷ (ys ++ zs)) t .1)) n)
+
+-- ---- the theorems
 
 -- each stretch of the calls of a run, from a start that is done up to a reset: demand 3's first half
 pub first : (bs : List ℕ) (d : Tables) (w : List ℕ) (p : ℕ) (e : Tables) (v : List ℕ) (r : Runs bs d w p e v) (xs ys zs : List Made) (s : Made) (a : StartArgs) → madeIn bs d w p e v r ≡ xs ++ (s ∷ (ys ++ zs))
     → s .what ≡ start a → answerOf (s .left .answer) ≡ done → NoReset ys
     → NoDup (joined (λ (h : History). h .ids) (historiesIn ys)) × AllExact (resolutionsIn ys) [] (historiesIn ys) × AllSaid ys × ((x : ℕ) → retained (viewOf (s .left .tables)) x ≡ eqb x (a .bottom))
-first bs d w p e v r xs ys zs s a g f k n =
-    let h : Chained d (xs ++ (s ∷ (ys ++ zs))) = subst (λ (ms : List Made). Chained d ms) g (run-chained bs d w p e v r .0) in
-    let t : AllFit (xs ++ (s ∷ (ys ++ zs))) = subst (λ (ms : List Made). AllFit ms) g (run-fits bs d w p e v r) in
-    demand-3-of-code .0 s a ys f k (chained-left (s .left .tables) ys zs (chained-right d xs (s ∷ (ys ++ zs)) h .1)) (all-in ys (fit-left ys zs (fit-right xs (s ∷ (ys ++ zs)) t .1)) n)
+first bs d w p e v r xs ys zs s a g f k n = let (h, t) = stretch bs d w p e v r xs ys zs s g n in demand-3-of-code .0 s a ys f k h t
+
+-- and the sums in it (02, N2): "Sums follow from the ids in the record and from what was resolved."
+pub sums : (bs : List ℕ) (d : Tables) (w : List ℕ) (p : ℕ) (e : Tables) (v : List ℕ) (r : Runs bs d w p e v) (xs ys zs : List Made) (s : Made) (a : StartArgs) → madeIn bs d w p e v r ≡ xs ++ (s ∷ (ys ++ zs))
+    → s .what ≡ start a → answerOf (s .left .answer) ≡ done → NoReset ys → (h : History) → List·Memᴰ h (historiesIn ys) → Summed (resolutionsIn ys) h
+sums bs d w p e v r xs ys zs s a g f k n = let (h, t) = stretch bs d w p e v r xs ys zs s g n in sums-of-code s a ys f k h t
 
 -- a commit that is played after a run of late calls, and the same one, with the same lists, played before it: demand 3's second half
 pub second : (bs : List ℕ) (d : Tables) (w : List ℕ) (p : ℕ) (e : Tables) (v : List ℕ) (r : Runs bs d w p e v) → AllArrive (viewOf d) (callsOf (madeIn bs d w p e v r))

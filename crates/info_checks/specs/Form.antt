@@ -194,6 +194,8 @@ module _ (info : PointInfo) (rs : List ℕ) where
     evidence = info .evidence;
     includes = inc;
     witness = wit;
+    payloadLen = info .«payload_len»;
+    payloadBytes = info .«payload_bytes»;
   }
 
   -- there are no links and no evidence

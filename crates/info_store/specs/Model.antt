@@ -21,12 +21,12 @@ use Rattle.info_checks.specs.Dangling.{foundAt}
 unfoldable pub marksOf : Bool → Bool → Bool → ℕ
 marksOf proof trigger cause = bit 1 proof + bit 2 trigger + bit 4 cause
 
--- evidence and top proof as words
+-- evidence, top proof and payload as words
 unfoldable pub headWords : PointInfo → List ℕ
 headWords info =
     let top = info .«top_proof» in
     let d = top .digest .0 in
-    info .evidence ∷ top .round .0 ∷ top .author ∷ getD d 0 0 ∷ getD d 1 0 ∷ getD d 2 0 ∷ getD d 3 0 ∷ []
+    info .evidence ∷ top .round .0 ∷ top .author ∷ getD d 0 0 ∷ getD d 1 0 ∷ getD d 2 0 ∷ getD d 3 0 ∷ (info .«payload_len» * 4294967296 + info .«payload_bytes») ∷ []
 
 -- the target word of link j, which leads d rounds down from round r
 unfoldable pub targetOf : State → List ℕ → List ℕ → List ℕ → ℕ → ℕ → ℕ → ℕ
@@ -43,9 +43,9 @@ unfoldable pub linksPut : (ℕ → ℕ) → List ℕ → ℕ → ℕ → List �
 linksPut f ls q b rs j zero = ls
 linksPut f ls q b rs j (suc m) = linkPut (linksPut f ls q b rs j m) q (b + peerAt rs (j + m)) (f (j + m)) rs (j + m)
 
--- place q with zeros, then evidence and top proof
+-- place q with zeros, then those words
 unfoldable pub headPut : List ℕ → ℕ → PointInfo → List ℕ
-headPut ls q info = copied (zeroed ls (q * 328) 328) (q * 328) (headWords info) 0 7
+headPut ls q info = copied (zeroed ls (q * 328) 328) (q * 328) (headWords info) 0 8
 
 -- the links after a resolution
 unfoldable pub storedLinks : State → List ℕ → List ℕ → List ℕ → ℕ → PointInfo → List ℕ → List ℕ
@@ -89,14 +89,14 @@ links-more f ls gs ts q b rs j i k w e g h t = rw (add-one i) (t ∙ rw (e, g, h
 pub links-end : (f : ℕ → ℕ) (ls gs : List ℕ) (q b : ℕ) (rs : List ℕ) (j i m : ℕ) → gs ≡ linksPut f ls q b rs j i → i ≤ m → m ≤ i → gs ≡ linksPut f ls q b rs j m
 links-end f ls gs q b rs j i m e l k = let x : i ≡ m = omega arith in rw x at e
 
--- zeros, evidence and top proof, includes, witness
-pub resolution-by : (s : State) (ks ls os : List ℕ) (q : ℕ) (info : PointInfo) (rs ws l1 l2 l3 l4 : List ℕ) (r : ℕ) → roundAt ks q ≡ r → ws ≡ headWords info → l1 ≡ zeroed ls (q * 328) 328 → l2 ≡ copied l1 (q * 328) ws 0 7
+-- zeros, the first words, includes, witness
+pub resolution-by : (s : State) (ks ls os : List ℕ) (q : ℕ) (info : PointInfo) (rs ws l1 l2 l3 l4 : List ℕ) (r : ℕ) → roundAt ks q ≡ r → ws ≡ headWords info → l1 ≡ zeroed ls (q * 328) 328 → l2 ≡ copied l1 (q * 328) ws 0 8
     → l3 ≡ linksPut (targetOf s ks os rs 1 r) l2 q 0 rs 0 (info .includes) → l4 ≡ linksPut (targetOf s ks os rs 2 r) l3 q 32 rs (info .includes) (info .witness)
     → l4 ≡ storedLinks s ks ls os q info rs
 unfolding storedLinks headPut
 resolution-by s ks ls os q info rs ws l1 l2 l3 l4 r i a b c d e =
     rw i (e ∙ ap (λ (x : List ℕ). linksPut (targetOf s ks os rs 2 r) x q 32 rs (info .includes) (info .witness))
-    (d ∙ ap (λ (x : List ℕ). linksPut (targetOf s ks os rs 1 r) x q 0 rs 0 (info .includes)) (c ∙ ap₂ (λ (x y : List ℕ). copied x (q * 328) y 0 7) b a)))
+    (d ∙ ap (λ (x : List ℕ). linksPut (targetOf s ks os rs 1 r) x q 0 rs 0 (info .includes)) (c ∙ ap₂ (λ (x y : List ℕ). copied x (q * 328) y 0 8) b a)))
 
 -- ---- lengths
 
@@ -111,15 +111,15 @@ unfolding linksPut
 links-length f ls q b rs j zero = refl
 links-length f ls q b rs j (suc m) = link-length (linksPut f ls q b rs j m) q (b + peerAt rs (j + m)) (f (j + m)) rs (j + m) ∙ links-length f ls q b rs j m
 
--- nor evidence and top proof
+-- nor the first words
 pub head-length : (ls : List ℕ) (q : ℕ) (info : PointInfo) → length (headPut ls q info) ≡ length ls
 unfolding headPut
-head-length ls q info = filled-length _ (zeroed ls (q * 328) 328) (q * 328) 7 ∙ filled-length _ ls (q * 328) 328
+head-length ls q info = filled-length _ (zeroed ls (q * 328) 328) (q * 328) 8 ∙ filled-length _ ls (q * 328) 328
 
--- nor zeros, evidence and top proof, then links
-pub room-by : (ls : List ℕ) (q : ℕ) (g : ℕ → ℕ) (rs l1 l2 l3 : List ℕ) (f : ℕ → ℕ) (b j m : ℕ) → l1 ≡ zeroed ls (q * 328) 328 → l2 ≡ filled g l1 (q * 328) 7 → l3 ≡ linksPut f l2 q b rs j m → length l3 ≡ length ls
+-- nor zeros, the first words, then links
+pub room-by : (ls : List ℕ) (q : ℕ) (g : ℕ → ℕ) (rs l1 l2 l3 : List ℕ) (f : ℕ → ℕ) (b j m : ℕ) → l1 ≡ zeroed ls (q * 328) 328 → l2 ≡ filled g l1 (q * 328) 8 → l3 ≡ linksPut f l2 q b rs j m → length l3 ≡ length ls
 room-by ls q g rs l1 l2 l3 f b j m x y z =
-    ap length z ∙ (links-length f l2 q b rs j m ∙ (ap length y ∙ (filled-length g l1 (q * 328) 7 ∙ (ap length x ∙ filled-length _ ls (q * 328) 328))))
+    ap length z ∙ (links-length f l2 q b rs j m ∙ (ap length y ∙ (filled-length g l1 (q * 328) 8 ∙ (ap length x ∙ filled-length _ ls (q * 328) 328))))
 
 -- ---- marks
 

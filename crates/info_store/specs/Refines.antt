@@ -1,10 +1,11 @@
 -- The tables that a resolution leaves are read as the store that it leaves.
-use Prim.Native.Nat.{ℕ, zero, suc, _+_, _-_, _*_, _%_, _≤_, _<_}
+use Prim.Native.Nat.{ℕ, zero, suc, _+_, _-_, _*_, _/_, _%_, _≤_, _<_}
 use mathlib.Core.Path.{_≡_, refl, sym, _∙_, ap, subst}
 use mathlib.Core.List.{List}
 use mathlib.Core.Logic.{inl}
 use mathlib.Core.Bool.{Bool, true, false, _||_, cond}
 use native.Mathlib.Omega.{arith}
+use lib.Arith.{digits-div, digits-mod}
 use lib.Dec.{eqb, leb, ltb}
 use lib.ListN.{length, getD, set, length-set}
 use lib.Seq.{getD-set-same, getD-set-other}
@@ -17,7 +18,7 @@ use Rattle.spec.specs.Calls.{resolvedAs}
 use Rattle.models.specs.Cert.{bitOf, flagsOf}
 use Rattle.models.specs.Digest.{Fit, digestAt}
 use Rattle.models.specs.Info.{infoOf}
-use Rattle.models.specs.Tables.{roundAt, digestOf, statusAt, marksAt, evidenceAt, placeAt, Used, isUsed, targetAt, dist}
+use Rattle.models.specs.Tables.{roundAt, digestOf, statusAt, marksAt, evidenceAt, payloadAt, placeAt, Used, isUsed, targetAt, dist}
 use Rattle.models.specs.declared.info.PointInfo.{PointInfo}
 use Rattle.dag_round_keys.specs.Fill.{zeroed, filled-length, filled-in, filled-off}
 use Rattle.dag_round_keys.specs.Digest.{digest-alike}
@@ -65,10 +66,11 @@ head-digest info (suc (suc zero)) l = refl
 head-digest info (suc (suc (suc zero))) l = refl
 head-digest info (suc (suc (suc (suc x)))) l = absurd (omega arith)
 
--- the evidence, and the top proof's round and author
+-- the evidence, the top proof's round and author, and the payload
 head-first : (info : PointInfo) → (getD (headWords info) (0 + 0) 0 ≡ info .evidence) × (getD (headWords info) (0 + 1) 0 ≡ info .«top_proof» .round .0) × (getD (headWords info) (0 + 2) 0 ≡ info .«top_proof» .author)
+    × (getD (headWords info) (0 + 7) 0 ≡ info .«payload_len» * 4294967296 + info .«payload_bytes»)
 unfolding headWords
-head-first info = (refl, refl, refl)
+head-first info = (refl, refl, refl, refl)
 
 -- a point that is not resolved now
 resolved-off : (t : Resolution) (p : Point) → resolvedAs false t p ≡ p
@@ -160,7 +162,7 @@ module _ (s : State) (ks ls cs os : List ℕ) (fk : Fit ks) (fl : Fit ls) (h : c
   abbrev f : ℕ → ℕ → ℕ
   f d = targetOf s ks os rs d r
 
-  -- the place with zeros, evidence and top proof
+  -- the place with zeros and its first words
   abbrev l0 : List ℕ
   l0 = headPut ls q info
 
@@ -180,36 +182,36 @@ module _ (s : State) (ks ls cs os : List ℕ) (fk : Fit ks) (fl : Fit ls) (h : c
   room1 : q * 328 + 328 ≤ length l1
   room1 = omega (arith, links-length (f 1) l0 q 0 rs 0 (info .includes), room0)
 
-  -- what neither kind writes is as zeros, evidence and top proof leave it
+  -- what neither kind writes is as zeros and the first words leave it
   links-as : (y : ℕ) → Off q 0 y → Off q 32 y → getD ts y 0 ≡ getD l0 y 0
   links-as y a b =
       links-off (f 2) l1 q 32 rs (info .includes) (info .witness) y (rise-below rs (info .includes) (info .witness) (x .witness)) b
       ∙ links-off (f 1) l0 q 0 rs 0 (info .includes) y (rise-below rs 0 (info .includes) (x .includes)) a
 
-  -- a word that is none of the first seven is 0
-  head-zero : (j : ℕ) → 7 ≤ j → j < 328 → getD l0 (q * 328 + j) 0 ≡ 0
+  -- a word that is none of the first eight is 0
+  head-zero : (j : ℕ) → 8 ≤ j → j < 328 → getD l0 (q * 328 + j) 0 ≡ 0
   unfolding headPut
   head-zero j a b =
-      filled-off _ (zeroed ls (q * 328) 328) (q * 328) 7 (q * 328 + j) (λ i l e. omega arith)
+      filled-off _ (zeroed ls (q * 328) 328) (q * 328) 8 (q * 328 + j) (λ i l e. omega arith)
       ∙ filled-in (λ i. 0) ls (q * 328) 328 j (omega (arith, sizes .1, inside)) b
 
   -- so there is no link
   target0 : (k : ℕ) → k < 64 → targetAt l0 q k ≡ 0
   target0 k l = let e : q * 328 + 8 + k ≡ q * 328 + (8 + k) = omega arith in rw e (head-zero (8 + k) (omega arith) (omega arith))
 
-  -- the first seven words
-  head-own : (j : ℕ) → j < 7 → getD ts (q * 328 + j) 0 ≡ getD (headWords info) (0 + j) 0
+  -- the first eight words
+  head-own : (j : ℕ) → j < 8 → getD ts (q * 328 + j) 0 ≡ getD (headWords info) (0 + j) 0
   unfolding headPut
   head-own j l =
       links-as (q * 328 + j) (λ c m. ((λ e. omega arith), λ i k e. omega arith)) (λ c m. ((λ e. omega arith), λ i k e. omega arith))
-      ∙ filled-in (λ i. getD (headWords info) (0 + i) 0) (zeroed ls (q * 328) 328) (q * 328) 7 j (omega (arith, filled-length (λ i. 0) ls (q * 328) 328, sizes .1, inside)) l
+      ∙ filled-in (λ i. getD (headWords info) (0 + i) 0) (zeroed ls (q * 328) 328) (q * 328) 8 j (omega (arith, filled-length (λ i. 0) ls (q * 328) 328, sizes .1, inside)) l
 
   -- other places keep their words
   links-same : (p : ℕ) → (p ≡ q → ⊥) → Same ls 328 p ts
   unfolding headPut
   links-same p d j l =
       links-as (p * 328 + j) (λ c m. ((λ e. d (omega arith)), λ i k e. d (omega arith))) (λ c m. ((λ e. d (omega arith)), λ i k e. d (omega arith)))
-      ∙ (filled-off _ (zeroed ls (q * 328) 328) (q * 328) 7 (p * 328 + j) (λ i k e. d (omega arith))
+      ∙ (filled-off _ (zeroed ls (q * 328) 328) (q * 328) 8 (p * 328 + j) (λ i k e. d (omega arith))
       ∙ filled-off _ ls (q * 328) 328 (p * 328 + j) (λ i k e. d (omega arith)))
 
   -- the digest of a link of another place
@@ -231,9 +233,13 @@ module _ (s : State) (ks ls cs os : List ℕ) (fk : Fit ks) (fl : Fit ls) (h : c
 
   -- ---- what is told of the point
 
+  -- the payload's word
+  payload-own : payloadAt ts q ≡ info .«payload_len» * 4294967296 + info .«payload_bytes»
+  payload-own = head-own 7 (omega arith) ∙ head-first info .3
+
   -- all that was given
-  given-own : givenAt us ts q ≡ given info rs
-  given-own = λ j. record {
+  given-own : Ranged info → givenAt us ts q ≡ given info rs
+  given-own range = λ j. record {
     status = status-own j;
     proof = (ap (bitOf 1) marks-own ∙ marks-bits (info .proof) (info .trigger) (info .cause) .0) j;
     trigger = (ap (bitOf 2) marks-own ∙ marks-bits (info .proof) (info .trigger) (info .cause) .1) j;
@@ -242,6 +248,8 @@ module _ (s : State) (ks ls cs os : List ℕ) (fk : Fit ks) (fl : Fit ls) (h : c
     evidence = (head-own 0 (omega arith) ∙ head-first info .0) j;
     includes = held-refs (f 1) ts q 0 rs 0 (info .includes) (x .includes) (target-positive s ks os rs 1 r) held1 j;
     witness = held-refs (f 2) ts q 32 rs (info .includes) (info .witness) (x .witness) (target-positive s ks os rs 2 r) held2 j;
+    payloadLen = (ap (λ (z : ℕ). z / 4294967296) payload-own ∙ digits-div (info .«payload_len») (range .2)) j;
+    payloadBytes = (ap (λ (z : ℕ). z % 4294967296) payload-own ∙ digits-mod (info .«payload_len») (range .2)) j;
   }
     where
       over : (i : ℕ) → getD ts (q * 328 + (3 + i)) 0 ≡ getD (headWords info) (0 + (3 + i)) 0 → getD ts (q * 328 + 3 + i) 0 ≡ getD (headWords info) (3 + i) 0
@@ -251,9 +259,9 @@ module _ (s : State) (ks ls cs os : List ℕ) (fk : Fit ks) (fl : Fit ls) (h : c
       digest = digest-alike ts (info .«top_proof» .digest .0) (q * 328 + 3) 0 (λ i l. over i (head-own (3 + i) (omega arith)) ∙ head-digest info i l)
 
   -- what is told of the point is the resolution
-  pub resolution-is : resolutionAt (storedKeys ks q info) (storedLinks s ks ls os q info rs) q ≡ infoOf info rs
+  resolution-is : Ranged info → resolutionAt (storedKeys ks q info) (storedLinks s ks ls os q info rs) q ≡ infoOf info rs
   unfolding resolutionAt storedLinks
-  resolution-is = rw (ne-eqb (statusAt us q) 0 (λ e. omega (arith, e, status-own, x .status .0))) (given-own ∙ sym (shaped-given info rs (x .shaped .2)))
+  resolution-is range = rw (ne-eqb (statusAt us q) 0 (λ e. omega (arith, e, status-own, x .status .0))) (given-own range ∙ sym (shaped-given info rs (x .shaped .2)))
 
   -- other places keep their words
   pub links-other : (p : ℕ) → (p ≡ q → ⊥) → Same ls 328 p (storedLinks s ks ls os q info rs)
@@ -408,7 +416,7 @@ module _ (s : State) (ks ls cs os : List ℕ) (fk : Fit ks) (fl : Fit ls) (h : c
       point-own = λ j. record {
         named = true;
         id = record { round = keys-kept q 0 (omega arith) j; author = keys-kept q 1 (omega arith) j; digest = digest-kept q j };
-        resolution = resolution-is j;
+        resolution = resolution-is range j;
         flags = flags-own j;
       }
 

@@ -32,8 +32,8 @@ fn marks(proof: bool, trigger: bool, cause: bool) -> u64
     p + t + c
 }
 
-// The evidence and the top proof, as the first words of a place.
-fn head_words(info: PointInfo) -> [u64; 7]
+// The evidence, the top proof and the payload, as the first words of a place.
+fn head_words(info: PointInfo) -> [u64; 8]
     ensures { λ r. ⌜ r ≡ headWords info ⌝ }
 {
     let top = info.top_proof;
@@ -43,7 +43,8 @@ fn head_words(info: PointInfo) -> [u64; 7]
     let e = info.evidence as u64;
     let r = round.0 as u64;
     let a = top.author as u64;
-    [e, r, a, d[0], d[1], d[2], d[3]]
+    let payload = info.payload_len as u64 * 4294967296 + info.payload_bytes as u64;
+    [e, r, a, d[0], d[1], d[2], d[3], payload]
 }
 
 // The target word of link j, which leads d rounds down from this round: 1 + the place of its point, or 1 where the round is not retained.
@@ -112,7 +113,7 @@ fn put_links(
     }
 }
 
-// Writes evidence, top proof and links into place q, of a point of this round, after zeros: a free place may hold anything.
+// Writes evidence, top proof, payload and links into place q, of a point of this round, after zeros: a free place may hold anything.
 fn store_links(
     s: State,
     keys: &[u64],
@@ -132,7 +133,7 @@ fn store_links(
     let w = info.witness;
     let head = head_words(info);
     dag_round_keys::zero_words(links, q * 328, 328);
-    dag_round_keys::copy_words(links, q * 328, &head, 0, 7);
+    dag_round_keys::copy_words(links, q * 328, &head, 0, 8);
     put_links(s, keys, links, order, q, refs, 0, i, 1, round);
     put_links(s, keys, links, order, q, refs, i, w, 2, round);
 }
@@ -147,8 +148,8 @@ fn store_status(keys: &mut [u64], q: usize, info: PointInfo)
     keys[q * 8 + 7] = word;
 }
 
-// Writes what a resolution gives into place q, of a point of this round: status and marks, evidence, top proof, and for each link its digest and the place it leads
-// to.
+// Writes what a resolution gives into place q, of a point of this round: status and marks, evidence, top proof,
+// payload, and for each link its digest and the place it leads to.
 pub fn store_info(
     s: State,
     keys: &mut [u64],

@@ -30,4 +30,6 @@ infoOf i rs = cond (eqb (length rs) ((i .includes + i .witness) * 5)) (record {
   evidence = i .evidence;
   includes = refsOf rs 0 (i .includes);
   witness = refsOf rs (i .includes) (i .witness);
+  payloadLen = i .«payload_len»;
+  payloadBytes = i .«payload_bytes»;
 }) unresolved

@@ -1,6 +1,6 @@
 -- The words of the lent tables.
 -- keys, 8 words a place: round, author, digest (four, the most significant first), status, marks.
--- links, 328 words a place: evidence, round, author and digest (four) of the top proof, one unused, then 64 target words (0 for no link,
+-- links, 328 words a place: evidence, round, author and digest (four) of the top proof, the payload, then 64 target words (0 for no link,
 -- else 1 + the place that it leads to), then four words of digest for each link. Link k is under the peer k % 32 and leads 1 + k / 32
 -- rounds down.
 -- certs, 1 word a place: the certificate word.
@@ -57,6 +57,10 @@ used-is os n q = (
 
 abbrev pub evidenceAt : List ℕ → ℕ → ℕ
 evidenceAt ls q = getD ls (q * 328 + 0) 0
+
+-- 02, N2: "every resolved point holds" both numbers: `payload_len` in the upper 32 bits, `payload_bytes` in the lower
+abbrev pub payloadAt : List ℕ → ℕ → ℕ
+payloadAt ls q = getD ls (q * 328 + 7) 0
 
 -- the target word of link k of place q
 abbrev pub targetAt : List ℕ → ℕ → ℕ → ℕ

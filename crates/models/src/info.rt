@@ -13,4 +13,6 @@ pub struct PointInfo {
     pub evidence: u32,
     pub includes: usize,
     pub witness: usize,
+    pub payload_len: u32,
+    pub payload_bytes: u32,
 }

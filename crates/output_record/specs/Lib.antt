@@ -1,4 +1,5 @@
 pub mod Picked
+pub mod Sums
 pub mod Model
 pub mod Listed
 pub mod Marks

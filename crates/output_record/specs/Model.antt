@@ -14,6 +14,7 @@ use Rattle.spec.specs.Ids.{idBytes, prev}
 use Rattle.spec.specs.Records.{id-length, ids-length}
 use Rattle.commit_state.specs.declared.state.State.{State}
 use Rattle.answer_bytes.specs.Bytes.{placeId}
+use Rattle.output_record.specs.Sums.{sumsOf}
 
 -- the byte of a flag
 unfoldable pub flagOf : Bool → ℕ
@@ -36,9 +37,10 @@ headOf ks a p x r n = idBytes (placeId ks a) ++ (idBytes (placeId ks p) ++ (be 1
 unfoldable pub pointsOf : List ℕ → List ℕ → List ℕ
 pointsOf ks l = joined idBytes (map (placeId ks) l)
 
--- "Anchor record: anchor id, proof id, executable (1 byte), previous anchor round (4; 0 for none), number of points (4), their ids."
-unfoldable pub recordOf : List ℕ → ℕ → ℕ → Bool → ℕ → List ℕ → List ℕ
-recordOf ks a p x r l = headOf ks a p x r (length l) ++ pointsOf ks l
+-- "Anchor record: anchor id, proof id, executable (1 byte), previous anchor round (4; 0 for none), number of points (4), their ids." 02, N2:
+-- "an anchor record ends with their two 64-bit sums"
+unfoldable pub recordOf : List ℕ → ℕ → ℕ → Bool → ℕ → List ℕ → ℕ → ℕ → List ℕ
+recordOf ks a p x r l len bytes = headOf ks a p x r (length l) ++ (pointsOf ks l ++ sumsOf len bytes)
 
 -- ---- ids after ids
 
@@ -91,18 +93,16 @@ head-length ks a p x r n =
     more : {m n k l : ℕ} → m ≡ k → n ≡ l → m + n ≡ k + l
     more e d = rw (e, d) refl
 
--- and 37 for each point
-pub record-length : (ks : List ℕ) (a p : ℕ) (x : Bool) (r : ℕ) (l : List ℕ) → length (recordOf ks a p x r l) ≡ 83 + length l * 37
-unfolding recordOf
-record-length ks a p x r l = length-append (headOf ks a p x r (length l)) (pointsOf ks l) ∙ rw (head-length ks a p x r (length l), points-length ks l) refl
-
--- the points after the head
-module _ (ks : List ℕ) (a p : ℕ) (x : Bool) (r n : ℕ) (l : List ℕ) where
-  pub record-then : (b b₁ b₂ : List ℕ) (at e end : ℕ) → n ≡ length l → e ≡ at + 83 → b₁ ≡ written b at (headOf ks a p x r n) → Wrote ks e b₁ l b₂ end
-      → (end ≡ at + 83 + n * 37) × (b₂ ≡ written b at (recordOf ks a p x r l))
+-- the points after the head, the sums after the points
+module _ (ks : List ℕ) (a p : ℕ) (x : Bool) (r n : ℕ) (l : List ℕ) (len bytes : ℕ) where
+  pub record-then : (b b₁ b₂ b₃ : List ℕ) (at e f end : ℕ) → n ≡ length l → e ≡ at + 83 → b₁ ≡ written b at (headOf ks a p x r n) → Wrote ks e b₁ l b₂ f
+      → (end ≡ f + 16) × (b₃ ≡ written b₂ f (sumsOf len bytes)) → (end ≡ at + 99 + n * 37) × (b₃ ≡ written b at (recordOf ks a p x r l len bytes))
   unfolding recordOf
-  record-then b b₁ b₂ at e end c d h (f, g) =
-      (omega arith, andThen b b₁ b₂ at e (headOf ks a p x r (length l)) (pointsOf ks l) 83 (head-length ks a p x r (length l)) d (rw c at h) g)
+  record-then b b₁ b₂ b₃ at e f end c d h (g, w) (i, y) = (
+    omega arith,
+    andThen b b₁ b₃ at e (headOf ks a p x r (length l)) (pointsOf ks l ++ sumsOf len bytes) 83 (head-length ks a p x r (length l)) d (rw c at h)
+        (andThen b₁ b₂ b₃ e f (pointsOf ks l) (sumsOf len bytes) (length l * 37) (points-length ks l) g w y),
+  )
 
 -- ---- executable, the previous anchor
 

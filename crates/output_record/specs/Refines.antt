@@ -9,14 +9,14 @@ use lib.Dec.{eqb, leb, ltb}
 use lib.ListN.{length, getD, length-map}
 use borrow.Author.Tests.{ltb-true}
 use Rattle.laws.specs.Test.{byTest, clash, and-l}
-use Rattle.laws.specs.Lists.{joined, map-same}
+use Rattle.laws.specs.Lists.{joined, map-same, weigh}
 use Rattle.laws.specs.Bytes.{be}
 use Rattle.spec.specs.Ids.{Id, idBytes, prev}
 use Rattle.spec.specs.Store as store
-use Rattle.spec.specs.Store.{Store, idAt}
+use Rattle.spec.specs.Store.{Resolution, Store, idAt}
 use Rattle.spec.specs.Rules.{isPeer, countsAsStarted}
 use Rattle.spec.specs.Chain.{EnqueuedAnchor}
-use Rattle.spec.specs.History.{isExecutable, isFirstExecutable, prevAnchor, downFrom, linkedCounts, listsOk, inOrder, recordBytes, inHistory, history, setCommitted, gapAfter, useProof, dequeued}
+use Rattle.spec.specs.History.{isExecutable, isFirstExecutable, prevAnchor, downFrom, linkedCounts, listsOk, inOrder, summed, tailBytes, recordBytes, inHistory, history, setCommitted, gapAfter, useProof, dequeued}
 use Rattle.spec.specs.OrderInRound.{order-length}
 use Rattle.spec.specs.Records.{record-length}
 use Rattle.spec.specs.WellFormed.{Wf, countsAsStarted-elim, countsAsStarted-intro}
@@ -26,14 +26,14 @@ use Rattle.models.specs.Digest.{Fit}
 use Rattle.models.specs.Cert.{flagsOf, heightOf, marked}
 use Rattle.models.specs.Tables.{roundAt, authorAt, placeAt, Inside, Used, isUsed, used-is}
 use Rattle.dag_round_keys.specs.Sorted.{sorted-apart}
-use Rattle.commit_state.specs.View.{pointAt, resolutionAt, roundsOf, confOf, progressOf, memoryOf, optionOf, gapOf}
+use Rattle.commit_state.specs.View.{givenAt, pointAt, resolutionAt, roundsOf, confOf, progressOf, memoryOf, optionOf, gapOf}
 use Rattle.commit_state.specs.declared.state.State.{State}
 use Rattle.cert_certify.specs.Word.{flags-word, height-word}
 use Rattle.cert_certify.specs.Settled.{cert-small, shape-certs, regular-certs}
 use Rattle.tables_test.specs.Model.{shape, shape-says, places-says}
 use Rattle.tables_test.specs.View.{view, regular, seenAt}
 use Rattle.tables_test.specs.Regular.{phase-same, places-same}
-use Rattle.tables_test.specs.Whole.{sized}
+use Rattle.tables_test.specs.Whole.{sized, places-is}
 use Rattle.tables_test.specs.Refines.{Started, counted}
 use Rattle.answer_bytes.specs.Bytes.{placeId}
 use Rattle.back_history.specs.Model.{isUncommitted}
@@ -41,10 +41,11 @@ use Rattle.back_history.specs.RefinesNeeded.{lowestOf, marksOf}
 use Rattle.back_history.specs.Refines.{picked}
 use Rattle.back_order.specs.Drawn.{drawnBy}
 use Rattle.back_order.specs.Refines.{order-is, drawn-used}
+use Rattle.output_record.specs.Sums.{lenSum, bytesSum, sumsOf}
 use Rattle.output_record.specs.Model.{flagOf, headOf, pointsOf, recordOf, executes, isFirstOf, previousOf}
 use Rattle.output_record.specs.Marks.{Small, committedWord, marksAll, marks-length, marks-at, marks-small}
 use Rattle.output_record.specs.ModelState.{afterState, option-is, asked-is, gap-reads, after-rounds}
-use Rattle.output_record.specs.History.{Picks, id-seen, used-named, history-used, history-is}
+use Rattle.output_record.specs.History.{Picks, id-seen, used-named, history-used, history-is, sum-is}
 
 -- lists joined from the left and from the right
 six-parts : (a b c d e f : List ℕ) → (a ++ (b ++ (c ++ (d ++ e)))) ++ f ≡ a ++ (b ++ (c ++ (d ++ (e ++ f))))
@@ -138,21 +139,6 @@ module _ (s : State) (ks ls cs os : List ℕ) (fk : Fit ks) (fl : Fit ls) (h : c
         order-is s ks ls cs os fk fl t (e .anchor) ua l ok
         ∙ map-same (idAt v) (placeId ks) (drawnFor l) (λ q k. id-is q (drawn-used s ks ls cs os fk fl t (e .anchor) ua l ok q k))
 
-    -- the record's bytes are those of 01, in the order of 02, N1
-    pub record-is : (l : List ℕ) → listsOk (linkedCounts v (e .anchor)) l ≡ true
-        → recordOf ks (e .anchor) (e .proof) (executes s (roundAt ks (e .anchor))) (previousOf s (roundAt ks (e .anchor)) (e .prevProofRound))
-        (drawnBy ks os (s .count) cs (marksOf s ks ls cs os (e .anchor)) (downFrom (roundAt ks (e .anchor)) (roundAt ks (e .anchor) + 1 - lowestOf s (roundAt ks (e .anchor)))) l) ≡ recordBytes v l e
-    unfolding recordOf headOf pointsOf recordBytes flagOf
-    record-is l ok =
-        let is = sym (order-named l ok) in
-        let anchor = sym (id-is (e .anchor) ua) in
-        let proof = sym (id-is (e .proof) up) in
-        let flag = ap (λ (b : Bool). be 1 (cond b 1 0)) (sym executable-is) in
-        let before = ap (be 4) (sym previous-is) in
-        let number = ap (be 4) (sym (length-map (drawnFor l) (placeId ks)) ∙ ap length is) in
-        six-parts (idBytes (placeId ks (e .anchor))) (idBytes (placeId ks (e .proof))) (be 1 (cond (executes s ar) 1 0)) (be 4 (previousOf s ar (e .prevProofRound))) (be 4 (length (drawnFor l))) (joined idBytes (map (placeId ks) (drawnFor l)))
-        ∙ (λ i. idBytes (anchor i) ++ (idBytes (proof i) ++ (flag i ++ (before i ++ (number i ++ joined idBytes (is i))))))
-
     module _ (m : List Bool) (low high : ℕ) (lh : high ≤ s .count) (pk : Picks v (e .anchor) os (s .count) m cs low high) where
       -- how many points its history has
       number-is : length (history v (e .anchor)) ≡ length (picked os (isUncommitted cs m) low (high - low))
@@ -160,7 +146,33 @@ module _ (s : State) (ks ls cs os : List ℕ) (fk : Fit ks) (fl : Fit ls) (h : c
           ap length (history-is s ks ls cs os fk w (t .facts .sorted) (e .anchor) ua m low high lh pk)
           ∙ length-map (picked os (isUncommitted cs m) low (high - low)) (placeId ks)
 
+      -- the sums over it, once its points are resolved
+      sum-of : Tested v (e .anchor) → (f : Resolution → ℕ) → weigh (λ q. f (givenAt ks ls q)) (picked os (isUncommitted cs m) low (high - low)) ≡ summed f v (e .anchor)
+      unfolding inHistory
+      sum-of c f =
+          sum-is s ks ls cs os fk w (t .facts .sorted) (e .anchor) ua m low high lh pk f
+          (λ q (i, l, d). subst (λ x. x < v .places) d (subst (λ n. placeAt os i < n) (sym (places-is s ks ls cs os fk fl (t .shaped))) (t .facts .inside i l)))
+          (λ q l k. c .ready q l (and-l _ _ k) .0)
+
       module _ (l : List ℕ) (ok : listsOk (linkedCounts v (e .anchor)) l ≡ true) where
+        -- the record's bytes are those of 01, in the order of 02, N1, with the sums of N2
+        pub record-is : Tested v (e .anchor)
+            → recordOf ks (e .anchor) (e .proof) (executes s (roundAt ks (e .anchor))) (previousOf s (roundAt ks (e .anchor)) (e .prevProofRound))
+            (drawnBy ks os (s .count) cs (marksOf s ks ls cs os (e .anchor)) (downFrom (roundAt ks (e .anchor)) (roundAt ks (e .anchor) + 1 - lowestOf s (roundAt ks (e .anchor)))) l)
+            (lenSum ls os (isUncommitted cs m) low (high - low)) (bytesSum ls os (isUncommitted cs m) low (high - low)) ≡ recordBytes v l e
+        unfolding recordOf headOf pointsOf recordBytes flagOf sumsOf tailBytes
+        record-is c =
+            let is = sym (order-named l ok) in
+            let anchor = sym (id-is (e .anchor) ua) in
+            let proof = sym (id-is (e .proof) up) in
+            let flag = ap (λ (b : Bool). be 1 (cond b 1 0)) (sym executable-is) in
+            let before = ap (be 4) (sym previous-is) in
+            let number = ap (be 4) (sym (length-map (drawnFor l) (placeId ks)) ∙ ap length is) in
+            let len = sum-of c (λ r. r .payloadLen) in
+            let bytes = sum-of c (λ r. r .payloadBytes) in
+            six-parts (idBytes (placeId ks (e .anchor))) (idBytes (placeId ks (e .proof))) (be 1 (cond (executes s ar) 1 0)) (be 4 (previousOf s ar (e .prevProofRound))) (be 4 (length (drawnFor l))) _
+            ∙ (λ i. idBytes (anchor i) ++ (idBytes (proof i) ++ (flag i ++ (before i ++ (number i ++ (joined idBytes (is i) ++ (be 8 (len i) ++ be 8 (bytes i))))))))
+
         -- as many come out
         pub drawn-length : length (drawnBy ks os (s .count) cs (marksOf s ks ls cs os (e .anchor)) (downFrom (roundAt ks (e .anchor)) (roundAt ks (e .anchor) + 1 - lowestOf s (roundAt ks (e .anchor)))) l) ≡ length (picked os (isUncommitted cs m) low (high - low))
         drawn-length =
@@ -168,8 +180,8 @@ module _ (s : State) (ks ls cs os : List ℕ) (fk : Fit ks) (fl : Fit ls) (h : c
             ∙ (ap length (sym (order-named l ok)) ∙ (order-length v w (e .anchor) (used-named s ks ls cs os fk w (t .facts .sorted) (e .anchor) ua) l ok ∙ number-is))
 
         -- the record's length
-        pub record-size : length (recordBytes v l e) ≡ 83 + length (picked os (isUncommitted cs m) low (high - low)) * 37
-        record-size = record-length v w l e (used-named s ks ls cs os fk w (t .facts .sorted) (e .anchor) ua) ok ∙ ap (λ (k : ℕ). 83 + k * 37) number-is
+        pub record-size : length (recordBytes v l e) ≡ 99 + length (picked os (isUncommitted cs m) low (high - low)) * 37
+        record-size = record-length v w l e (used-named s ks ls cs os fk w (t .facts .sorted) (e .anchor) ua) ok ∙ (ap (λ (k : ℕ). 83 + k * 37 + 16) number-is ∙ omega arith)
 
       -- what the code is given: the tables
       pub tables-ready : (high ≤ length os) × (length cs ≤ 4096) × (length cs * 8 ≤ length ks) × Inside os high (length cs) × Small os cs high

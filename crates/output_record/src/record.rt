@@ -10,6 +10,8 @@ ghost use Rattle.back_order.specs.Counts.{countBy};
 ghost use Rattle.back_order.specs.Drawn.{newOf, outBy};
 ghost use Rattle.output_record.specs.Model.{flagOf, headOf, Wrote, recordOf, executes, isFirstOf, previousOf};
 ghost use Rattle.output_record.specs.Listed.{historyBy, Listable, roundBy, RoundListed};
+use crate::sums::PayloadSums;
+use crate::sums::put_sums;
 use answer_bytes::put_id;
 use answer_bytes::put_number;
 use back_order::byte_at;
@@ -176,7 +178,7 @@ pub fn put_head(
     put_number(b, a4, 4, count as u64)
 }
 
-// The whole record, of `count` points.
+// The whole record, of `count` points; its last bytes are the sums over them.
 pub fn put_record(
     b: &mut [u8],
     at: usize,
@@ -194,17 +196,18 @@ pub fn put_record(
     executable: bool,
     previous: Round,
     count: usize,
+    sums: PayloadSums,
 ) -> usize
     requires { ⌜ Listable (now keys) (now order) n (now certs) (now marks) (now lists) end (round .0) (lowest .0) ⌝ }
     requires { ⌜ (anchor < length (now certs)) × (proof < length (now certs)) × (count ≡ length
-        (historyBy (now keys) (now order) n (now certs) (now marks) (now lists) end (round .0) (lowest .0))) × (at + 83 + count * 37 ≤ length (now b)) ⌝ }
-    ensures { λ r. ⌜ (r ≡ at + 83 + count * 37) × (now (b .exit) ≡ written (now (b .entry)) at (recordOf (now (keys .entry)) anchor proof executable (previous .0)
-        (historyBy (now (keys .entry)) (now (order .entry)) n (now (certs .entry)) (now (marks .entry)) (now (lists .entry)) end (round .0) (lowest .0)))) ⌝ }
+        (historyBy (now keys) (now order) n (now certs) (now marks) (now lists) end (round .0) (lowest .0))) × (at + 99 + count * 37 ≤ length (now b)) ⌝ }
+    ensures { λ r. ⌜ (r ≡ at + 99 + count * 37) × (now (b .exit) ≡ written (now (b .entry)) at (recordOf (now (keys .entry)) anchor proof executable (previous .0)
+        (historyBy (now (keys .entry)) (now (order .entry)) n (now (certs .entry)) (now (marks .entry)) (now (lists .entry)) end (round .0) (lowest .0)) (sums .len) (sums .bytes))) ⌝ }
 {
-    let next = put_head(b, at, keys, anchor, proof, executable, previous, count);
-    put_points(
+    let first = put_head(b, at, keys, anchor, proof, executable, previous, count);
+    let last = put_points(
         b,
-        next,
+        first,
         keys,
         marks,
         order,
@@ -214,7 +217,8 @@ pub fn put_record(
         end,
         round,
         lowest,
-    )
+    );
+    put_sums(b, last, sums)
 }
 
 // Whether an anchor of this round is executable.

@@ -58,7 +58,7 @@ module _ (k : Kind) (f : List ℕ) (s : Sized k f) where
   unfolding sizeOf
   drop-long e = long k Drop f s e refl
 
-  pub resolve-long : k ≡ Resolve → 82 + 33 * linksIn f ≤ length f
+  pub resolve-long : k ≡ Resolve → 90 + 33 * linksIn f ≤ length f
   unfolding sizeOf
   resolve-long e = long k Resolve f s e refl
 

@@ -46,7 +46,7 @@ pub fn play_resolve(
     order: &[u64],
     f: &[u8],
 ) -> Outcome
-    requires { ⌜ 82 + 33 * linksIn (now f) ≤ length (now f) ⌝ }
+    requires { ⌜ 90 + 33 * linksIn (now f) ≤ length (now f) ⌝ }
     requires { ⌜ linksIn (now f) ≤ 121 ⌝ }
     ensures { λ r. ⌜ Did (callBy kinds.Resolve (now (f .entry)) []) (modelBy kinds.Resolve (now (f .entry)) [])
         (tables s (now (keys .entry)) (now (links .entry)) (now (certs .entry)) (now (order .entry)))

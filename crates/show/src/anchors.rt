@@ -11,7 +11,9 @@ use crate::lines::write_number;
 use commit_answer::answer::Answer;
 use models::parts::PointId;
 use trace::anchors::AnchorHead;
+use trace::anchors::AnchorSums;
 use trace::anchors::anchor_head;
+use trace::anchors::anchor_sums;
 use trace::bytes::id_of;
 
 // The anchors that an answer hands out, or that were finished before a refusal.
@@ -37,11 +39,14 @@ pub fn write_id(name: &[u8], id: PointId, mark: &[u8]) {
     write_digest(words[0], words[1], words[2], words[3]);
 }
 
-fn write_head(head: AnchorHead) {
+// What stands before the ids of a line: the record's head, and its sums before the number of points.
+fn write_head(head: AnchorHead, sums: AnchorSums) {
     write_id(b"anchor ", head.anchor, b" ");
     write_id(b" proof ", head.proof, b" ");
     write_number(b" exec ", head.executable as u64);
     write_number(b" prev ", head.previous as u64);
+    write_number(b" payload ", sums.payload_len);
+    write_number(b" ", sums.payload_bytes);
     write_number(b" points ", head.points as u64);
     write(b":");
 }
@@ -64,18 +69,20 @@ fn write_anchor(b: &[u8], at: usize) -> usize
     ensures { λ r. ⌜ r ≤ length (now (b .entry)) ⌝ }
 {
     let left = b.len() - at;
-    if left < 83 {
+    if left < 99 {
         return b.len();
     }
     let head = anchor_head(b, at);
     let n = head.points as usize;
-    if (left - 83) / 37 < n {
+    if (left - 99) / 37 < n {
         return b.len();
     }
-    write_head(head);
-    write_ids(b, at + 83, n);
+    let ids = at + 83;
+    let sums = anchor_sums(b, ids + n * 37);
+    write_head(head, sums);
+    write_ids(b, ids, n);
     write(b"\n");
-    at + 83 + n * 37
+    at + 99 + n * 37
 }
 
 // The lines of the first n records.

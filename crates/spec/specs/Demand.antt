@@ -7,9 +7,9 @@ use mathlib.Core.List.{List, [], _∷_, _++_, map, List·Memᴰ}
 use mathlib.Core.Option.{some}
 use lib.Dec.{eqb, ltb}
 use lib.ListN.{length, take, drop}
-use Rattle.laws.specs.Lists.{NoDup, joined}
-use Rattle.laws.specs.Bytes.{value}
-use Rattle.spec.specs.Ids.{Id, Link, linksOf, fits}
+use Rattle.laws.specs.Lists.{NoDup, joined, weigh}
+use Rattle.laws.specs.Bytes.{value, be}
+use Rattle.spec.specs.Ids.{Id, Link, sameId, linksOf, fits}
 use Rattle.spec.specs.Store.{Resolution, Store, idAt, find, statusAt, retained}
 use Rattle.spec.specs.Paths.{Path}
 use Rattle.spec.specs.Rules.{countsAsStarted}
@@ -43,11 +43,16 @@ unfoldable pub readIds : ℕ → List ℕ → List Id
 readIds zero bs = []
 readIds (suc n) bs = readId bs ∷ readIds n (drop 37 bs)
 
--- a history as it was written: the store at its commit, the anchor, the ids
+-- a history as it was written: the store at its commit, the anchor, the ids and what follows them
 pub record History : Type 0 where
   pub at : Store
   pub anchor : Id
   pub ids : List Id
+  pub tail : List ℕ
+
+-- the bytes that follow the ids of a record of n points; 02, N2: "an anchor record ends with their two 64-bit sums"
+abbrev pub tailSize : ℕ → ℕ
+tailSize n = 16
 
 -- "Its histories are the ids that follow the number of points, as many as it says, in each anchor record that its commits wrote, in the
 -- order written". The number stands after two ids, the executable byte and the previous anchor round: at byte 79.
@@ -55,7 +60,8 @@ unfoldable pub readRecords : Store → ℕ → List ℕ → List History
 readRecords s zero bs = []
 readRecords s (suc n) bs =
     let points = value 0 (take 4 (drop 79 bs)) in
-    record { at = s; anchor = readId bs; ids = readIds points (drop 83 bs) } ∷ readRecords s n (drop (83 + points * 37) bs)
+    record { at = s; anchor = readId bs; ids = readIds points (drop 83 bs); tail = take (tailSize points) (drop (83 + points * 37) bs) }
+    ∷ readRecords s n (drop (83 + points * 37 + tailSize points) bs)
 
 -- "records before a refused anchor too": as many as the answer's finished anchors
 unfoldable pub finished : Answer → ℕ
@@ -70,13 +76,15 @@ histories s (c ∷ cs) = wrote s c (call s c) ++ histories (call s c .store) cs
 
 -- ---- paths
 
--- an accepted resolution: the id and the links that it gave
+-- an accepted resolution: the id, the links and the two numbers (02, N2: "Resolving takes both") that it gave
 pub record Given : Type 0 where
   pub who : Id
   pub links : List Link
+  pub payloadLen : ℕ
+  pub payloadBytes : ℕ
 
 unfoldable pub accepted : Id → Resolution → Answer → List Given
-accepted i t a = elim a [ done ↦ record { who = i; links = linksOf (t .includes) (t .witness) } ∷ [] | flag b ↦ [] | anchors n ↦ [] | refused r n ↦ [] ]
+accepted i t a = elim a [ done ↦ record { who = i; links = linksOf (t .includes) (t .witness); payloadLen = t .payloadLen; payloadBytes = t .payloadBytes } ∷ [] | flag b ↦ [] | anchors n ↦ [] | refused r n ↦ [] ]
 
 unfoldable pub gave : Call → Answer → List Given
 gave c a = elim c [ start b ↦ [] | resetAll ↦ [] | round r peers ↦ [] | name i ↦ [] | resolve i t ↦ accepted i t a | certify i ↦ [] | gapQuestion ↦ [] | commit i l b ↦ [] | outlook i b ↦ [] | remove r from b ↦ [] | dropTo r ↦ [] ]
@@ -193,3 +201,19 @@ SecondHalf = (s : Store) → Sized s → countsAsStarted s ≡ true → (i : Id)
 -- "This is a single claim about the whole list, not one for each call."
 abbrev pub Demand3 : Type 0
 Demand3 = FirstHalf × SecondHalf
+
+-- ---- the sums (02: N2)
+
+-- "what was resolved": what the accepted resolution of x gave, 0 if there is none
+unfoldable pub paid : (Given → ℕ) → List Given → Id → ℕ
+paid f [] x = 0
+paid f (g ∷ gs) x = elim (sameId (g .who) x) [ true ↦ f g | false ↦ paid f gs x ]
+
+-- "Sums follow from the ids in the record and from what was resolved."
+abbrev pub Summed : List Given → History → Type 0
+Summed G h = h .tail ≡ be 8 (weigh (paid (λ g. g .payloadLen) G) (h .ids)) ++ be 8 (weigh (paid (λ g. g .payloadBytes) G) (h .ids))
+
+-- so it is of every record, for any list of the ten calls after a start that isn't refused
+abbrev pub SumsFollow : Type 0
+SumsFollow = (s : Store) (b : StartArgs) (cs : List Call) → call s (start b) .answer ≡ done → AllInList cs
+    → let t = call s (start b) .store in (h : History) → List·Memᴰ h (histories t cs) → Summed (resolutions t cs) h

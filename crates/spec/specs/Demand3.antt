@@ -1,4 +1,4 @@
--- Demand 3: the proof of the statement in Demand.antt.
+-- Demand 3 and the sums (02: N2): the proofs of the statements in Demand.antt.
 use Prim.Native.Nat.{ℕ, _+_, _-_, _^_, _≤_, _<_, max}
 use mathlib.Core.Path.{_≡_, refl, sym, _∙_, subst, ap, ap₂}
 use mathlib.Core.Logic.{_⊎_, inl, inr, _↔_, ⊎-elim}
@@ -10,24 +10,26 @@ use lib.ListN.{length, take, length-map}
 use borrow.Author.Tests.{leb-true, le-leb, ltb-true}
 use native.Mathlib.Omega.{arith}
 use native.Mathlib.Nat.{le-trans, sub-zero, zero-add}
-use Rattle.laws.specs.Test.{yes-or-no, both, and-l, and-r}
+use Rattle.laws.specs.Test.{byTest, clash, yes-or-no, both, and-l, and-r}
 use Rattle.laws.specs.Scan.{those, those-most}
-use Rattle.laws.specs.Lists.{NoDup, nodup-append, joined}
+use Rattle.laws.specs.Lists.{NoDup, nodup-append, mem-map, joined, weigh}
 use Rattle.laws.specs.Sort.{sort-length}
-use Rattle.spec.specs.Ids.{Id, rises}
+use Rattle.laws.specs.Bytes.{be}
+use Rattle.spec.specs.Ids.{Id, sameId, rises}
 use Rattle.spec.specs.Store.{Resolution, Progress, Memory, Store, idAt, roundAt, resolved, retained, withNumbers}
 use Rattle.spec.specs.Paths.{Path, here, step, LinkedTo}
 use Rattle.spec.specs.Rules.{isPeer, placesOk}
 use Rattle.spec.specs.Chain.{Refusal, Out, bad, good, EnqueuedAnchor, orZero, anchorsOf}
-use Rattle.spec.specs.History.{limit, lowest, inHistory, history, afterLists, recordBytes, testAnchor, dequeued, Finished, commitAll}
+use Rattle.spec.specs.History.{limit, lowest, inHistory, history, afterLists, summed, tailBytes, recordBytes, testAnchor, dequeued, Finished, commitAll}
 use Rattle.spec.specs.Calls.{Outcome, finish, StartArgs, startOk, memoryKept, doStart, begun, doResolve, commitEnd, doCommit, drained, newBottom, Call, start, resetAll, round, name, resolve, certify, gapQuestion, commit, outlook, remove, drop as dropTo, perform, call}
 use Rattle.spec.specs.Graph.{snoc, path-down}
-use Rattle.spec.specs.Links.{down, linked}
+use Rattle.spec.specs.Links.{down, linked, resolved-named}
 use Rattle.spec.specs.WellFormed.{Wf}
 use Rattle.spec.specs.Order.{history-elim, history-named}
-use Rattle.spec.specs.OrderInRound.{order-mem, order-once, order-length}
+use Rattle.spec.specs.OrderInRound.{order-mem, order-once, order-length, order-sum}
+use Rattle.spec.specs.Walk.{same-id, id-same}
 use Rattle.spec.specs.Accepted.{finish-store, gapQuestion-way, remove-way, drop-way, round-way, name-way, resolve-way, certify-way}
-use Rattle.spec.specs.Demand.{InList, AllInList, History, readRecords, finished, wrote, histories, Given, accepted, gave, resolutions, Edge, Exact, AllExact, Writes, StartRefused, AsSaid, AllAsSaid, FirstHalf, Demand3}
+use Rattle.spec.specs.Demand.{InList, AllInList, History, readRecords, finished, wrote, histories, Given, accepted, gave, resolutions, Edge, Exact, AllExact, Writes, StartRefused, AsSaid, AllAsSaid, FirstHalf, Demand3, paid, Summed, SumsFollow}
 use Rattle.spec.specs.Demand3Second.{commit-is, second-half}
 use Rattle.spec.specs.Records.{Fits, Event, passed, passedBy, bytesOf, commit-buffer, Readable, read-all, readAs}
 use Rattle.spec.specs.Preservation.{begun-kept, call-perform, start-begun, start-same, new-bottom}
@@ -163,6 +165,37 @@ module _ (s : Store) (hs : List Id) (e : Event) (r : Right hs e) (f : Frame s (e
 
       small : length (ids e) < 256 ^ 4
       small = omega (arith, order-length (e .from) (r .inv .wf) (e .enq .anchor) (r .next .there) (e .list) (r .listed), history-length (e .from) (e .enq .anchor), places-small (e .from .places) (r .inv .wf .places-ok))
+
+-- ---- the sums of one record
+
+-- what was given for an id of which G has no other
+paid-first : (f : Given → ℕ) (G L : List Given) (g : Given) → List·Memᴰ g G → ((h : Given) → List·Memᴰ h G → h .who ≡ g .who → h ≡ g) → paid f (G ++ L) (g .who) ≡ f g
+unfolding paid
+paid-first f [] L g m one = absurd (List·Memᴰ·not-nil m)
+paid-first f (h ∷ hs) L g m one =
+    byTest (sameId (h .who) (g .who))
+    (λ t. rw (t, paid) (ap f (one h (List·Memᴰ·head refl) (same-id _ _ t))))
+    (λ u. rw (u, paid) (⊎-elim (λ e. absurd (clash (subst (λ (z : Given). sameId (z .who) (g .who) ≡ true) e (id-same (g .who))) u)) (λ k. paid-first f hs L g k (λ z n. one z (List·Memᴰ·tail n))) (List·Memᴰ·cases-cons m)))
+
+-- the points of a history were resolved by then, and each once: later resolutions change no sum
+event-summed : (s : Store) (hs : List Id) (e : Event) → Right hs e → (G L : List Given) → Log (e .from) G → Summed (G ++ L) (readAs s (e .from) (e .list) (e .enq))
+unfolding tailBytes
+event-summed s hs e r G L g = sym (ap₂ (λ (m n : ℕ). be 8 m ++ be 8 n) (sum (λ t. t .payloadLen) (λ x. x .payloadLen) (gave-it (λ x. x .payloadLen))) (sum (λ t. t .payloadBytes) (λ x. x .payloadBytes) (gave-it (λ x. x .payloadBytes))))
+  where
+    sum : (f : Resolution → ℕ) (p : Given → ℕ) → ((q : ℕ) → inHistory (e .from) (e .enq .anchor) q ≡ true → paid p (G ++ L) (idAt (e .from) q) ≡ f (e .from .pt q .resolution)) → weigh (paid p (G ++ L)) (ids e) ≡ summed f (e .from) (e .enq .anchor)
+    sum f p = order-sum (e .from) (r .inv .wf) (e .enq .anchor) (r .next .there) (e .list) (r .listed) f (paid p (G ++ L))
+
+    gave-it : (f : Given → ℕ) (q : ℕ) → inHistory (e .from) (e .enq .anchor) q ≡ true → paid f (G ++ L) (idAt (e .from) q) ≡ f (givenOf (e .from .pt q))
+    gave-it f q h = paid-first f G L (givenOf (e .from .pt q)) (g .all q (r .next .ready q h)) (λ x m k. one x k (g .only x m (subst (λ (y : Id). e .from .bottom ≤ y .round) (sym k) (r .inv .wf .kept q named .0))))
+      where
+        named : e .from .pt q .named ≡ true
+        named = resolved-named (e .from .pt q) (r .next .ready q h)
+
+        one : (x : Given) → x .who ≡ idAt (e .from) q → (p : ℕ) × (resolved (e .from .pt p) ≡ true) × (givenOf (e .from .pt p) ≡ x) → x ≡ givenOf (e .from .pt q)
+        one x k (p, o, i) = sym i ∙ ap (λ n. givenOf (e .from .pt n)) (r .inv .wf .apart p q (resolved-named (e .from .pt p) o) named (ap (λ (y : Id). y .round) who) (ap (λ (y : Id). y .digest) who))
+          where
+            who : idAt (e .from) p ≡ idAt (e .from) q
+            who = ap (λ (y : Given). y .who) i ∙ k
 
 -- ---- the histories of one call
 
@@ -391,6 +424,31 @@ run-exact s (c ∷ cs) hs G v l (a, rest) = go (call s c) (call-perform s (v .wf
         → AllExact (G ++ (gave c (o .answer) ++ resolutions (o .store) cs)) hs (wrote s c o ++ histories (o .store) cs)
     go o d r = subst (λ (y : Outcome). AllExact (G ++ (gave c (y .answer) ++ resolutions (y .store) cs)) hs (wrote s c y ++ histories (y .store) cs)) (sym d) (on r)
 
+-- every record's sums
+run-summed : (s : Store) (cs : List Call) (hs : List Id) (G : List Given) → Inv s hs → Log s G → AllInList cs → (h : History) → List·Memᴰ h (histories s cs) → Summed (G ++ resolutions s cs) h
+unfolding histories resolutions
+run-summed s [] hs G v l a h m = absurd (List·Memᴰ·not-nil m)
+run-summed s (c ∷ cs) hs G v l (a, rest) h m = go (call s c) (call-perform s (v .wf) c) m (run-summed (perform s c .store) cs _ _ (k .inv) (call-log s c G (v .wf) a l) rest h)
+  where
+    k : Keeps hs s c
+    k = call-keeps s c hs v a
+
+    M : List Given
+    M = gave c (perform s c .answer)
+
+    L : List Given
+    L = resolutions (perform s c .store) cs
+
+    here-summed : List·Memᴰ h (wrote s c (perform s c)) → Summed (G ++ (M ++ L)) h
+    here-summed n =
+        let (e, i, x) = mem-map (λ (e : Event). readAs s (e .from) (e .list) (e .enq)) (eventsOf s c) h (subst (List·Memᴰ h) (wrote-is s c hs (k .right)) n) in
+        let (hs′, r) = right-in hs _ (k .right) e i in
+        subst (Summed (G ++ (M ++ L))) x (event-summed s hs′ e r G (M ++ L) (events-from (λ u. Log u G) (λ u x. mark-log G u x) s c l e i))
+
+    go : (o : Outcome) → o ≡ perform s c → List·Memᴰ h (wrote s c o ++ histories (o .store) cs) → (List·Memᴰ h (histories (perform s c .store) cs) → Summed ((G ++ M) ++ L) h) → Summed (G ++ (gave c (o .answer) ++ resolutions (o .store) cs)) h
+    go o d n i = subst (λ (y : Outcome). Summed (G ++ (gave c (y .answer) ++ resolutions (y .store) cs)) h) (sym d)
+        (⊎-elim here-summed (λ x. subst (λ g. Summed g h) (append-assoc G M L) (i x)) (List·Memᴰ·append-cases (wrote s c (perform s c)) (subst (λ (y : Outcome). List·Memᴰ h (wrote s c y ++ histories (y .store) cs)) d n)))
+
 -- no id stands twice in a history of the list
 abbrev AllOnce : List History → Type 0
 AllOnce [] = Unit {0}
@@ -481,3 +539,9 @@ first-half s b cs h a = let (ok, e) = start-begun s b h in
 -- DEMAND 3
 pub demand-3 : Demand3
 demand-3 = (first-half, second-half)
+
+-- 02, N2: "Sums follow from the ids in the record and from what was resolved."
+pub sums-follow : SumsFollow
+sums-follow s b cs h a =
+    let (ok, e) = start-begun s b h in
+    subst (λ t. (x : History) → List·Memᴰ x (histories t cs) → Summed (resolutions t cs) x) (sym e) (run-summed _ cs [] [] (begun-inv (s .places) (memoryKept s) b ok) (begun-log (s .places) (memoryKept s) b) a)

@@ -28,7 +28,7 @@ use Rattle.spec.specs.Preservation.{name-at, name-off}
 
 -- what a resolved point was given
 abbrev pub givenOf : Point → Given
-givenOf p = record { who = p .id; links = links p }
+givenOf p = record { who = p .id; links = links p; payloadLen = p .resolution .payloadLen; payloadBytes = p .resolution .payloadBytes }
 
 -- the store holds what the resolutions gave, as far as the rounds are retained
 pub record Log (s : Store) (G : List Given) : Type 0 where
@@ -168,7 +168,7 @@ status-pos r resolution h = and-l _ (leb (resolution .status) 5) (and-l _ _ h)
 
 -- what it gives
 abbrev pub given : Id → Resolution → Given
-given i resolution = record { who = i; links = linksOf (resolution .includes) (resolution .witness) }
+given i resolution = record { who = i; links = linksOf (resolution .includes) (resolution .witness); payloadLen = resolution .payloadLen; payloadBytes = resolution .payloadBytes }
 
 module _ (s : Store) (i : Id) (resolution : Resolution) (t : Store) (w : Wf s) (r : Resolving s i resolution t) where
   res-id : idAt s (r .place) ≡ i
@@ -176,7 +176,7 @@ module _ (s : Store) (i : Id) (resolution : Resolution) (t : Store) (w : Wf s) (
 
   res-at : givenOf (resolveAt s resolution (r .place) .pt (r .place)) ≡ given i resolution
   unfolding resolveAt withPathHeights withPoints resolvedAs
-  res-at = rw (eq-eqb (r .place) (r .place) refl) (λ k. record { who = res-id k; links = linksOf (resolution .includes) (resolution .witness) })
+  res-at = rw (eq-eqb (r .place) (r .place) refl) (λ k. record { who = res-id k; links = linksOf (resolution .includes) (resolution .witness); payloadLen = resolution .payloadLen; payloadBytes = resolution .payloadBytes })
 
   res-done : resolved (resolveAt s resolution (r .place) .pt (r .place)) ≡ true
   unfolding resolveAt withPathHeights withPoints resolvedAs resolved

@@ -1,16 +1,17 @@
--- Small lists of calls and what they give: each refusal, the order of the tests, chains of several anchors, place lists, remove's bytes.
+-- Small lists of calls and what they give: each refusal, the order of the tests, chains of several anchors, place lists, payload sums,
+-- remove's bytes.
 use Prim.Native.Nat.{ℕ, suc, _+_, _*_}
 use mathlib.Core.Path.{_≡_, refl}
 use mathlib.Core.List.{List, [], _∷_, _++_, map}
 use mathlib.Core.Bool.{Bool, true, false, cond}
 use mathlib.Core.Option.{Option, none, some}
 use lib.Dec.{eqb}
-use lib.ListN.{getD, replicate}
+use lib.ListN.{getD, take, drop, replicate}
 use Rattle.laws.specs.Lists
+use Rattle.laws.specs.Bytes.{value}
 use Rattle.spec.specs.Ids.{Id, Ref}
 use Rattle.spec.specs.Store.{Resolution, Conf, Store, word, withProgress, withMemory}
 use Rattle.spec.specs.Chain.{orZero}
-use Rattle.spec.specs.History.{linkedCounts, listsOk, inOrder, afterLists}
 use Rattle.spec.specs.Inspect.{weight}
 use Rattle.spec.specs.Calls.{Answer, Outcome, StartArgs, Call, start, resetAll, round, name, resolve, certify, gapQuestion, commit, outlook, remove, drop as dropTo, call, startOk, conflictRound, done, flag, anchors, refused}
 use Rattle.spec.specs.Demand.{after}
@@ -32,7 +33,7 @@ stop n = 4 ∷ n ∷ 0 ∷ []
 
 -- a resolution with this status and these links
 abbrev gave : ℕ → List Ref → List Ref → Resolution
-gave s is ws = record { status = s; proof = false; trigger = false; cause = true; topProof = id 10 0 0; evidence = 0; includes = is; witness = ws }
+gave s is ws = record { status = s; proof = false; trigger = false; cause = true; topProof = id 10 0 0; evidence = 0; includes = is; witness = ws; payloadLen = 0; payloadBytes = 0 }
 
 -- a start at 10, used by 0, rounds to 12
 abbrev twelve : List Call
@@ -133,9 +134,9 @@ points =
     ∷ row 21 (resolvedWith (gave 1 (ref 0 110 ∷ ref 32 5 ∷ []) [])) (stop 11)
     ∷ row 22 (resolvedWith (gave 4 (ref 0 110 ∷ []) [])) (stop 11)
     ∷ row 23 (resolvedWith (gave 3 (ref 0 110 ∷ []) [])) (0 ∷ [])
-    ∷ row 24 (resolvedWith (record { status = 5; proof = true; trigger = true; cause = true; topProof = id 10 31 0; evidence = 0; includes = []; witness = [] })) (0 ∷ [])
-    ∷ row 25 (resolvedWith (record { status = 5; proof = true; trigger = true; cause = true; topProof = id 10 32 0; evidence = 0; includes = []; witness = [] })) (stop 11)
-    ∷ row 26 (resolvedWith (record { status = 5; proof = false; trigger = false; cause = false; topProof = id 10 0 0; evidence = 1; includes = []; witness = [] })) (stop 11)
+    ∷ row 24 (resolvedWith (record { status = 5; proof = true; trigger = true; cause = true; topProof = id 10 31 0; evidence = 0; includes = []; witness = []; payloadLen = 0; payloadBytes = 0 })) (0 ∷ [])
+    ∷ row 25 (resolvedWith (record { status = 5; proof = true; trigger = true; cause = true; topProof = id 10 32 0; evidence = 0; includes = []; witness = []; payloadLen = 0; payloadBytes = 0 })) (stop 11)
+    ∷ row 26 (resolvedWith (record { status = 5; proof = false; trigger = false; cause = false; topProof = id 10 0 0; evidence = 1; includes = []; witness = []; payloadLen = 0; payloadBytes = 0 })) (stop 11)
     -- 12, after 11; no test below the bottom
     ∷ row 27 (resolvedWith (gave 1 (ref 1 5 ∷ []) [])) (stop 12)
     ∷ row 28 (resolvedWith (gave 1 (ref 0 110 ∷ []) (ref 1 5 ∷ []))) (stop 12)
@@ -153,7 +154,7 @@ pointed = refl
 
 -- a point with these marks, top proof and includes
 abbrev point : ℕ → Bool → Bool → Id → List Ref → Resolution
-point s p t top is = record { status = s; proof = p; trigger = t; cause = true; topProof = top; evidence = 0; includes = is; witness = [] }
+point s p t top is = record { status = s; proof = p; trigger = t; cause = true; topProof = top; evidence = 0; includes = is; witness = []; payloadLen = 0; payloadBytes = 0 }
 
 -- named and resolved
 abbrev both : Id → Resolution → List Call
@@ -200,21 +201,21 @@ bytes o is = map (λ i. getD (o .buffer) i 99) is
 abbrev commits : List Row
 commits =
     -- both records: executable, previous anchor, number of points
-    row 1 (ended (fire (onTwo 1) 314)) (3 ∷ 2 ∷ 16 ∷ 15 ∷ [])
-    ∷ row 2 (bytes (fire (onTwo 1) 315) (74 ∷ 78 ∷ 82 ∷ 194 ∷ 198 ∷ 202 ∷ 314 ∷ [])) (1 ∷ 0 ∷ 1 ∷ 1 ∷ 13 ∷ 3 ∷ 0 ∷ [])
+    row 1 (ended (fire (onTwo 1) 346)) (3 ∷ 2 ∷ 16 ∷ 15 ∷ [])
+    ∷ row 2 (bytes (fire (onTwo 1) 347) (74 ∷ 78 ∷ 82 ∷ 210 ∷ 214 ∷ 218 ∷ 346 ∷ [])) (1 ∷ 0 ∷ 1 ∷ 1 ∷ 13 ∷ 3 ∷ 0 ∷ [])
     -- rounds of the points: 13; 14, 14, 15, in a round as the lists say
-    ∷ row 3 (bytes (fire (onTwo 1) 314) (86 ∷ 206 ∷ 239 ∷ 243 ∷ 276 ∷ 280 ∷ [])) (13 ∷ 14 ∷ 140 ∷ 14 ∷ 141 ∷ 15 ∷ [])
+    ∷ row 3 (bytes (fire (onTwo 1) 346) (86 ∷ 222 ∷ 255 ∷ 259 ∷ 292 ∷ 296 ∷ [])) (13 ∷ 14 ∷ 140 ∷ 14 ∷ 141 ∷ 15 ∷ [])
     -- 21 against the bytes left; the first anchor keeps its record and marks
-    ∷ row 4 (ended (fire (onTwo 1) 313)) (4 ∷ 21 ∷ 1 ∷ 14 ∷ 13 ∷ [])
-    ∷ row 5 (ended (fire (onTwo 1) 119)) (4 ∷ 21 ∷ 0 ∷ 0 ∷ 0 ∷ [])
+    ∷ row 4 (ended (fire (onTwo 1) 345)) (4 ∷ 21 ∷ 1 ∷ 14 ∷ 13 ∷ [])
+    ∷ row 5 (ended (fire (onTwo 1) 135)) (4 ∷ 21 ∷ 0 ∷ 0 ∷ 0 ∷ [])
     -- 13 at the later anchor
     ∷ row 6 (ended (fire (onTwo 3) 400)) (4 ∷ 13 ∷ 1 ∷ 14 ∷ 13 ∷ [])
-    ∷ row 7 (bytes (fire (onTwo 3) 400) (82 ∷ 120 ∷ [])) (1 ∷ 0 ∷ [])
+    ∷ row 7 (bytes (fire (onTwo 3) 400) (82 ∷ 139 ∷ [])) (1 ∷ 0 ∷ [])
     -- a trans-invalid point is usable unless proved
     ∷ row 8 (ended (fire (onTwo 2) 400)) (3 ∷ 2 ∷ 16 ∷ 15 ∷ [])
     ∷ row 9 (ended (fire (after (onTwo 2) (certify (id 14 1 141) ∷ [])) 400)) (4 ∷ 13 ∷ 1 ∷ 14 ∷ 13 ∷ [])
     -- once the trigger is used up
-    ∷ row 10 (ended (fire (fire (onTwo 1) 314 .store) 0)) (3 ∷ 0 ∷ 16 ∷ 15 ∷ [])
+    ∷ row 10 (ended (fire (fire (onTwo 1) 346 .store) 0)) (3 ∷ 0 ∷ 16 ∷ 15 ∷ [])
     ∷ []
 
 committed : agree commits ≡ true
@@ -249,7 +250,7 @@ triggers =
     ∷ row 4 (roundOf (fire (onTwo 3) 400 .answer) ∷ []) (14 ∷ [])
     -- 20, before 21; after the question the first executable anchor has no previous one and uses the flag up
     ∷ row 5 (ended (fire (after (blank 6) (two true (some 0) (side 1) firing ++ certs)) 0)) (4 ∷ 20 ∷ 0 ∷ 0 ∷ 0 ∷ [])
-    ∷ row 6 (bytes (fire (after (blank 6) (two true (some 0) (side 1) firing ++ (gapQuestion ∷ certs))) 314) (74 ∷ 194 ∷ 198 ∷ [])) (0 ∷ 1 ∷ 0 ∷ [])
+    ∷ row 6 (bytes (fire (after (blank 6) (two true (some 0) (side 1) firing ++ (gapQuestion ∷ certs))) 346) (74 ∷ 210 ∷ 214 ∷ [])) (0 ∷ 1 ∷ 0 ∷ [])
     -- the trigger: 15, 13, no anchors where `filter` turns it away
     ∷ row 7 (trigger 1) (3 ∷ 2 ∷ [])
     ∷ row 8 (trigger 2) (4 ∷ 15 ∷ 0 ∷ [])
@@ -331,19 +332,27 @@ looked = refl
 
 -- ---- place lists (02: N1)
 
--- K13's points: 11.0.110, 12.0.120 and 12.1.121, anchor 13.0.130, trigger 15.0.150; started after a gap or not
-abbrev layers : Bool → List Call
-layers gap =
+-- K13's points: 11.0.110, 12.0.120 and 12.1.121, anchor 13.0.130, trigger 15.0.150; started after a gap or not; p is done to the
+-- resolution of each, by its number from 0
+abbrev layersAs : (ℕ → Resolution → Resolution) → Bool → List Call
+layersAs p gap =
     (from 2 10 gap (some 0) ∷ rounds 11 5)
-    ++ (both (id 11 0 110) (gave 1 [] [])
-    ++ (both (id 12 0 120) (gave 1 (ref 0 110 ∷ []) [])
-    ++ (both (id 12 1 121) (gave 1 (ref 0 110 ∷ []) [])
-    ++ (both (id 13 0 130) (gave 1 (ref 0 120 ∷ ref 1 121 ∷ []) [])
-    ++ (both (id 14 0 140) (point 1 true false (id 10 0 0) (ref 0 130 ∷ []))
-    ++ (both (id 15 0 150) (point 1 false true (id 10 0 0) (ref 0 140 ∷ [])) ++ (certify (id 13 0 130) ∷ [])))))))
+    ++ (both (id 11 0 110) (p 0 (gave 1 [] []))
+    ++ (both (id 12 0 120) (p 1 (gave 1 (ref 0 110 ∷ []) []))
+    ++ (both (id 12 1 121) (p 2 (gave 1 (ref 0 110 ∷ []) []))
+    ++ (both (id 13 0 130) (p 3 (gave 1 (ref 0 120 ∷ ref 1 121 ∷ []) []))
+    ++ (both (id 14 0 140) (p 4 (point 1 true false (id 10 0 0) (ref 0 130 ∷ [])))
+    ++ (both (id 15 0 150) (p 5 (point 1 false true (id 10 0 0) (ref 0 140 ∷ []))) ++ (certify (id 13 0 130) ∷ [])))))))
+
+abbrev layers : Bool → List Call
+layers gap = layersAs (λ k t. t) gap
+
+-- these calls, then the commit of 15.0.150
+abbrev commitOn : List Call → List ℕ → ℕ → Outcome
+commitOn cs l n = call (after (blank 7) cs) (commit (id 15 0 150) l (replicate n 0))
 
 abbrev layered : List ℕ → ℕ → Outcome
-layered l n = call (after (blank 6) (layers false)) (commit (id 15 0 150) l (replicate n 0))
+layered l n = commitOn (layers false) l n
 
 -- the last bytes of the digests in a record of k points that begins at byte `at`
 abbrev digests : Outcome → ℕ → List ℕ → List ℕ
@@ -361,21 +370,24 @@ triple l = call (after (blank 6) (
     ++ (both (id 11 2 2) (gave 1 [] [])
     ++ (both (id 12 0 120) (gave 1 (ref 0 3 ∷ ref 1 1 ∷ ref 2 2 ∷ []) [])
     ++ (both (id 13 0 130) (point 1 true false (id 10 0 0) (ref 0 120 ∷ []))
-    ++ (both (id 14 0 140) (point 1 false true (id 10 0 0) (ref 0 130 ∷ [])) ++ (certify (id 12 0 120) ∷ []))))))))) (commit (id 14 0 140) l (replicate 231 0))
+    ++ (both (id 14 0 140) (point 1 false true (id 10 0 0) (ref 0 130 ∷ [])) ++ (certify (id 12 0 120) ∷ []))))))))) (commit (id 14 0 140) l (replicate 247 0))
 
--- two anchors 12.0.120 and 14.0.140 in one line of includes from 16.0.160 down to 11.0.110
-abbrev ladder : Store
-ladder = after (blank 6) (
+-- two anchors 12.0.120 and 14.0.140 in one line of includes from 16.0.160 down to 11.0.110; p is done to each resolution
+abbrev ladderAs : (Resolution → Resolution) → Store
+ladderAs p = after (blank 6) (
     (from 2 10 false (some 0) ∷ rounds 11 6)
-    ++ (both (id 11 0 110) (gave 1 [] [])
-    ++ (both (id 12 0 120) (point 1 false false (id 10 0 0) (ref 0 110 ∷ []))
-    ++ (both (id 13 0 130) (point 1 true false (id 10 0 0) (ref 0 120 ∷ []))
-    ++ (both (id 14 0 140) (point 1 false false (id 13 0 130) (ref 0 130 ∷ []))
-    ++ (both (id 15 0 150) (point 1 true false (id 10 0 0) (ref 0 140 ∷ []))
-    ++ (both (id 16 0 160) (point 1 false true (id 10 0 0) (ref 0 150 ∷ [])) ++ (certify (id 12 0 120) ∷ certify (id 14 0 140) ∷ []))))))))
+    ++ (both (id 11 0 110) (p (gave 1 [] []))
+    ++ (both (id 12 0 120) (p (point 1 false false (id 10 0 0) (ref 0 110 ∷ [])))
+    ++ (both (id 13 0 130) (p (point 1 true false (id 10 0 0) (ref 0 120 ∷ [])))
+    ++ (both (id 14 0 140) (p (point 1 false false (id 13 0 130) (ref 0 130 ∷ [])))
+    ++ (both (id 15 0 150) (p (point 1 true false (id 10 0 0) (ref 0 140 ∷ [])))
+    ++ (both (id 16 0 160) (p (point 1 false true (id 10 0 0) (ref 0 150 ∷ []))) ++ (certify (id 12 0 120) ∷ certify (id 14 0 140) ∷ []))))))))
+
+abbrev ladder : Store
+ladder = ladderAs (λ t. t)
 
 abbrev climb : Store → List ℕ → Outcome
-climb s l = call s (commit (id 16 0 160) l (replicate 314 0))
+climb s l = call s (commit (id 16 0 160) l (replicate 346 0))
 
 abbrev glance : Store → ℕ → Outcome
 glance s n = call s (outlook (id 16 0 160) (replicate n 0))
@@ -400,16 +412,16 @@ shallow = after (blank 6) (
 abbrev lists : List Row
 lists =
     -- the points of 12 in the reverse of their list; further bytes are unread; 21 against right lists
-    row 1 (four (layered (0 ∷ 0 ∷ 1 ∷ 0 ∷ []) 231)) (3 ∷ 1 ∷ 110 ∷ 121 ∷ 120 ∷ 130 ∷ [])
-    ∷ row 2 (four (layered (0 ∷ 1 ∷ 0 ∷ 0 ∷ []) 231)) (3 ∷ 1 ∷ 110 ∷ 120 ∷ 121 ∷ 130 ∷ [])
-    ∷ row 3 (four (layered (0 ∷ 1 ∷ 0 ∷ 0 ∷ 255 ∷ 255 ∷ []) 231)) (3 ∷ 1 ∷ 110 ∷ 120 ∷ 121 ∷ 130 ∷ [])
-    ∷ row 4 (numbers (layered (0 ∷ 1 ∷ 0 ∷ 0 ∷ []) 230 .answer) ++ bytes (layered (0 ∷ 1 ∷ 0 ∷ 0 ∷ []) 230) (3 ∷ 82 ∷ 119 ∷ [])) (4 ∷ 21 ∷ 0 ∷ 0 ∷ 0 ∷ 0 ∷ [])
+    row 1 (four (layered (0 ∷ 0 ∷ 1 ∷ 0 ∷ []) 247)) (3 ∷ 1 ∷ 110 ∷ 121 ∷ 120 ∷ 130 ∷ [])
+    ∷ row 2 (four (layered (0 ∷ 1 ∷ 0 ∷ 0 ∷ []) 247)) (3 ∷ 1 ∷ 110 ∷ 120 ∷ 121 ∷ 130 ∷ [])
+    ∷ row 3 (four (layered (0 ∷ 1 ∷ 0 ∷ 0 ∷ 255 ∷ 255 ∷ []) 247)) (3 ∷ 1 ∷ 110 ∷ 120 ∷ 121 ∷ 130 ∷ [])
+    ∷ row 4 (numbers (layered (0 ∷ 1 ∷ 0 ∷ 0 ∷ []) 246 .answer) ++ bytes (layered (0 ∷ 1 ∷ 0 ∷ 0 ∷ []) 246) (3 ∷ 82 ∷ 119 ∷ [])) (4 ∷ 21 ∷ 0 ∷ 0 ∷ 0 ∷ 0 ∷ [])
     -- 24: a place twice, one not below the count, another's list, too few, none; before 21, with nothing written
-    ∷ row 5 (four (layered (0 ∷ 0 ∷ 0 ∷ 0 ∷ []) 231)) (4 ∷ 24 ∷ 0 ∷ 0 ∷ 0 ∷ 0 ∷ 0 ∷ [])
-    ∷ row 6 (numbers (layered (0 ∷ 2 ∷ 0 ∷ 0 ∷ []) 231 .answer)) (stop 24)
-    ∷ row 7 (numbers (layered (1 ∷ 1 ∷ 0 ∷ 0 ∷ []) 231 .answer)) (stop 24)
-    ∷ row 8 (numbers (layered (0 ∷ 0 ∷ 1 ∷ []) 231 .answer)) (stop 24)
-    ∷ row 9 (ended (layered [] 231)) (4 ∷ 24 ∷ 0 ∷ 0 ∷ 0 ∷ [])
+    ∷ row 5 (four (layered (0 ∷ 0 ∷ 0 ∷ 0 ∷ []) 247)) (4 ∷ 24 ∷ 0 ∷ 0 ∷ 0 ∷ 0 ∷ 0 ∷ [])
+    ∷ row 6 (numbers (layered (0 ∷ 2 ∷ 0 ∷ 0 ∷ []) 247 .answer)) (stop 24)
+    ∷ row 7 (numbers (layered (1 ∷ 1 ∷ 0 ∷ 0 ∷ []) 247 .answer)) (stop 24)
+    ∷ row 8 (numbers (layered (0 ∷ 0 ∷ 1 ∷ []) 247 .answer)) (stop 24)
+    ∷ row 9 (ended (layered [] 247)) (4 ∷ 24 ∷ 0 ∷ 0 ∷ 0 ∷ [])
     ∷ row 10 (numbers (layered [] 0 .answer)) (stop 24)
     ∷ row 11 (numbers (layered (0 ∷ 0 ∷ 1 ∷ 0 ∷ []) 0 .answer)) (stop 21)
     -- the outlook: 4 points, then the counts of 13, 12, 11; a byte short
@@ -426,7 +438,7 @@ lists =
     ∷ row 19 (numbers (glance ladder 102 .answer) ++ bytes (glance ladder 102) (3 ∷ 40 ∷ 44 ∷ 48 ∷ 52 ∷ 89 ∷ 93 ∷ 97 ∷ 101 ∷ [])) (3 ∷ 2 ∷ 12 ∷ 2 ∷ 1 ∷ 1 ∷ 14 ∷ 3 ∷ 1 ∷ 1 ∷ 1 ∷ [])
     ∷ row 20 (numbers (glance ladder 101 .answer)) (stop 21)
     -- the point of 12 is needed again, and committed by then: not handed out twice
-    ∷ row 21 (numbers (climb ladder (replicate 5 0) .answer) ++ (digests (climb ladder (replicate 5 0)) 0 (0 ∷ 1 ∷ []) ++ digests (climb ladder (replicate 5 0)) 157 (0 ∷ 1 ∷ []))) (3 ∷ 2 ∷ 110 ∷ 120 ∷ 130 ∷ 140 ∷ [])
+    ∷ row 21 (numbers (climb ladder (replicate 5 0) .answer) ++ (digests (climb ladder (replicate 5 0)) 0 (0 ∷ 1 ∷ []) ++ digests (climb ladder (replicate 5 0)) 173 (0 ∷ 1 ∷ []))) (3 ∷ 2 ∷ 110 ∷ 120 ∷ 130 ∷ 140 ∷ [])
     -- lists of the first anchor only: 24 with 1 finished; then its outlook, and the second one's lists
     ∷ row 22 (ended (climb ladder (0 ∷ 0 ∷ []))) (4 ∷ 24 ∷ 1 ∷ 13 ∷ 12 ∷ [])
     ∷ row 23 (bytes (glance (climb ladder (0 ∷ 0 ∷ []) .store) 53) (3 ∷ 40 ∷ 44 ∷ 48 ∷ 52 ∷ [])) (14 ∷ 2 ∷ 1 ∷ 1 ∷ 1 ∷ [])
@@ -434,15 +446,82 @@ lists =
     ∷ row 25 (ended (climb ladder (0 ∷ 0 ∷ 1 ∷ 0 ∷ 0 ∷ []))) (4 ∷ 24 ∷ 1 ∷ 13 ∷ 12 ∷ [])
     -- a round without needed points has no byte; the lowest round is the bottom where that is above the limit
     ∷ row 26 (bytes (call passing (outlook (id 15 0 150) (replicate 53 9))) (40 ∷ 44 ∷ 48 ∷ 52 ∷ [])) (2 ∷ 1 ∷ 0 ∷ 1 ∷ [])
-    ∷ row 27 (numbers (call passing (commit (id 15 0 150) (0 ∷ 0 ∷ []) (replicate 157 0)) .answer)) (3 ∷ 1 ∷ [])
-    ∷ row 28 (numbers (call passing (commit (id 15 0 150) (0 ∷ []) (replicate 157 0)) .answer)) (stop 24)
+    ∷ row 27 (numbers (call passing (commit (id 15 0 150) (0 ∷ 0 ∷ []) (replicate 173 0)) .answer)) (3 ∷ 1 ∷ [])
+    ∷ row 28 (numbers (call passing (commit (id 15 0 150) (0 ∷ []) (replicate 173 0)) .answer)) (stop 24)
     ∷ row 29 (bytes (call shallow (outlook (id 18 0 180) (replicate 50 9))) (40 ∷ 44 ∷ 48 ∷ 49 ∷ [])) (1 ∷ 1 ∷ 0 ∷ 9 ∷ [])
-    ∷ row 30 (numbers (call shallow (commit (id 18 0 180) (0 ∷ []) (replicate 120 0)) .answer)) (3 ∷ 1 ∷ [])
+    ∷ row 30 (numbers (call shallow (commit (id 18 0 180) (0 ∷ []) (replicate 136 0)) .answer)) (3 ∷ 1 ∷ [])
     ∷ []
 
 listed : agree lists ≡ true
 unfolding computed numbers same agree Lists.all
 listed = refl
+
+-- ---- payload sums (02: N2)
+
+-- t with these payloads
+abbrev carrying : ℕ → ℕ → Resolution → Resolution
+carrying len size t = record {
+  status = t .status;
+  proof = t .proof;
+  trigger = t .trigger;
+  cause = t .cause;
+  topProof = t .topProof;
+  evidence = t .evidence;
+  includes = t .includes;
+  witness = t .witness;
+  payloadLen = len;
+  payloadBytes = size;
+}
+
+-- K13's points with other payloads each; 14 and 15 are in no history
+abbrev loads : List Call
+loads = layersAs (λ k t. carrying (suc k) (getD (10 ∷ 200 ∷ 3000 ∷ 40000 ∷ 5 ∷ 6 ∷ []) k 0) t) false
+
+-- with the same for all
+abbrev alike : ℕ → List Call
+alike n = layersAs (λ k t. carrying n n t) false
+
+-- the points of 12 in the reverse of their digests
+abbrev reversed : List Call → ℕ → Outcome
+reversed cs n = commitOn cs (0 ∷ 0 ∷ 1 ∷ 0 ∷ []) n
+
+-- the two numbers from byte `at` on
+abbrev sums : Outcome → ℕ → List ℕ
+sums o at = value 0 (take 8 (drop at (o .buffer))) ∷ value 0 (take 8 (drop (at + 8) (o .buffer))) ∷ []
+
+-- a point's second resolution, with other payloads
+abbrev again : Call
+again = resolve (id 11 0 110) (carrying 7 7 (gave 1 [] []))
+
+-- an ill-formed point with payloads
+abbrev spoilt : Call
+spoilt = resolve (id 14 1 141) (carrying 7 7 (gave 4 [] []))
+
+abbrev payloads : List Row
+payloads =
+    -- 10 and 43,210 are the last 16 of 247 bytes; with 246: 21
+    row 1 (numbers (reversed loads 247 .answer) ++ drop 231 (reversed loads 247 .buffer))
+    (3 ∷ 1 ∷ 0 ∷ 0 ∷ 0 ∷ 0 ∷ 0 ∷ 0 ∷ 0 ∷ 10 ∷ 0 ∷ 0 ∷ 0 ∷ 0 ∷ 0 ∷ 0 ∷ 168 ∷ 202 ∷ [])
+    ∷ row 2 (numbers (reversed loads 246 .answer)) (stop 21)
+    -- another order, the same sums
+    ∷ row 3 (four (reversed loads 247) ++ sums (reversed loads 247) 231) (3 ∷ 1 ∷ 110 ∷ 121 ∷ 120 ∷ 130 ∷ 10 ∷ 43210 ∷ [])
+    ∷ row 4 (four (commitOn loads (0 ∷ 1 ∷ 0 ∷ 0 ∷ []) 247) ++ sums (commitOn loads (0 ∷ 1 ∷ 0 ∷ 0 ∷ []) 247) 231) (3 ∷ 1 ∷ 110 ∷ 120 ∷ 121 ∷ 130 ∷ 10 ∷ 43210 ∷ [])
+    -- the largest and the least numbers
+    ∷ row 5 (sums (reversed (alike 4294967295) 247) 231) (17179869180 ∷ 17179869180 ∷ [])
+    ∷ row 6 (sums (reversed (alike 0) 247) 231) (0 ∷ 0 ∷ [])
+    -- the point of 12 is needed again, and committed by then: it isn't in the second sums
+    ∷ row 7 (sums (climb (ladderAs (carrying 1 3)) (replicate 5 0)) 157 ++ sums (climb (ladderAs (carrying 1 3)) (replicate 5 0)) 330) (2 ∷ 6 ∷ 2 ∷ 6 ∷ [])
+    -- a second resolution is refused by 10, and the first one's numbers stay
+    ∷ row 8 (answer 7 loads again ++ sums (reversed (loads ++ (again ∷ [])) 247) 231) (4 ∷ 10 ∷ 0 ∷ 10 ∷ 43210 ∷ [])
+    -- status 4 with payloads: taken, in no sum
+    ∷ row 9 (answer 7 (loads ++ (name (id 14 1 141) ∷ [])) spoilt ++ sums (reversed (loads ++ (name (id 14 1 141) ∷ spoilt ∷ [])) 247) 231) (0 ∷ 10 ∷ 43210 ∷ [])
+    -- the outlook has none: 53 bytes as before
+    ∷ row 10 (bytes (call (after (blank 6) loads) (outlook (id 15 0 150) (replicate 54 9))) (3 ∷ 40 ∷ 44 ∷ 48 ∷ 52 ∷ 53 ∷ [])) (13 ∷ 4 ∷ 1 ∷ 2 ∷ 1 ∷ 9 ∷ [])
+    ∷ []
+
+summed-up : agree payloads ≡ true
+unfolding computed numbers same agree Lists.all
+summed-up = refl
 
 -- ---- heights over witness links, flags
 
@@ -463,7 +542,7 @@ certificates =
     -- a second certificate changes nothing
     ∷ row 3 (words (after (blank 3) (witnessed ++ (certify (id 14 0 140) ∷ []))) (0 ∷ 1 ∷ 2 ∷ [])) (0x6000 ∷ 0 ∷ 0x8003 ∷ [])
     -- a committed point has its bit
-    ∷ row 4 (words (fire (onTwo 1) 314 .store) (0 ∷ 2 ∷ 3 ∷ 4 ∷ [])) (0xf003 ∷ 0x7002 ∷ 0xf003 ∷ 0x6000 ∷ [])
+    ∷ row 4 (words (fire (onTwo 1) 346 .store) (0 ∷ 2 ∷ 3 ∷ 4 ∷ [])) (0xf003 ∷ 0x7002 ∷ 0xf003 ∷ 0x6000 ∷ [])
     ∷ []
 
 certs-agree : agree certificates ≡ true
@@ -483,7 +562,7 @@ withLast s r = withProgress s (record {
 })
 
 abbrev paid : Store
-paid = fire (onTwo 1) 314 .store
+paid = fire (onTwo 1) 346 .store
 
 abbrev wipe : Store → ℕ → Option ℕ → ℕ → Outcome
 wipe s r since n = call s (remove r since (replicate n 99))
@@ -511,7 +590,7 @@ removed = refl
 
 -- a proof of the point of 12 by 0 that peer 1 signed
 abbrev signed : Resolution
-signed = record { status = 1; proof = false; trigger = false; cause = false; topProof = id 10 0 0; evidence = 2; includes = ref 0 120 ∷ []; witness = [] }
+signed = record { status = 1; proof = false; trigger = false; cause = false; topProof = id 10 0 0; evidence = 2; includes = ref 0 120 ∷ []; witness = []; payloadLen = 0; payloadBytes = 0 }
 
 -- peer 1 signed the point of 12 by 0 (evidence in 13.0.130), did not include it at 13, and may witness it at 14; it made a second,
 -- ill-formed point at 14

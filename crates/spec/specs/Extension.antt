@@ -15,17 +15,17 @@ use Rattle.laws.specs.Lists.{map-same, keep-same, mem-map, getD-in, joined, wei
 use Rattle.laws.specs.Sort.{sort, sort-same}
 use Rattle.laws.specs.Bytes.{be, written}
 use Rattle.spec.specs.Ids.{Id, sameId, idBytes, prev}
-use Rattle.spec.specs.Store.{Point, Round, Conf, Store, idAt, roundAt, statusAt, resolved, links, isNamed, find, previous}
+use Rattle.spec.specs.Store.{Resolution, Point, Round, Conf, Store, idAt, roundAt, statusAt, resolved, links, isNamed, find, previous}
 use Rattle.spec.specs.Paths.{Path, here, LinkedTo, Top, heightFrom, height, certified, proved}
 use Rattle.spec.specs.Chain.{Out, bad, good, isCommittable, EnqueuedAnchor, Onward, enqueue, walk}
-use Rattle.spec.specs.History.{limit, lowest, Need, anchor, hand, needed, inHistory, roundsMissing, isExecutable, gapAsked, isFirstExecutable, prevAnchor, recordBytes, setCommitted, gapAfter, useProof, dequeued, gapPending, linkedIn, roundsOf, countsIn, linkedCounts, eachOnce, listsOk, roundOut, drawn, inOrder, afterLists, testAnchor, Finished, commitAll}
+use Rattle.spec.specs.History.{limit, lowest, Need, anchor, hand, needed, inHistory, roundsMissing, isExecutable, gapAsked, isFirstExecutable, prevAnchor, summed, tailBytes, recordBytes, setCommitted, gapAfter, useProof, dequeued, gapPending, linkedIn, roundsOf, countsIn, linkedCounts, eachOnce, listsOk, roundOut, drawn, inOrder, afterLists, testAnchor, Finished, commitAll}
 use Rattle.spec.specs.Graph.{carry}
 use Rattle.spec.specs.Links.{linked, link-made, Linked, fits-elim, resolved-named, down}
 use Rattle.spec.specs.HeightEquations.{inside, height-is, Sized}
 use Rattle.spec.specs.Sweep.{needed-is}
 use Rattle.spec.specs.WellFormed.{Wf, Leads}
 use Rattle.spec.specs.Order.{need-named}
-use Rattle.spec.specs.OrderInRound.{each-below, lists-head, linked-elim, drawn-elim}
+use Rattle.spec.specs.OrderInRound.{each-below, lists-head, linked-elim, drawn-elim, weigh-by}
 use Rattle.spec.specs.Preservation.{mark-kept, rising-mark}
 use Rattle.spec.specs.Walk.{refuse-back, Found, id-same, find-some, Valid, Visited, over, used-up, ends, goes, visit-good, visit-back, Anchored, Rising, Tested, tested-back, test-good}
 
@@ -412,6 +412,19 @@ module _ (s t : Store) (ws : Wf s) (wt : Wf t) (la : Late s t) (e : EnqueuedAnch
       ∙ (ap (map (idAt t)) (drawn-late (roundsOf s (e .anchor)) ls ok)
       ∙ map-same (idAt t) (idAt s) (drawn s (e .anchor) (roundsOf s (e .anchor)) ls) (λ q m. ap (λ z. z .id) (same-at q (history-needed s (e .anchor) q (drawn-elim s (e .anchor) (roundsOf s (e .anchor)) ls ok q m .1)) .is)))
 
+  -- the same points hold the same numbers
+  summed-late : (f : Resolution → ℕ) → summed f t (e .anchor) ≡ summed f s (e .anchor)
+  unfolding summed
+  summed-late f =
+      ap (λ n. weigh (λ q. f (t .pt q .resolution)) (those n (inHistory t (e .anchor)))) (la .places)
+      ∙ (ap (weigh (λ q. f (t .pt q .resolution))) (those-same (s .places) (inHistory t (e .anchor)) (inHistory s (e .anchor)) (λ q l. history-is-same q))
+      ∙ weigh-by (λ q. f (t .pt q .resolution)) (λ q. f (s .pt q .resolution)) (those (s .places) (inHistory s (e .anchor))) (λ q m.
+      ap (λ (z : Point). f (z .resolution)) (same-at q (history-needed s (e .anchor) q (those-elim _ _ q m .1)) .is)))
+
+  tail-late : tailBytes t (e .anchor) ≡ tailBytes s (e .anchor)
+  unfolding tailBytes
+  tail-late = ap₂ (λ (m n : ℕ). be 8 m ++ be 8 n) (summed-late (λ z. z .payloadLen)) (summed-late (λ z. z .payloadBytes))
+
   executable-late : isExecutable t (e .anchor) ≡ isExecutable s (e .anchor)
   unfolding isExecutable
   executable-late = λ i. leb (la .progress i .firstExecutable) (round-is i)
@@ -429,7 +442,7 @@ module _ (s t : Store) (ws : Wf s) (wt : Wf t) (la : Late s t) (e : EnqueuedAnch
   unfolding recordBytes
   record-late ls ok = λ i.
       idBytes (anchor-is .is i .id) ++ (idBytes (la .same (e .proof) (x .proof-done) .is i .id) ++ (be 1 (cond (executable-late i) 1 0) ++ (be 4 (prev-late i)
-      ++ (be 4 (length (order-late ls ok i)) ++ joined idBytes (order-late ls ok i)))))
+      ++ (be 4 (length (order-late ls ok i)) ++ (joined idBytes (order-late ls ok i) ++ tail-late i)))))
 
   -- its commit is as late as the tables were
   pub mark-late : Late (dequeued s e) (dequeued t e)

@@ -11,7 +11,7 @@ use Rattle.laws.specs.Lists.{keep, count, joined, weigh}
 use Rattle.laws.specs.Sort.{sort}
 use Rattle.laws.specs.Bytes.{be, written}
 use Rattle.spec.specs.Ids.{Id, idBytes, rises, falls, prev}
-use Rattle.spec.specs.Store.{Point, Store, Conf, Round, idAt, roundAt, linksTo}
+use Rattle.spec.specs.Store.{Resolution, Point, Store, Conf, Round, idAt, roundAt, linksTo}
 use Rattle.spec.specs.Paths.{LinkedTo, height}
 use Rattle.spec.specs.Chain.{Refusal, Out, bad, good, then, refuse, checked, isCommittable, EnqueuedAnchor}
 
@@ -159,12 +159,20 @@ isFirstExecutable s a = gapAsked (s .progress .gap) && isExecutable s a
 unfoldable pub prevAnchor : Store → EnqueuedAnchor → ℕ
 prevAnchor s e = cond (ltb (s .conf .genesis) (prev (e .prevProofRound)) && not (isFirstExecutable s (e .anchor))) (prev (e .prevProofRound)) 0
 
+-- 02, N2: a sum "over its history", what the points handed out in this record hold
+unfoldable pub summed : (Resolution → ℕ) → Store → ℕ → ℕ
+summed f s a = weigh (λ q. f (s .pt q .resolution)) (those (s .places) (inHistory s a))
+
+-- what follows the ids; 02, N2: "an anchor record ends with their two 64-bit sums over its history", lengths first
+unfoldable pub tailBytes : Store → ℕ → List ℕ
+tailBytes s a = be 8 (summed (λ t. t .payloadLen) s a) ++ be 8 (summed (λ t. t .payloadBytes) s a)
+
 -- "Anchor record: anchor id, proof id, executable (1 byte), previous anchor round (4; 0 for none), number of points (4), their ids."
 -- l: the lists from this anchor's on
 unfoldable pub recordBytes : Store → List ℕ → EnqueuedAnchor → List ℕ
 recordBytes s l e =
     idBytes (idAt s (e .anchor)) ++ (idBytes (idAt s (e .proof)) ++ (be 1 (cond (isExecutable s (e .anchor)) 1 0) ++ (be 4 (prevAnchor s e)
-    ++ (be 4 (length (inOrder s (e .anchor) l)) ++ joined idBytes (inOrder s (e .anchor) l)))))
+    ++ (be 4 (length (inOrder s (e .anchor) l)) ++ (joined idBytes (inOrder s (e .anchor) l) ++ tailBytes s (e .anchor))))))
 
 -- ---- one anchor's commit
 

@@ -1,6 +1,6 @@
--- The place lists of an anchor, and the order in which they make its history come out (02: N1).
+-- The place lists of an anchor, the order in which they make its history come out (02: N1), and sums over it (02: N2).
 use Prim.Native.Nat.{ℕ, zero, suc, _+_, _-_, _≤_, _<_}
-use mathlib.Core.Path.{_≡_, refl, sym, _∙_, ap, subst}
+use mathlib.Core.Path.{_≡_, refl, sym, _∙_, ap, ap₂, subst}
 use mathlib.Core.Logic.{⊎-elim, _↔_}
 use mathlib.Core.Bool.{Bool, true, not, _&&_, cond}
 use mathlib.Core.List.{List, [], _∷_, _++_, map, reverse, reverse-cons, append-assoc, append-nil, List·Memᴰ, List·Memᴰ·head, List·Memᴰ·tail, List·Memᴰ·not-nil, List·Memᴰ·cases-cons, List·Memᴰ·append-cases, List·Memᴰ·eq-of-singleton, Memᴰ·append-left, Memᴰ·append-right, Memᴰ·cast}
@@ -11,12 +11,12 @@ use borrow.Author.Tests.{eqb-true, eq-eqb, leb-true}
 use native.Mathlib.Omega.{arith}
 use Rattle.laws.specs.Test.{byTest, both, and-true, and-assoc, and-l, and-r, sameOr}
 use Rattle.laws.specs.Scan.{every-elim, every-intro, those, those-elim, those-intro, those-nodup, those-fewer}
-use Rattle.laws.specs.Lists.{joined, joined-in, weigh, keep, keep-in, keep-nodup, count, NoDup, nodup-append, Pairs, append-pairs, map-pairs, mem-map, map-mem, map-nodup, filled, length-same, reverse-in, reverse-nodup, getD-in, in-getD, getD-apart, count-in, count-once}
+use Rattle.laws.specs.Lists.{joined, joined-in, weigh, weigh-same, keep, keep-in, keep-nodup, count, NoDup, nodup-append, Pairs, append-pairs, map-pairs, mem-map, map-mem, map-nodup, filled, length-same, reverse-in, reverse-nodup, getD-in, in-getD, getD-apart, count-in, count-once}
 use Rattle.laws.specs.Sort.{sort-mem, sort-once, sort-length}
 use Rattle.laws.specs.Bytes.{Bytes}
 use Rattle.spec.specs.Ids.{Id}
-use Rattle.spec.specs.Store.{Store, idAt, roundAt}
-use Rattle.spec.specs.History.{lowest, Need, anchor, hand, marks, needed, inHistory, history, linkedIn, downFrom, roundsOf, countsIn, linkedCounts, eachOnce, listsOk, roundOut, drawn, inOrder}
+use Rattle.spec.specs.Store.{Resolution, Store, idAt, roundAt}
+use Rattle.spec.specs.History.{lowest, Need, anchor, hand, marks, needed, inHistory, history, linkedIn, downFrom, roundsOf, countsIn, linkedCounts, eachOnce, listsOk, roundOut, drawn, inOrder, summed}
 use Rattle.spec.specs.Inspect.{placesIn}
 use Rattle.spec.specs.Links.{down}
 use Rattle.spec.specs.HeightEquations.{inside}
@@ -341,6 +341,28 @@ linked-anchor s w a there l = length-same (linkedIn s a (roundAt s a)) (a ∷ []
   λ m. Memᴰ·cast (List·Memᴰ·eq-of-singleton m) (linked-intro s a (roundAt s a) a (inside s (w .sized) a there) (needed-is s (w .sized) a a (omega arith) .1 (anchor, l)) refl),
 ))
 
+-- ---- sums over a list
+
+-- elements that weigh the same
+pub weigh-by : {A : Type 0} (f g : A → ℕ) (l : List A) → ((x : A) → List·Memᴰ x l → f x ≡ g x) → weigh f l ≡ weigh g l
+unfolding weigh
+weigh-by f g [] h = refl
+weigh-by f g (x ∷ xs) h = ap₂ _+_ (h x (List·Memᴰ·head refl)) (weigh-by f g xs (λ y m. h y (List·Memᴰ·tail m)))
+
+-- images weigh what their elements do
+pub weigh-map : {A B : Type 0} (f : B → ℕ) (g : A → B) (l : List A) → weigh f (map g l) ≡ weigh (λ x. f (g x)) l
+unfolding weigh
+weigh-map f g [] = refl
+weigh-map f g (x ∷ xs) = ap (λ n. f (g x) + n) (weigh-map f g xs)
+
+-- 02, N2: a sum "over its history" over the history's places, whatever their order
+pub summed-over : (s : Store) (a : ℕ) (f : Resolution → ℕ) (l : List ℕ) → NoDup l → ((q : ℕ) → List·Memᴰ q l ↔ ((q < s .places) × (inHistory s a q ≡ true))) → weigh (λ q. f (s .pt q .resolution)) l ≡ summed f s a
+unfolding summed
+summed-over s a f l d h = weigh-same (λ q. f (s .pt q .resolution)) l (those (s .places) (inHistory s a)) d (those-nodup _ _) (λ q. (
+  (λ m. let (i, k) = h q .0 m in those-intro _ _ q i k),
+  λ m. h q .1 (those-elim _ _ q m),
+))
+
 -- ---- the order of a history
 
 module _ (s : Store) (w : Wf s) (a : ℕ) (there : s .pt a .named ≡ true) (l : List ℕ) (ok : listsOk (linkedCounts s a) l ≡ true) where
@@ -380,3 +402,14 @@ module _ (s : Store) (w : Wf s) (a : ℕ) (there : s .pt a .named ≡ true) (l :
   pub order-rises : Pairs (λ (x y : Id). x .round ≤ y .round) (inOrder s a l)
   unfolding inOrder
   order-rises = map-pairs (λ (p q : ℕ). roundAt s p ≤ roundAt s q) (λ (x y : Id). x .round ≤ y .round) (idAt s) (λ x y h. h) (drawn s a (roundsOf s a) l) (drawn-rises s a (roundsOf s a) l ok (rounds-fall s a))
+
+  -- 02, N2: a sum over the ids that come out is the sum over the history, whatever the lists
+  pub order-sum : (f : Resolution → ℕ) (g : Id → ℕ) → ((q : ℕ) → inHistory s a q ≡ true → g (idAt s q) ≡ f (s .pt q .resolution)) → weigh g (inOrder s a l) ≡ summed f s a
+  unfolding inOrder
+  order-sum f g h =
+      weigh-map g (idAt s) (drawn s a (roundsOf s a) l)
+      ∙ (weigh-by (λ q. g (idAt s q)) (λ q. f (s .pt q .resolution)) (drawn s a (roundsOf s a) l) (λ q m. h q (drawn-elim s a (roundsOf s a) l ok q m .1))
+      ∙ summed-over s a f (drawn s a (roundsOf s a) l) (drawn-once s a (roundsOf s a) l ok (rounds-fall s a)) (λ q. (
+        (λ m. let k = drawn-elim s a (roundsOf s a) l ok q m .1 in (inside s (w .sized) q (history-named s w a there q k), k)),
+        λ (i, k). drawn-intro s a (roundsOf s a) l ok q i (history-round q k) k,
+      )))

@@ -13,8 +13,8 @@ use Rattle.laws.specs.Bytes.{be, be-length, value, value-be-fits, written, writ
 use Rattle.spec.specs.Ids.{Id, idBytes}
 use Rattle.spec.specs.Store.{Store, idAt}
 use Rattle.spec.specs.Chain.{Out, bad, good, EnqueuedAnchor}
-use Rattle.spec.specs.History.{history, linkedCounts, listsOk, isExecutable, prevAnchor, inOrder, afterLists, recordBytes, testAnchor, dequeued, Finished, commitAll}
-use Rattle.spec.specs.Demand.{readId, readIds, History, readRecords}
+use Rattle.spec.specs.History.{history, linkedCounts, listsOk, isExecutable, prevAnchor, inOrder, afterLists, summed, tailBytes, recordBytes, testAnchor, dequeued, Finished, commitAll}
+use Rattle.spec.specs.Demand.{readId, readIds, History, tailSize, readRecords}
 use Rattle.spec.specs.WellFormed.{Wf}
 use Rattle.spec.specs.OrderInRound.{order-length}
 use Rattle.spec.specs.Walk.{test-good}
@@ -94,63 +94,81 @@ five-parts : (a b c d e : List ℕ) → a ++ (b ++ (c ++ (d ++ e))) ≡ (a ++ (b
 five-parts a b c d e =
     ap (λ (l : List ℕ). a ++ (b ++ l)) (sym (append-assoc c d e)) ∙ (ap (λ (l : List ℕ). a ++ l) (sym (append-assoc b (c ++ d) e)) ∙ sym (append-assoc a (b ++ (c ++ d)) e))
 
-record-shape : (s : Store) (ls : List ℕ) (e : EnqueuedAnchor) (rest : List ℕ) → recordBytes s ls e ++ rest ≡ headBytes s e ++ (be 4 (length (inOrder s (e .anchor) ls)) ++ (joined idBytes (inOrder s (e .anchor) ls) ++ rest))
+record-shape : (s : Store) (ls : List ℕ) (e : EnqueuedAnchor) (rest : List ℕ) → recordBytes s ls e ++ rest ≡ headBytes s e ++ (be 4 (length (inOrder s (e .anchor) ls)) ++ (joined idBytes (inOrder s (e .anchor) ls) ++ (tailBytes s (e .anchor) ++ rest)))
 unfolding recordBytes headBytes
 record-shape s ls e rest =
-    ap (λ (l : List ℕ). l ++ rest) (five-parts (idBytes (idAt s (e .anchor))) (idBytes (idAt s (e .proof))) (be 1 (cond (isExecutable s (e .anchor)) 1 0)) (be 4 (prevAnchor s e)) (be 4 (length (inOrder s (e .anchor) ls)) ++ joined idBytes (inOrder s (e .anchor) ls)))
-    ∙ (append-assoc (headBytes s e) (be 4 (length (inOrder s (e .anchor) ls)) ++ joined idBytes (inOrder s (e .anchor) ls)) rest
-    ∙ ap (λ (l : List ℕ). headBytes s e ++ l) (append-assoc (be 4 (length (inOrder s (e .anchor) ls))) (joined idBytes (inOrder s (e .anchor) ls)) rest))
+    ap (λ (l : List ℕ). l ++ rest) (five-parts (idBytes (idAt s (e .anchor))) (idBytes (idAt s (e .proof))) (be 1 (cond (isExecutable s (e .anchor)) 1 0)) (be 4 (prevAnchor s e)) (number ++ (points ++ tailBytes s (e .anchor))))
+    ∙ (append-assoc (headBytes s e) (number ++ (points ++ tailBytes s (e .anchor))) rest
+    ∙ ap (λ (l : List ℕ). headBytes s e ++ l) (append-assoc number (points ++ tailBytes s (e .anchor)) rest ∙ ap (λ (l : List ℕ). number ++ l) (append-assoc points (tailBytes s (e .anchor)) rest)))
+  where
+    number : List ℕ
+    number = be 4 (length (inOrder s (e .anchor) ls))
 
--- its length: 83 bytes and 37 for each point
-pub record-size : (s : Store) (ls : List ℕ) (e : EnqueuedAnchor) → length (recordBytes s ls e) ≡ 83 + length (inOrder s (e .anchor) ls) * 37
+    points : List ℕ
+    points = joined idBytes (inOrder s (e .anchor) ls)
+
+-- what follows the ids of a record, in bytes
+pub tail-length : (s : Store) (ls : List ℕ) (a : ℕ) → length (tailBytes s a) ≡ tailSize (length (inOrder s a ls))
+unfolding tailBytes
+tail-length s ls a = length-append (be 8 (summed (λ t. t .payloadLen) s a)) _ ∙ ap₂ _+_ (be-length 8 _) (be-length 8 _)
+
+-- its length: 83 bytes, 37 for each point, and what follows
+pub record-size : (s : Store) (ls : List ℕ) (e : EnqueuedAnchor) → length (recordBytes s ls e) ≡ 83 + length (inOrder s (e .anchor) ls) * 37 + tailSize (length (inOrder s (e .anchor) ls))
 record-size s ls e =
     ap length (sym (append-nil (recordBytes s ls e)) ∙ record-shape s ls e [])
-    ∙ rw (length-append (headBytes s e) (be 4 (length (inOrder s (e .anchor) ls)) ++ (joined idBytes (inOrder s (e .anchor) ls) ++ [])), head-length s e, length-append (be 4 (length (inOrder s (e .anchor) ls))) (joined idBytes (inOrder s (e .anchor) ls) ++ []), be-length 4 (length (inOrder s (e .anchor) ls)), append-nil (joined idBytes (inOrder s (e .anchor) ls)), ids-length (inOrder s (e .anchor) ls)) (omega arith)
+    ∙ (length-append (headBytes s e) _ ∙ (ap₂ _+_ (head-length s e) (length-append (be 4 _) _
+    ∙ ap₂ _+_ (be-length 4 _) (length-append (joined idBytes (inOrder s (e .anchor) ls)) _
+    ∙ ap₂ _+_ (ids-length (inOrder s (e .anchor) ls)) (ap length (append-nil (tailBytes s (e .anchor))) ∙ tail-length s ls (e .anchor)))) ∙ add-up (length (inOrder s (e .anchor) ls) * 37) (tailSize (length (inOrder s (e .anchor) ls)))))
+  where
+    add-up : (n m : ℕ) → 79 + (4 + (n + m)) ≡ 83 + n + m
+    add-up n m = omega arith
 
 -- with right lists, as many points as the history has
-pub record-length : (s : Store) → Wf s → (ls : List ℕ) (e : EnqueuedAnchor) → s .pt (e .anchor) .named ≡ true → listsOk (linkedCounts s (e .anchor)) ls ≡ true → length (recordBytes s ls e) ≡ 83 + length (history s (e .anchor)) * 37
-record-length s w ls e there ok = record-size s ls e ∙ ap (λ n. 83 + n * 37) (order-length s w (e .anchor) there ls ok)
+pub record-length : (s : Store) → Wf s → (ls : List ℕ) (e : EnqueuedAnchor) → s .pt (e .anchor) .named ≡ true → listsOk (linkedCounts s (e .anchor)) ls ≡ true → length (recordBytes s ls e) ≡ 83 + length (history s (e .anchor)) * 37 + tailSize (length (history s (e .anchor)))
+record-length s w ls e there ok = record-size s ls e ∙ ap (λ n. 83 + n * 37 + tailSize n) (order-length s w (e .anchor) there ls ok)
 
 -- the record begins with the anchor's id
 record-anchor : (s : Store) (ls : List ℕ) (e : EnqueuedAnchor) (rest : List ℕ) → (l : List ℕ) × (recordBytes s ls e ++ rest ≡ idBytes (idAt s (e .anchor)) ++ l)
 unfolding recordBytes
 record-anchor s ls e rest = (_, append-assoc (idBytes (idAt s (e .anchor))) _ rest)
 
--- what is read back: the anchor and the history
+-- what is read back: the anchor, the history and what follows it
 abbrev pub readAs : Store → Store → List ℕ → EnqueuedAnchor → History
-readAs at s ls e = record { at = at; anchor = idAt s (e .anchor); ids = inOrder s (e .anchor) ls }
+readAs at s ls e = record { at = at; anchor = idAt s (e .anchor); ids = inOrder s (e .anchor) ls; tail = tailBytes s (e .anchor) }
 
 pub read-record : (at s : Store) (ls : List ℕ) (e : EnqueuedAnchor) (n : ℕ) (rest : List ℕ) → Fits (idAt s (e .anchor)) → ((x : Id) → List·Memᴰ x (inOrder s (e .anchor) ls) → Fits x) → length (inOrder s (e .anchor) ls) < 256 ^ 4
     → readRecords at (suc n) (recordBytes s ls e ++ rest) ≡ readAs at s ls e ∷ readRecords at n rest
 unfolding readRecords
-read-record at s ls e n rest fa fs few = λ i. record { at = at; anchor = who i; ids = ids i } ∷ readRecords at n (tail i)
+read-record at s ls e n rest fa fs few = λ i. record { at = at; anchor = who i; ids = ids i; tail = tail i } ∷ readRecords at n (after i)
   where
-    h : List Id
-    h = inOrder s (e .anchor) ls
-
-    bs : List ℕ
-    bs = recordBytes s ls e ++ rest
-
     who : readId (recordBytes s ls e ++ rest) ≡ idAt s (e .anchor)
     who = let (l, k) = record-anchor s ls e rest in ap readId k ∙ read-id (idAt s (e .anchor)) fa l
 
-    at79 : drop 79 (recordBytes s ls e ++ rest) ≡ be 4 (length (inOrder s (e .anchor) ls)) ++ (joined idBytes (inOrder s (e .anchor) ls) ++ rest)
+    at79 : drop 79 (recordBytes s ls e ++ rest) ≡ be 4 (length (inOrder s (e .anchor) ls)) ++ (joined idBytes (inOrder s (e .anchor) ls) ++ (tailBytes s (e .anchor) ++ rest))
     at79 = ap (drop 79) (record-shape s ls e rest) ∙ drop-at (headBytes s e) _ 79 (head-length s e)
 
-    at83 : drop 83 (recordBytes s ls e ++ rest) ≡ joined idBytes (inOrder s (e .anchor) ls) ++ rest
+    at83 : drop 83 (recordBytes s ls e ++ rest) ≡ joined idBytes (inOrder s (e .anchor) ls) ++ (tailBytes s (e .anchor) ++ rest)
     at83 = skip 79 4 (headBytes s e) (be 4 (length (inOrder s (e .anchor) ls))) _ _ (head-length s e) (be-length 4 (length (inOrder s (e .anchor) ls))) (record-shape s ls e rest)
 
     points : value 0 (take 4 (drop 79 (recordBytes s ls e ++ rest))) ≡ length (inOrder s (e .anchor) ls)
     points = ap (λ (l : List ℕ). value 0 (take 4 l)) at79 ∙ (ap (value 0) (take-at (be 4 (length (inOrder s (e .anchor) ls))) _ 4 (be-length 4 (length (inOrder s (e .anchor) ls)))) ∙ value-be-fits 4 _ few)
 
     ids : readIds (value 0 (take 4 (drop 79 (recordBytes s ls e ++ rest)))) (drop 83 (recordBytes s ls e ++ rest)) ≡ inOrder s (e .anchor) ls
-    ids = ap₂ readIds points at83 ∙ read-ids (inOrder s (e .anchor) ls) fs rest
+    ids = ap₂ readIds points at83 ∙ read-ids (inOrder s (e .anchor) ls) fs (tailBytes s (e .anchor) ++ rest)
 
-    tail : drop (83 + value 0 (take 4 (drop 79 (recordBytes s ls e ++ rest))) * 37) (recordBytes s ls e ++ rest) ≡ rest
-    tail =
+    ended : drop (83 + value 0 (take 4 (drop 79 (recordBytes s ls e ++ rest))) * 37) (recordBytes s ls e ++ rest) ≡ tailBytes s (e .anchor) ++ rest
+    ended =
         ap (λ (k : ℕ). drop (83 + k * 37) (recordBytes s ls e ++ rest)) points
         ∙ (sym (drop-drop (length (inOrder s (e .anchor) ls) * 37) 83 (recordBytes s ls e ++ rest))
-        ∙ (ap (drop (length (inOrder s (e .anchor) ls) * 37)) at83 ∙ drop-at (joined idBytes (inOrder s (e .anchor) ls)) rest _ (ids-length (inOrder s (e .anchor) ls))))
+        ∙ (ap (drop (length (inOrder s (e .anchor) ls) * 37)) at83 ∙ drop-at (joined idBytes (inOrder s (e .anchor) ls)) _ _ (ids-length (inOrder s (e .anchor) ls))))
+
+    tail : take (tailSize (value 0 (take 4 (drop 79 (recordBytes s ls e ++ rest))))) (drop (83 + value 0 (take 4 (drop 79 (recordBytes s ls e ++ rest))) * 37) (recordBytes s ls e ++ rest)) ≡ tailBytes s (e .anchor)
+    tail = ap₂ (λ (k : ℕ) (l : List ℕ). take (tailSize k) l) points ended ∙ take-at (tailBytes s (e .anchor)) rest _ (tail-length s ls (e .anchor))
+
+    after : drop (83 + value 0 (take 4 (drop 79 (recordBytes s ls e ++ rest))) * 37 + tailSize (value 0 (take 4 (drop 79 (recordBytes s ls e ++ rest))))) (recordBytes s ls e ++ rest) ≡ rest
+    after =
+        sym (drop-drop (tailSize (value 0 (take 4 (drop 79 (recordBytes s ls e ++ rest))))) (83 + value 0 (take 4 (drop 79 (recordBytes s ls e ++ rest))) * 37) (recordBytes s ls e ++ rest))
+        ∙ (ap₂ (λ (k : ℕ) (l : List ℕ). drop (tailSize k) l) points ended ∙ drop-at (tailBytes s (e .anchor)) rest _ (tail-length s ls (e .anchor)))
 
 -- ---- the anchors that a commit finishes
 

@@ -10,7 +10,8 @@ use Rattle.spec.specs.Ids.{Id, Ref, Link, sameId, linksOf, fits}
 
 -- 01, parts.rs: "Resolving gives a status (1 valid, 2 trans-invalid, 3 invalid, 4 ill-formed, 5 not found), marks (proof,
 -- trigger, cause has a DAG round), the id of its top anchor proof, evidence as a peer set, and includes and witness".
--- Status 0: named and not resolved.
+-- Status 0: named and not resolved. 02, N2: "`payload_len` and `payload_bytes`, each a 32-bit number .. Resolving takes both, every resolved
+-- point holds them".
 pub record Resolution : Type 0 where
   pub status : ℕ
   pub proof : Bool
@@ -20,6 +21,8 @@ pub record Resolution : Type 0 where
   pub evidence : ℕ
   pub includes : List Ref
   pub witness : List Ref
+  pub payloadLen : ℕ
+  pub payloadBytes : ℕ
 
 -- the four flags of the certificate word
 pub record Flags : Type 0 where
@@ -93,7 +96,7 @@ abbrev pub noId : Id
 noId = record { round = 0; author = 0; digest = 0 }
 
 abbrev pub unresolved : Resolution
-unresolved = record { status = 0; proof = false; trigger = false; cause = false; topProof = noId; evidence = 0; includes = []; witness = [] }
+unresolved = record { status = 0; proof = false; trigger = false; cause = false; topProof = noId; evidence = 0; includes = []; witness = []; payloadLen = 0; payloadBytes = 0 }
 
 abbrev pub noFlags : Flags
 noFlags = record { top = false; started = false; completed = false; committed = false }

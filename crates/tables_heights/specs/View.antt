@@ -1,5 +1,5 @@
 -- Links and certificate words read as numbers (models/cert.rs).
--- links, 328 words a place: evidence, round, author and digest (four) of the top proof, one unused, then 64 target words (0 for no link,
+-- links, 328 words a place: evidence, round, author and digest (four) of the top proof, the payload, then 64 target words (0 for no link,
 -- else 1 + the place that it leads to), then four words of digest for each link. Link k is under the peer k % 32 and leads 1 + k / 32
 -- rounds down. certs, 1 word a place: top 0x8000, started 0x4000, completed 0x2000, committed 0x1000, height in the low 12 bits.
 use Prim.Native.Nat.{ℕ, zero, suc, _+_, _%_, _≤_, _<_}

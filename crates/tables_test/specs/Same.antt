@@ -74,6 +74,7 @@ module _ (ks ls cs ks2 ls2 cs2 : List ℕ) (q : ℕ) (hk : Same ks 8 q ks2) (hl 
         hl 0 (omega arith),
         hl 1 (omega arith),
         hl 2 (omega arith),
+        hl 7 (omega arith),
         same-digest ls ls2 328 q hl (q * 328 + 3) 3 refl (omega arith),
         same-refs ls ls2 q hl 0 0 32 (omega arith),
         same-refs ls ls2 q hl 32 0 32 (omega arith),

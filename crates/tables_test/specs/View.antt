@@ -1,10 +1,12 @@
 -- State and tables as the store of document 01.
-use Prim.Native.Nat.{ℕ}
-use mathlib.Core.Path.{_≡_, refl}
+use Prim.Native.Nat.{ℕ, _<_}
+use mathlib.Core.Path.{_≡_, refl, _∙_, ap}
 use mathlib.Core.List.{List}
 use mathlib.Core.Bool.{Bool, true, _&&_, _||_, cond}
+use native.Mathlib.Omega.{arith}
 use lib.Dec.{eqb, leb, ltb}
 use lib.ListN.{length, getD}
+use borrow.Author.Tests.{ne-eqb}
 use Rattle.laws.specs.Test.{byTest, clash}
 use Rattle.laws.specs.Scan.{every}
 use Rattle.spec.specs.Store as store
@@ -14,7 +16,7 @@ use Rattle.models.specs.Tables.{statusAt, marksAt, placeAt, Used, isUsed, evide
 use Rattle.dag_round_keys.specs.Sorted.{isInside, isSorted}
 use Rattle.tables_links.specs.Links.{linksHold}
 use Rattle.tables_links.specs.Words.{proofRoundAt}
-use Rattle.commit_state.specs.View.{pointAt, roundsOf, confOf, progressOf, memoryOf, phaseOf}
+use Rattle.commit_state.specs.View.{givenAt, resolutionAt, pointAt, roundsOf, confOf, progressOf, memoryOf, phaseOf}
 use Rattle.commit_state.specs.Memory.{memoryHolds}
 use Rattle.commit_state.specs.declared.state.State.{State}
 use Rattle.tables_test.specs.Model.{shape}
@@ -53,6 +55,11 @@ module _ (ks ls cs os : List ℕ) (n q : ℕ) where
   pub seen-used : Used os n q → seenAt ks ls cs os n q ≡ pointAt ks ls cs q
   unfolding seenAt
   seen-used u = rw (used-is os n q .1 u) refl
+
+  -- a resolved point holds what it was given
+  pub seen-given : Used os n q → 0 < statusAt ks q → seenAt ks ls cs os n q .resolution ≡ givenAt ks ls q
+  unfolding pointAt resolutionAt
+  seen-given u l = ap (λ (p : Point). p .resolution) (seen-used u) ∙ rw (ne-eqb (statusAt ks q) 0 (λ e. omega arith)) refl
 
   pub seen-named : seenAt ks ls cs os n q .named ≡ true → Used os n q
   unfolding seenAt

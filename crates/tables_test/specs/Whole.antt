@@ -31,13 +31,13 @@ use Rattle.tables_links.specs.Named.{Links}
 use Rattle.tables_links.specs.Words.{proofAuthorAt}
 use Rattle.tables_links.specs.Ruled.{Bare, Words}
 use Rattle.tables_ids.specs.Ids.{idHolds, idAtHolds}
-use Rattle.commit_state.specs.View.{pointAt, resolutionAt, givenAt, recordOf, roundOf, confOf, phaseOf}
+use Rattle.commit_state.specs.View.{pointAt, givenAt, recordOf, roundOf, confOf, phaseOf}
 use Rattle.commit_state.specs.Reads.{window-in}
 use Rattle.commit_state.specs.Numbers.{confHolds, rangeHolds, usedHold, roundsHold, conf-is, used-is}
 use Rattle.commit_state.specs.declared.state.State.{State}
 use Rattle.tables_test.specs.Model.{shape}
 use Rattle.tables_test.specs.Refs.{links-elim}
-use Rattle.tables_test.specs.View.{seenAt, seen-used, seen-named, view, regular, wordsFit}
+use Rattle.tables_test.specs.View.{seenAt, seen-used, seen-given, seen-named, view, regular, wordsFit}
 use Rattle.tables_test.specs.Regular.{Regular, regular-elim}
 use Rattle.tables_test.specs.Edges.{resolved-is, links-seen, one-place, names-fits}
 use Rattle.tables_test.specs.Heights.{heightsAre-elim, heightsAre-intro}
@@ -117,8 +117,8 @@ module _ (s : State) (ks ls cs os : List ℕ) (fk : Fit ks) (fl : Fit ls) (sh : 
       (u, ltb-true _ _ (sym (resolved-is ks ls cs q) ∙ (ap resolved (sym (point q u)) ∙ h)))
 
   given-is : (q : ℕ) → Used os (s .count) q → 0 < statusAt ks q → v .pt q .resolution ≡ givenAt ks ls q
-  unfolding pointAt resolutionAt
-  given-is q u l = ap (λ (p : Point). p .resolution) (point q u) ∙ rw (ne-eqb (statusAt ks q) 0 (λ e. omega arith)) refl
+  unfolding view
+  given-is q u l = seen-given ks ls cs os (s .count) q u l
 
   formed-to : (q : ℕ) → Used os (s .count) q → 0 < statusAt ks q → wellFormed (store.roundAt v q) (v .pt q .resolution) ≡ wellFormed (roundAt ks q) (givenAt ks ls q)
   formed-to q u l = ap₂ wellFormed (round-is q u) (given-is q u l)

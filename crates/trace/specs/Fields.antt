@@ -1,12 +1,13 @@
 -- The fields of a record as what its call takes.
-use Prim.Native.Nat.{ℕ, zero, suc, _+_, _*_, _/_, _%_}
+use Prim.Native.Nat.{ℕ, zero, suc, _+_, _*_, _/_, _%_, _≤_}
 use mathlib.Core.Path.{_≡_, refl, sym}
 use mathlib.Core.List.{List, [], _∷_}
 use mathlib.Core.Bool.{Bool, true, false, not, cond}
 use mathlib.Core.Option.{Option, none, some}
+use native.Mathlib.Omega.{arith}
 use lib.Dec.{eqb}
 use borrow.Author.Tests.{ne-eqb}
-use lib.ListN.{getD}
+use lib.ListN.{length, getD}
 use Rattle.spec.specs.Ids.{Ref}
 use Rattle.spec.specs.Store.{Resolution}
 use Rattle.spec.specs.Calls.{Call, StartArgs, start, resetAll, round, name, resolve, certify, gapQuestion, commit, outlook, remove, drop}
@@ -18,7 +19,7 @@ use Rattle.commit_state.specs.declared.back.UsedAuthor.the-variants.{Nobody, Pe
 use Rattle.models.specs.declared.parts.PointId.{PointId}
 use Rattle.models.specs.declared.info.PointInfo.{PointInfo}
 use Rattle.trace.specs.Numbers.{numberAt, idAt, pointIdAt}
-use Rattle.trace.specs.Head.{listsIn}
+use Rattle.trace.specs.Head.{linksIn, listsIn}
 use Rattle.trace.specs.declared.head.Kind.{Kind}
 use Rattle.trace.specs.declared.head.Kind.the-variants as kind
 
@@ -53,7 +54,12 @@ unfoldable pub linksFrom : List ℕ → ℕ → ℕ → List Ref
 linksFrom f p zero = []
 linksFrom f p (suc m) = linkIn f p ∷ linksFrom f (p + 33) m
 
--- "Resolve: id, status, marks (bits 0 to 2), top proof's id, evidence (4), number of includes, of witness (1 each), their links (33 each)"
+-- where N2's numbers begin, 4 bytes each: after the links
+abbrev pub payloadFrom : List ℕ → ℕ
+payloadFrom f = 82 + 33 * linksIn f
+
+-- "Resolve: id, status, marks (bits 0 to 2), top proof's id, evidence (4), number of includes, of witness (1 each), their links (33 each),
+-- N2's numbers"
 unfoldable pub resolutionIn : List ℕ → Resolution
 resolutionIn f = record {
   status = getD f 37 0;
@@ -64,6 +70,8 @@ resolutionIn f = record {
   evidence = numberAt f 76 4;
   includes = linksFrom f 82 (getD f 80 0);
   witness = linksFrom f (82 + getD f 80 0 * 33) (getD f 81 0);
+  payloadLen = numberAt f (payloadFrom f) 4;
+  payloadBytes = numberAt f (payloadFrom f + 4) 4;
 }
 
 -- the call of a kind and its fields, with the buffer that it is lent
@@ -107,6 +115,8 @@ infoIn f = record {
   evidence = numberAt f 76 4;
   includes = getD f 80 0;
   witness = getD f 81 0;
+  «payload_len» = numberAt f (payloadFrom f) 4;
+  «payload_bytes» = numberAt f (payloadFrom f + 4) 4;
 }
 
 -- ---- laws
@@ -138,10 +148,16 @@ module _ (f : List ℕ) where
   unfolding startArgsIn
   start-is g h d b q x y u i j k l m n o v = rw (v, i, j, k, l, m, n, o) refl
 
-  pub info-is : (s m e i w : ℕ) (t : PointId) → s ≡ getD f 37 0 → m ≡ getD f 38 0 → t ≡ pointIdAt f 39 → e ≡ numberAt f 76 4 → i ≡ getD f 80 0 → w ≡ getD f 81 0
-      → _≡_ {A = PointInfo} (record { status = s; proof = eqb (m % 2) 1; trigger = eqb (m / 2 % 2) 1; cause = eqb (m / 4 % 2) 1; «top_proof» = t; evidence = e; includes = i; witness = w }) (infoIn f)
-  unfolding infoIn
-  info-is s m e i w t hs hm ht he hi hw = rw (hs, hm, ht, he, hi, hw) refl
+  -- both numbers are within the fields
+  pub payload-fits : (i w : ℕ) → i ≡ getD f 80 0 → w ≡ getD f 81 0 → 90 + 33 * linksIn f ≤ length f → 82 + 33 * (i + w) + 8 ≤ length f
+  unfolding linksIn
+  payload-fits i w hi hw l = omega arith
+
+  pub info-is : (s m e i w l b : ℕ) (t : PointId) → s ≡ getD f 37 0 → m ≡ getD f 38 0 → t ≡ pointIdAt f 39 → e ≡ numberAt f 76 4 → i ≡ getD f 80 0 → w ≡ getD f 81 0
+      → l ≡ numberAt f (82 + 33 * (i + w)) 4 → b ≡ numberAt f (82 + 33 * (i + w) + 4) 4
+      → _≡_ {A = PointInfo} (record { status = s; proof = eqb (m % 2) 1; trigger = eqb (m / 2 % 2) 1; cause = eqb (m / 4 % 2) 1; «top_proof» = t; evidence = e; includes = i; witness = w; «payload_len» = l; «payload_bytes» = b }) (infoIn f)
+  unfolding infoIn linksIn
+  info-is s m e i w l b t hs hm ht he hi hw hl hb = rw (hl, hb, hs, hm, ht, he, hi, hw) refl
 
   pub since-none : (x : ℕ) → x ≡ getD f 4 0 → x ≡ 0 → none ≡ sinceIn f
   unfolding sinceIn

@@ -27,12 +27,12 @@ linksIn f = getD f 80 0 + getD f 81 0
 abbrev pub listsIn : List ℕ → List ℕ
 listsIn f = drop 37 f
 
--- the length of a kind's fields; a link has 33 bytes, the lists of a commit may have any number
+-- the length of a kind's fields; a link has 33 bytes, the payload's two numbers 8, the lists of a commit may have any number
 unfoldable pub sizeOf : Kind → List ℕ → ℕ
 sizeOf Start f = 22
 sizeOf Round f = 8
 sizeOf Name f = 37
-sizeOf Resolve f = 82 + 33 * linksIn f
+sizeOf Resolve f = 90 + 33 * linksIn f
 sizeOf Certify f = 37
 sizeOf Commit f = 37 + (length f - 37)
 sizeOf Remove f = 9
@@ -112,10 +112,10 @@ module _ (f : List ℕ) where
       (λ h. eq-eqb (length f) (37 + (length f - 37)) (omega (arith, leb-true 37 (length f) h)))
       (λ h. le-leb 37 (length f) (omega (arith, eqb-true (length f) (37 + (length f - 37)) h)))
 
-  pub resolve-short : length f < 82 → false ≡ eqb (length f) (82 + 33 * linksIn f)
-  resolve-short l = sym (ne-eqb (length f) (82 + 33 * linksIn f) (λ e. omega arith))
+  pub resolve-short : length f < 90 → false ≡ eqb (length f) (90 + 33 * linksIn f)
+  resolve-short l = sym (ne-eqb (length f) (90 + 33 * linksIn f) (λ e. omega arith))
 
-  pub resolve-long : (i w : ℕ) → i ≡ getD f 80 0 → w ≡ getD f 81 0 → eqb (length f) (82 + 33 * (i + w)) ≡ eqb (length f) (82 + 33 * linksIn f)
+  pub resolve-long : (i w : ℕ) → i ≡ getD f 80 0 → w ≡ getD f 81 0 → eqb (length f) (90 + 33 * (i + w)) ≡ eqb (length f) (90 + 33 * linksIn f)
   unfolding linksIn
   resolve-long i w a b = rw (a, b) refl
 

@@ -18,7 +18,7 @@ use Rattle.models.specs.Digest.{words, digestAt}
 use Rattle.models.specs.Info.{refAt, refsOf, infoOf}
 use Rattle.trace.specs.Numbers.{numberAt, idAt, pointIdAt, digestWords, digest-is, id-read}
 use Rattle.trace.specs.Head.{linksIn}
-use Rattle.trace.specs.Fields.{linkIn, linksFrom, resolutionIn, infoIn}
+use Rattle.trace.specs.Fields.{linkIn, linksFrom, payloadFrom, resolutionIn, infoIn}
 
 -- the five words of the link at p: peer, then digest
 unfoldable pub linkWords : List ℕ → ℕ → List ℕ
@@ -120,6 +120,8 @@ telling f t is ws = record {
   evidence = numberAt f 76 4;
   includes = is;
   witness = ws;
+  payloadLen = numberAt f (payloadFrom f) 4;
+  payloadBytes = numberAt f (payloadFrom f + 4) 4;
 }
 
 module _ (f : List ℕ) where

@@ -4,9 +4,11 @@ ghost use mathlib.Core.Path.{_≡_};
 ghost use Prim.Native.Nat.{_+_, _≤_};
 ghost use lib.ListN.{length};
 ghost use Rattle.trace.specs.Anchors.{anchorOf, anchorIn};
+ghost use Rattle.trace.specs.Numbers.{numberAt};
 use crate::bytes::byte_of;
 use crate::bytes::id_of;
 use crate::bytes::number_of;
+use crate::bytes::word_of;
 use models::parts::PointId;
 
 // What stands before the points of a record.
@@ -34,5 +36,24 @@ pub fn anchor_head(b: &[u8], at: usize) -> AnchorHead
         executable,
         previous,
         points,
+    }
+}
+
+// What a record ends with: the sums over its points.
+pub struct AnchorSums {
+    pub payload_len: u64,
+    pub payload_bytes: u64,
+}
+
+// The 16 bytes at the offset, where a record's sums begin.
+pub fn anchor_sums(b: &[u8], at: usize) -> AnchorSums
+    requires { ⌜ at + 16 ≤ length (now b) ⌝ }
+    ensures { λ r. ⌜ (r .«payload_len» ≡ numberAt (now (b .entry)) at 8) × (r .«payload_bytes» ≡ numberAt (now (b .entry)) (at + 8) 8) ⌝ }
+{
+    let payload_len = word_of(b, at);
+    let payload_bytes = word_of(b, at + 8);
+    AnchorSums {
+        payload_len,
+        payload_bytes,
     }
 }

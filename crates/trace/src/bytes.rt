@@ -39,7 +39,7 @@ pub fn number_of(f: &[u8], at: usize) -> u32
 }
 
 // The number in eight bytes.
-fn word_of(f: &[u8], at: usize) -> u64
+pub fn word_of(f: &[u8], at: usize) -> u64
     requires { ⌜ at + 8 ≤ length (now f) ⌝ }
     ensures { λ r. ⌜ r ≡ numberAt (now (f .entry)) at 8 ⌝ }
 {

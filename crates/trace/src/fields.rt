@@ -99,7 +99,7 @@ pub fn remove_of(f: &[u8]) -> RemoveFields
 
 // The fields of a resolution, but for its id and links.
 pub fn info_of(f: &[u8]) -> PointInfo
-    requires { ⌜ 82 ≤ length (now f) ⌝ }
+    requires { ⌜ 90 + 33 * linksIn (now f) ≤ length (now f) ⌝ }
     ensures { λ r. ⌜ r ≡ infoIn (now (f .entry)) ⌝ }
 {
     let status = byte_of(f, 37);
@@ -108,6 +108,9 @@ pub fn info_of(f: &[u8]) -> PointInfo
     let evidence = number_of(f, 76);
     let includes = byte_of(f, 80);
     let witness = byte_of(f, 81);
+    let at = 82 + 33 * (includes as usize + witness as usize);
+    let payload_len = number_of(f, at);
+    let payload_bytes = number_of(f, at + 4);
     PointInfo {
         status,
         proof: marks % 2 == 1,
@@ -117,6 +120,8 @@ pub fn info_of(f: &[u8]) -> PointInfo
         evidence,
         includes: includes as usize,
         witness: witness as usize,
+        payload_len,
+        payload_bytes,
     }
 }
 

@@ -53,15 +53,15 @@ fn kind_of(byte: u32) -> Kind
 
 // Whether the fields of a resolution have their length.
 fn resolve_fits(f: &[u8]) -> bool
-    ensures { λ r. ⌜ r ≡ eqb (length (now (f .entry))) (82 + 33 * linksIn (now (f .entry))) ⌝ }
+    ensures { λ r. ⌜ r ≡ eqb (length (now (f .entry))) (90 + 33 * linksIn (now (f .entry))) ⌝ }
 {
     let n = f.len();
-    if n < 82 {
+    if n < 90 {
         return false;
     }
     let includes = byte_of(f, 80) as usize;
     let witness = byte_of(f, 81) as usize;
-    n == 82 + 33 * (includes + witness)
+    n == 90 + 33 * (includes + witness)
 }
 
 // Whether the fields have the length of their kind.

@@ -19,10 +19,19 @@ put-points-requires c κs =
     let e = ap length (h .1) ∙ written-length _ _ _ in
     (p .0, omega (arith, p .1 .2, p .1 .3, h .0, e))
 
+put-sums-requires : tie.Need-put-sums-requires
+put-sums-requires c κs =
+    let p = c .before .before .before .before .before .before .before .before .before .before .before .before .before .before .pre in
+    let h = c .before .before .before .before .before .before .before .put-head .ensures in
+    let w = c .before .before .before .put-points .ensures in
+    let d = ap length (h .1) ∙ written-length _ _ _ in
+    let e = ap length (w .1) ∙ written-length _ _ _ in
+    omega (arith, p .1 .2, p .1 .3, h .0, w .0, d, e)
+
 returns : tie.Need-returns
 returns c =
-    let h = c .before .before .before .before .before .before .put-head .ensures in
-    record-then _ _ _ _ _ _ _ _ _ _ _ _ _ (c .before .before .before .before .before .before .before .before .before .before .before .before .before .pre .1 .2) (h .0) (h .1) (c .before .before .put-points .ensures)
+    let h = c .before .before .before .before .before .before .before .before .before .before .put-head .ensures in
+    record-then _ _ _ _ _ _ _ _ _ _ _ _ _ _ _ _ _ (c .before .before .before .before .before .before .before .before .before .before .before .before .before .before .before .before .before .pre .1 .2) (h .0) (h .1) (c .before .before .before .before .before .before .put-points .ensures) (c .before .before .put-sums .ensures)
 
 pub put-record-spec : {M : Type 1} → statement M
-put-record-spec = tie.close (tie.spec put-head-requires put-points-requires (λ c. search needs) returns)
+put-record-spec = tie.close (tie.spec put-head-requires put-points-requires put-sums-requires (λ c. search needs) returns)
