@@ -52,9 +52,9 @@ extern "C" {
 /*
  * The tables are arrays of 64-bit words. All four have room for the same number of places.
  *   keys   round, author, digest (4), status (0: not resolved), marks
- *   links  evidence, round, author and digest (4) of the top proof, one unused, 64 target words, 64 digests (4 each). Link k is under
- *          peer k % 32 and leads 1 + k / 32 rounds down; its target word is 0 for no link, else 1 + the place of the point it leads to,
- *          or 1 if it led into a round that wasn't retained.
+ *   links  evidence, round, author and digest (4) of the top proof, word 7: payload_len * 2^32 + payload_bytes, 64 target words, 64
+ *          digests (4 each). Link k is under peer k % 32 and leads 1 + k / 32 rounds down; its target word is 0 for no link, else 1 + the
+ *          place of the point it leads to, or 1 if it led into a round that wasn't retained.
  *   certs  the certificate word
  *   order  the first state.count words are the used places, by rising round, then by rising digest
  * The host may read them between the calls.
@@ -85,11 +85,16 @@ extern "C" {
  *   37   id of its proof
  *   74   executable, 1 or 0
  *   75   round of the previous anchor (4), 0 for none
- *   79   number of points (4)
+ *   79   number of points n (4)
  *   83   their ids, by rising round; inside a round in the reverse of the order that its place list says (see 'place lists')
+ *   83 + 37n   the sum of payload_len over them (8)
+ *   91 + 37n   the sum of payload_bytes over them (8)
  */
 #define COMMITTER_ID_BYTES 37u
-#define COMMITTER_RECORD_BYTES(points) (83u + (size_t)(points) * COMMITTER_ID_BYTES)
+#define COMMITTER_RECORD_BYTES(points) (99u + (size_t)(points) * COMMITTER_ID_BYTES)
+
+/* Where the two sums stand. */
+#define COMMITTER_SUMS_AT(points) (83u + (size_t)(points) * COMMITTER_ID_BYTES)
 
 /* A buffer of so many bytes has room for the records of any commit: at most 511 anchors, and each point in one history at most. */
 #define COMMITTER_COMMIT_MAX (511u * COMMITTER_RECORD_BYTES(0) + (size_t)COMMITTER_PLACES_MAX * COMMITTER_ID_BYTES)
@@ -337,6 +342,8 @@ typedef struct committer_resolution {
     uint32_t evidence; /* a set of peers */
     size_t includes; /* number of links one round down */
     size_t witness; /* number of links two rounds down */
+    uint32_t payload_len; /* any number, of any status */
+    uint32_t payload_bytes; /* any number, of any status */
 } committer_resolution;
 
 /* The counters of a peer over the rounds that a remove reports. */
@@ -378,9 +385,10 @@ COMMITTER_ASSERT(size_of_a_state, sizeof(committer_state) == 15432);
 COMMITTER_ASSERT(state_of_a_reply, offsetof(committer_reply, state) == 16);
 COMMITTER_ASSERT(size_of_a_reply, sizeof(committer_reply) == 15448);
 COMMITTER_ASSERT(size_of_start_args, sizeof(committer_start_args) == 28);
-COMMITTER_ASSERT(size_of_a_resolution, sizeof(committer_resolution) == 72);
+COMMITTER_ASSERT(size_of_a_resolution, sizeof(committer_resolution) == 80);
 COMMITTER_ASSERT(size_of_counters, sizeof(committer_counters) == 18);
 COMMITTER_ASSERT(bytes_of_a_remove, COMMITTER_REMOVE_MAX == 5785509u);
+COMMITTER_ASSERT(bytes_of_a_commit, COMMITTER_COMMIT_MAX == 202141u);
 COMMITTER_ASSERT(bytes_of_an_outlook, COMMITTER_OUTLOOK_MAX == 511u * 1065u);
 
 #undef COMMITTER_ASSERT
@@ -530,7 +538,8 @@ committer_reply committer_name(committer_state state,
 
 /*
  * Resolves a named point, once. refs holds its links, COMMITTER_REF_WORDS words each: peer, digest; the includes first, then the witness,
- * so refs_len is 5 * (resolution.includes + resolution.witness). Heights of certified points are handed on along the links.
+ * so refs_len is 5 * (resolution.includes + resolution.witness). Heights of certified points are handed on along the links. The point
+ * holds both payload numbers; no relation between them is tested.
  * Refused: 2 not started; 5 author above 31; 6 round not retained; 5 author not a peer of its round; 9 not named; 10 resolved already;
  * 11 status not 1 to 5, over 32 links of a kind, refs_len another number, author above 31 in a link or the top proof, peers of a kind not
  * strictly rising, status 4 or 5 with links or evidence, links below round 0; 12 link into a retained round, not named.

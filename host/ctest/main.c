@@ -265,7 +265,28 @@ static committer_point_id point(uint32_t round, uint32_t author)
 
 static committer_resolution valid(size_t includes, size_t witness)
 {
-    committer_resolution resolution = {COMMITTER_VALID, 0, {0, 0, {{0, 0, 0, 0}}}, 0, includes, witness};
+    committer_resolution resolution = {COMMITTER_VALID, 0, {0, 0, {{0, 0, 0, 0}}}, 0, includes, witness, 0, 0};
+    return resolution;
+}
+
+/* The payload numbers that a point is resolved with: small ones that tell K13's points apart, else large ones. */
+typedef struct {
+    uint32_t len, bytes;
+} payload;
+
+static payload payload_of(committer_point_id id)
+{
+    static const payload k13[5][2] = {{{1, 10}, {1, 10}}, {{2, 200}, {3, 3000}}, {{4, 40000}}, {{5, 5}}, {{6, 6}}};
+    if (id.round < 11 || id.round > 15 || id.author > 1) {
+        return (payload){UINT32_MAX, UINT32_MAX - 1};
+    }
+    return k13[id.round - 11][id.author];
+}
+
+static committer_resolution paid(committer_resolution resolution, payload with)
+{
+    resolution.payload_len = with.len;
+    resolution.payload_bytes = with.bytes;
     return resolution;
 }
 
@@ -791,7 +812,7 @@ static void put(board *b, committer_point_id id, uint32_t status, uint32_t marks
     committer_point_id first, committer_point_id second)
 {
     uint64_t refs[2 * COMMITTER_REF_WORDS];
-    committer_resolution resolution = valid(includes, 0);
+    committer_resolution resolution = paid(valid(includes, 0), payload_of(id));
     resolution.status = status;
     resolution.marks = marks;
     resolution.top_proof = top;
@@ -816,7 +837,15 @@ static size_t put_id(uint8_t *bytes, committer_point_id id)
     return COMMITTER_ID_BYTES;
 }
 
-/* The record of an anchor, proved one round above it by the same author. */
+static size_t put_wide(uint8_t *bytes, uint64_t number)
+{
+    for (int i = 0; i < 8; i++) {
+        bytes[i] = (uint8_t)(number >> (56 - 8 * i));
+    }
+    return 8;
+}
+
+/* The record of an anchor, proved one round above it by the same author, with the sums over what its points were resolved with. */
 static size_t put_record(uint8_t *bytes, committer_point_id anchor, uint32_t previous, const committer_point_id *points, uint8_t count)
 {
     uint8_t *end = bytes;
@@ -825,9 +854,15 @@ static size_t put_record(uint8_t *bytes, committer_point_id anchor, uint32_t pre
     const uint8_t middle[9] = {1, (uint8_t)(previous >> 24), (uint8_t)(previous >> 16), (uint8_t)(previous >> 8), (uint8_t)previous, 0, 0, 0, count};
     memcpy(end, middle, sizeof middle);
     end += sizeof middle;
+    uint64_t len = 0, sum = 0;
     for (int i = 0; i < count; i++) {
         end += put_id(end, points[i]);
+        len += payload_of(points[i]).len;
+        sum += payload_of(points[i]).bytes;
     }
+    CHECK((size_t)(end - bytes) == COMMITTER_SUMS_AT(count));
+    end += put_wide(end, len);
+    end += put_wide(end, sum);
     CHECK((size_t)(end - bytes) == COMMITTER_RECORD_BYTES(count));
     return COMMITTER_RECORD_BYTES(count);
 }
@@ -858,7 +893,7 @@ static board k13(uint32_t after_gap)
 
 static void check_k13(void)
 {
-    enum { LENGTH = 83 + 4 * 37, MORE = 50 };
+    enum { LENGTH = 247, MORE = 50 };
     board b = k13(0), spare = new_board(8);
     committer_point_id anchor = point(13, 0), points[4] = {point(11, 1), point(12, 0), point(12, 1), anchor};
     uint8_t bytes[LENGTH + MORE], record[LENGTH];
@@ -870,8 +905,11 @@ static void check_k13(void)
     CHECK(bytes[0] == 0xa5 && last_commit.anchors == 0);
     DONE(commit(&b, point(15, 0), LISTS(0, 1, 0, 0), bytes, sizeof bytes));
     CHECK(last_commit.anchors == 1);
-    put_record(record, anchor, 0, points, 4);
+    CHECK(put_record(record, anchor, 0, points, 4) == LENGTH);
     CHECK(memcmp(bytes, record, LENGTH) == 0);
+    /* 10 and 43,210 */
+    static const uint8_t sums[16] = {[7] = 10, [14] = 0xa8, [15] = 0xca};
+    CHECK(memcmp(bytes + 83 + 4 * 37, sums, 16) == 0);
     for (int i = 0; i < MORE; i++) {
         CHECK(bytes[LENGTH + i] == 0xa5);
     }
@@ -906,25 +944,28 @@ static board two_anchors(uint32_t status)
     return b;
 }
 
+/* The length of a record of one point. */
+enum { ONE = 99 + 37 };
+
 /* The second anchor is refused: the first one's record and marks stay, and then, with the lists after its one byte, nothing changes. */
 static void check_refused_after_one(
     board *b, uint32_t number, uint32_t conflict, size_t length, const uint8_t *lists, size_t lists_len)
 {
-    uint8_t bytes[400], record[120];
+    uint8_t bytes[400], record[ONE];
     committer_point_id anchor = point(11, 0);
     board spare = new_board(8);
     memset(bytes, 0xa5, sizeof bytes);
     CHECK(commit(b, point(15, 0), lists, lists_len, bytes, length).refused == number);
     CHECK(last_commit.anchors == 1 && last_commit.conflict == conflict);
     put_record(record, anchor, 0, &anchor, 1);
-    CHECK(memcmp(bytes, record, 120) == 0);
-    for (size_t i = 120; i < sizeof bytes; i++) {
+    CHECK(memcmp(bytes, record, ONE) == 0);
+    for (size_t i = ONE; i < sizeof bytes; i++) {
         CHECK(bytes[i] == 0xa5);
     }
     CHECK(b->state.last_committed_proof == 13 && b->state.rounds[12].used_anchor_proof == 1);
     CHECK((cert_at(b, 0) & COMMITTER_CERT_COMMITTED) != 0 && (cert_at(b, 1) & COMMITTER_CERT_COMMITTED) == 0);
-    REFUSED(b, &spare, number, commit(b, point(15, 0), lists + 1, lists_len - 1, bytes + 120, length - 120));
-    CHECK(last_commit.anchors == 0 && last_commit.conflict == conflict && bytes[120] == 0xa5);
+    REFUSED(b, &spare, number, commit(b, point(15, 0), lists + 1, lists_len - 1, bytes + ONE, length - ONE));
+    CHECK(last_commit.anchors == 0 && last_commit.conflict == conflict && bytes[ONE] == 0xa5);
     free_board(b);
     free_board(&spare);
 }
@@ -943,18 +984,18 @@ static void check_commit_refusals(void)
     b = two_anchors(0);
     DONE(certify(&b, point(13, 0)));
     check_refused_after_one(&b, COMMITTER_POINT_MISSING, 0, 400, LISTS(0, 0, 1, 0));
-    for (size_t length = 120; length < 120 + COMMITTER_RECORD_BYTES(3); length++) {
+    for (size_t length = ONE; length < ONE + 99 + 3 * 37; length++) {
         b = two_anchors(COMMITTER_VALID);
         DONE(certify(&b, point(13, 0)));
         check_refused_after_one(&b, COMMITTER_NO_ROOM, 0, length, LISTS(0, 0, 1, 0));
     }
     b = two_anchors(COMMITTER_VALID);
     DONE(certify(&b, point(13, 0)));
-    uint8_t bytes[120 + 83 + 3 * 37], record[83 + 3 * 37];
+    uint8_t bytes[ONE + 99 + 3 * 37], record[99 + 3 * 37];
     committer_point_id points[3] = {point(12, 0), point(12, 1), point(13, 0)};
     DONE(commit(&b, point(15, 0), LISTS(0, 0, 1, 0), bytes, sizeof bytes));
     put_record(record, point(13, 0), 11, points, 3);
-    CHECK(last_commit.anchors == 2 && memcmp(bytes + 120, record, sizeof record) == 0);
+    CHECK(last_commit.anchors == 2 && memcmp(bytes + ONE, record, sizeof record) == 0);
     free_board(&b);
 }
 
@@ -1006,7 +1047,7 @@ static void check_lengths_of_outlook(board *b, const uint8_t *expected, size_t l
 static void check_outlooks(void)
 {
     CHECK(COMMITTER_OUTLOOK_MAX == 511 * (41 + 4 * 256) && COMMITTER_OUTLOOK_MAX == 511 * 1065);
-    uint8_t expected[COMMITTER_LOOK_BYTES(1) + COMMITTER_LOOK_BYTES(2)], record[120], bytes[100];
+    uint8_t expected[COMMITTER_LOOK_BYTES(1) + COMMITTER_LOOK_BYTES(2)], record[ONE], bytes[100];
     board b = two_anchors(COMMITTER_VALID), spare = new_board(8);
     memset(bytes, 0xa5, sizeof bytes);
     REFUSED(&b, &spare, COMMITTER_NOT_CERTIFIED, outlook(&b, point(15, 0), bytes, sizeof bytes));
@@ -1031,7 +1072,7 @@ static void check_outlooks(void)
 /* The anchor is refused with the number, for a buffer of any length: nothing changes, and no byte is written. */
 static void check_lists_refused(board *b, uint32_t number, const uint8_t *lists, size_t lists_len)
 {
-    static const size_t lengths[4] = {0, 82, 231, 300};
+    static const size_t lengths[4] = {0, 98, 247, 300};
     board spare = new_board(b->places);
     for (int i = 0; i < 4; i++) {
         uint8_t bytes[300];
@@ -1096,7 +1137,7 @@ static void check_three_in_a_round(void)
         put(&b, p[i], COMMITTER_VALID, 0, p[i], 0, p[i], p[i]);
         put_link(refs, i, p[i]);
     }
-    committer_resolution resolution = valid(3, 0);
+    committer_resolution resolution = paid(valid(3, 0), payload_of(anchor));
     resolution.top_proof = point(10, 0);
     DONE(name(&b, anchor));
     DONE(resolve(&b, anchor, resolution, refs, 3 * COMMITTER_REF_WORDS));
@@ -1126,11 +1167,11 @@ static void check_anchor_by_anchor(void)
         copy_board(&b, &whole);
         check_refused_after_one(&b, COMMITTER_BAD_LISTS, 0, 400, wrong[i], 4);
     }
-    uint8_t bytes[120 + 83 + 3 * 37], parts[sizeof bytes];
+    uint8_t bytes[ONE + 99 + 3 * 37], parts[sizeof bytes];
     b = new_board(8);
     copy_board(&b, &whole);
     CHECK(commit(&b, point(15, 0), LISTS(0), parts, sizeof parts).refused == COMMITTER_BAD_LISTS && last_commit.anchors == 1);
-    DONE(commit(&b, point(15, 0), LISTS(0, 0, 1), parts + 120, sizeof parts - 120));
+    DONE(commit(&b, point(15, 0), LISTS(0, 0, 1), parts + ONE, sizeof parts - ONE));
     CHECK(last_commit.anchors == 1);
     DONE(commit(&whole, point(15, 0), LISTS(0, 0, 0, 1), bytes, sizeof bytes));
     CHECK(last_commit.anchors == 2 && memcmp(bytes, parts, sizeof bytes) == 0 && same_board(&b, &whole));
@@ -1150,7 +1191,7 @@ static void check_committed_ones(void)
     put_one(&b, point(15, 0), COMMITTER_TRIGGER, second, point(14, 0));
     DONE(certify(&b, first));
     DONE(certify(&b, second));
-    uint8_t expected[COMMITTER_LOOK_BYTES(1) + COMMITTER_LOOK_BYTES(3)], bytes[120 + 83 + 2 * 37], record[83 + 2 * 37];
+    uint8_t expected[COMMITTER_LOOK_BYTES(1) + COMMITTER_LOOK_BYTES(3)], bytes[ONE + 99 + 2 * 37], record[99 + 2 * 37];
     const uint8_t linked[3] = {1, 1, 1};
     size_t length = put_look(expected, first, 1, 1, linked);
     length += put_look(expected + length, second, 3, 3, linked);
@@ -1158,9 +1199,105 @@ static void check_committed_ones(void)
     CHECK(commit(&b, point(15, 0), LISTS(0, 0, 0), bytes, sizeof bytes).refused == COMMITTER_BAD_LISTS && last_commit.anchors == 1);
     check_lengths_of_outlook(&b, expected, put_look(expected, second, 2, 3, linked), 1);
     check_lists_refused(&b, COMMITTER_BAD_LISTS, LISTS(0, 0));
-    DONE(commit(&b, point(15, 0), LISTS(0, 0, 0), bytes + 120, sizeof bytes - 120));
+    DONE(commit(&b, point(15, 0), LISTS(0, 0, 0), bytes + ONE, sizeof bytes - ONE));
     put_record(record, second, 11, points, 2);
-    CHECK(last_commit.anchors == 1 && memcmp(bytes + 120, record, sizeof record) == 0);
+    CHECK(last_commit.anchors == 1 && memcmp(bytes + ONE, record, sizeof record) == 0);
+    free_board(&b);
+}
+
+/* ---- payloads */
+
+/* Word 7 of a place. */
+static uint64_t *payload_word(board *b, size_t place)
+{
+    return b->links + place * COMMITTER_LINK_WORDS + 7;
+}
+
+static uint64_t word_of(payload with)
+{
+    return (uint64_t)with.len << 32 | with.bytes;
+}
+
+/* The commit of K13 on a copy: its record ends with these sums. */
+static void check_sums(const board *b, uint64_t len, uint64_t sum)
+{
+    uint8_t bytes[247], sums[16];
+    board copy = new_board(b->places);
+    copy_board(&copy, b);
+    DONE(commit(&copy, point(15, 0), LISTS(0, 0, 1, 0), bytes, sizeof bytes));
+    put_wide(sums, len);
+    put_wide(sums + 8, sum);
+    CHECK(last_commit.anchors == 1 && memcmp(bytes + COMMITTER_SUMS_AT(4), sums, sizeof sums) == 0);
+    free_board(&copy);
+}
+
+/* K13: what each point holds; second and refused resolutions, statuses 4 and 5; any words. */
+static void check_payloads(void)
+{
+    CHECK(sizeof(committer_resolution) == 80 && COMMITTER_RECORD_BYTES(4) == 247 && COMMITTER_RECORD_BYTES(0) == 99);
+    CHECK(COMMITTER_SUMS_AT(4) == 231 && COMMITTER_COMMIT_MAX == 511 * 99 + 4096 * 37);
+    static const payload seven = {7, 7};
+    board b = k13(0), spare = new_board(8);
+    DONE(certify(&b, point(13, 0)));
+    for (size_t i = 0; i < 6; i++) {
+        uint32_t round = (uint32_t)b.keys[i * COMMITTER_KEY_WORDS], author = (uint32_t)b.keys[i * COMMITTER_KEY_WORDS + 1];
+        CHECK(*payload_word(&b, i) == word_of(payload_of(point(round, author))));
+    }
+    check_sums(&b, 10, 43210);
+    REFUSED(&b, &spare, COMMITTER_RESOLVED, resolve(&b, point(11, 1), paid(valid(0, 0), seven), NULL, 0));
+    /* a refused resolution leaves what stands there, an accepted one of any status writes both numbers */
+    for (uint32_t status = COMMITTER_ILL_FORMED; status <= COMMITTER_NOT_FOUND; status++) {
+        committer_point_id id = point(12, status);
+        committer_resolution resolution = paid(valid(0, 0), seven);
+        size_t place = b.state.count;
+        DONE(name(&b, id));
+        *payload_word(&b, place) = UINT64_MAX;
+        resolution.status = 6;
+        REFUSED(&b, &spare, COMMITTER_BAD_INFO, resolve(&b, id, resolution, NULL, 0));
+        resolution.status = status;
+        resolution.evidence = 1;
+        REFUSED(&b, &spare, COMMITTER_BAD_INFO, resolve(&b, id, resolution, NULL, 0));
+        resolution.evidence = 0;
+        DONE(resolve(&b, id, resolution, NULL, 0));
+        CHECK(*payload_word(&b, place) == word_of(seven));
+        REFUSED(&b, &spare, COMMITTER_RESOLVED, resolve(&b, id, valid(0, 0), NULL, 0));
+    }
+    check_sums(&b, 10, 43210);
+    uint8_t expected[COMMITTER_LOOK_BYTES(3)];
+    check_lengths_of_outlook(&b, expected, put_look(expected, point(13, 0), 4, 3, (const uint8_t[]){1, 2, 1}), 1);
+    /* any word is a pair of numbers, of 12.0 and of all */
+    *payload_word(&b, 1) = (uint64_t)UINT32_MAX << 32;
+    check_sums(&b, 8 + (uint64_t)UINT32_MAX, 43010);
+    for (size_t i = 0; i < 8; i++) {
+        *payload_word(&b, i) = UINT64_MAX;
+    }
+    check_sums(&b, 17179869180u, 17179869180u);
+    for (size_t i = 0; i < 8; i++) {
+        *payload_word(&b, i) = 0;
+    }
+    check_sums(&b, 0, 0);
+    free_board(&b);
+    free_board(&spare);
+}
+
+/* A drop clears the numbers of the places that it frees; a point that comes there has its own. */
+static void check_freed_payloads(void)
+{
+    static const payload mine = {100, UINT32_MAX};
+    board b = k13(0);
+    CHECK(drop(&b, 14).said == 1 && b.state.count == 2);
+    for (size_t i = 0; i < 4; i++) {
+        CHECK(*payload_word(&b, i) == 0);
+    }
+    CHECK(*payload_word(&b, 4) == word_of((payload){5, 5}) && *payload_word(&b, 5) == word_of((payload){6, 6}));
+    DONE(name(&b, point(15, 1)));
+    CHECK(*payload_word(&b, 0) == 0);
+    DONE(resolve(&b, point(15, 1), paid(valid(0, 0), mine), NULL, 0));
+    CHECK(*payload_word(&b, 0) == word_of(mine));
+    DONE(reset(&b));
+    for (size_t i = 0; i < 8; i++) {
+        CHECK(*payload_word(&b, i) == 0);
+    }
     free_board(&b);
 }
 
@@ -1263,7 +1400,7 @@ static void check_removes(void)
     board b = to_remove(), spare = new_board(8), after = new_board(8);
     REFUSED(&b, &spare, COMMITTER_REMOVE_AHEAD, remove_upto(&b, 5, 1, 0, bytes, sizeof bytes));
     REFUSED(&b, &spare, COMMITTER_REMOVE_AHEAD, remove_upto(&b, 0, 0, 0, NULL, 0));
-    uint8_t record[120];
+    uint8_t record[ONE];
     DONE(commit(&b, point(7, 0), LISTS(0), record, sizeof record));
     REFUSED(&b, &spare, COMMITTER_REMOVE_AHEAD, remove_upto(&b, 6, 1, 0, bytes, sizeof bytes));
     REFUSED(&b, &spare, COMMITTER_REMOVE_AHEAD, remove_upto(&b, UINT32_MAX, 1, 0, NULL, 0));
@@ -1353,7 +1490,7 @@ static void check_walk_refusals(void)
     CHECK(ask(&b).said == 1);
     REFUSED(&b, &spare, COMMITTER_BAD_LISTS, commit(&b, point(13, 0), NO_LISTS, NULL, 0));
     REFUSED(&b, &spare, COMMITTER_NO_ROOM, commit(&b, point(13, 0), LISTS(0), NULL, 0));
-    uint8_t bytes[120];
+    uint8_t bytes[ONE];
     DONE(commit(&b, point(13, 0), LISTS(0), bytes, sizeof bytes));
     CHECK(last_commit.anchors == 1 && b.state.emit_first_after_gap == 0);
     free_board(&b);
@@ -1456,6 +1593,8 @@ int main(void)
     check_three_in_a_round();
     check_anchor_by_anchor();
     check_committed_ones();
+    check_payloads();
+    check_freed_payloads();
     check_removes();
     check_merge();
     check_walk_refusals();

@@ -39,10 +39,16 @@ static committer_point_id id(uint32_t round, uint32_t author, uint64_t digest)
     return id;
 }
 
+/* The payload of a point. */
+typedef struct {
+    uint32_t len, bytes;
+} payload;
+
 /* Names a valid point and resolves it; its includes are peers 0 and 1, as many as there are, with these digests. */
-static void add(committer_point_id point, uint32_t marks, committer_point_id top_proof, size_t includes, const uint64_t *digests)
+static void add(
+    committer_point_id point, payload with, uint32_t marks, committer_point_id top_proof, size_t includes, const uint64_t *digests)
 {
-    committer_resolution resolution = {COMMITTER_VALID, marks, top_proof, 0, includes, 0};
+    committer_resolution resolution = {COMMITTER_VALID, marks, top_proof, 0, includes, 0, with.len, with.bytes};
     uint64_t refs[2 * COMMITTER_REF_WORDS] = {0};
     for (size_t i = 0; i < includes; i++) {
         refs[i * COMMITTER_REF_WORDS] = i;
@@ -57,6 +63,11 @@ static void add(committer_point_id point, uint32_t marks, committer_point_id top
 static uint32_t number(const uint8_t *bytes)
 {
     return (uint32_t)bytes[0] << 24 | (uint32_t)bytes[1] << 16 | (uint32_t)bytes[2] << 8 | bytes[3];
+}
+
+static uint64_t wide(const uint8_t *bytes)
+{
+    return (uint64_t)number(bytes) << 32 | number(bytes + 4);
 }
 
 /* Prints an id, with a mark between round, author and digest. */
@@ -105,14 +116,16 @@ static size_t make_lists(const uint8_t *look, uint8_t *lists)
 static void print_record(const uint8_t *bytes)
 {
     uint32_t points = number(bytes + 79);
+    const uint8_t *sums = bytes + COMMITTER_SUMS_AT(points);
     printf("anchor ");
     print_id(bytes, ' ');
     printf(" proof ");
     print_id(bytes + 37, ' ');
-    printf(" exec %u prev %" PRIu32 " points %" PRIu32 ":", bytes[74], number(bytes + 75), points);
+    printf(" exec %u prev %" PRIu32, bytes[74], number(bytes + 75));
+    printf(" payload %" PRIu64 " %" PRIu64 " points %" PRIu32 ":", wide(sums), wide(sums + 8), points);
     for (uint32_t i = 0; i < points; i++) {
         putchar(' ');
-        print_id(bytes + COMMITTER_RECORD_BYTES(i), '.');
+        print_id(bytes + 83 + i * COMMITTER_ID_BYTES, '.');
     }
     putchar('\n');
 }
@@ -149,12 +162,12 @@ int main(void)
         reply = committer_round(state, TABLES, round, PEERS);
         keep("round", &reply);
     }
-    add(id(11, 0, 110), 0, used, 0, NULL);
-    add(id(12, 0, 120), 0, used, 1, (const uint64_t[]){110});
-    add(id(12, 1, 121), 0, used, 1, (const uint64_t[]){110});
-    add(anchor, 0, used, 2, (const uint64_t[]){120, 121});
-    add(id(14, 0, 140), COMMITTER_PROOF, id(14, 0, 140), 1, (const uint64_t[]){130});
-    add(trigger, COMMITTER_TRIGGER, used, 1, (const uint64_t[]){140});
+    add(id(11, 0, 110), (payload){1, 10}, 0, used, 0, NULL);
+    add(id(12, 0, 120), (payload){2, 200}, 0, used, 1, (const uint64_t[]){110});
+    add(id(12, 1, 121), (payload){3, 3000}, 0, used, 1, (const uint64_t[]){110});
+    add(anchor, (payload){4, 40000}, 0, used, 2, (const uint64_t[]){120, 121});
+    add(id(14, 0, 140), (payload){5, 5}, COMMITTER_PROOF, id(14, 0, 140), 1, (const uint64_t[]){130});
+    add(trigger, (payload){6, 6}, COMMITTER_TRIGGER, used, 1, (const uint64_t[]){140});
     reply = committer_certify(state, TABLES, anchor);
     keep("certify", &reply);
 

@@ -47,6 +47,7 @@ fn main() -> Result<(), Refused> {
         let anchor = hand_out(&mut board, &point_id(TOP, 0), &look)?;
         let points: Vec<String> = anchor.points.iter().map(|id| format!("{}.{}", id.round, id.author)).collect();
         println!("  {}.{}: {}", anchor.anchor.round, anchor.anchor.author, points.join(" "));
+        println!("  payload {} of {} bytes", anchor.payload_len, anchor.payload_bytes);
     }
 
     println!("the trigger named again: {}", board.name(&point_id(TOP, 0)).expect_err("its digest is named"));
@@ -106,6 +107,8 @@ fn info(id: &PointId) -> PointInfo {
         top_proof,
         includes: links(1, 0..PEERS),
         witness: links(2, 0..1),
+        payload_len: 1 + id.author,
+        payload_bytes: 1000 * (1 + id.author),
         ..PointInfo::default()
     }
 }

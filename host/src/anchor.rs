@@ -7,8 +7,8 @@ use crate::types::PointId;
 
 /// Of a point id's bytes.
 pub(crate) const ID_BYTES: usize = 37;
-/// Of a record's bytes before the ids of its points.
-pub const RECORD_BYTES: usize = 2 * ID_BYTES + 9;
+/// Of a record's bytes beside the ids of its points: 83 before them, the two sums after them.
+pub const RECORD_BYTES: usize = 2 * ID_BYTES + 9 + 2 * 8;
 /// Of what an outlook writes for an anchor, before the counts of its rounds.
 pub const LOOK_BYTES: usize = ID_BYTES + 4;
 /// Of the count of a round.
@@ -24,6 +24,10 @@ pub struct Anchor {
     pub previous: u32,
     /// the history: by rising round; inside a round in the reverse of the order that its place list says
     pub points: Vec<PointId>,
+    /// the sum over the history
+    pub payload_len: u64,
+    /// the sum over the history
+    pub payload_bytes: u64,
 }
 
 /// The line that `replay` writes for it (docs/FORMATS.md).
@@ -31,7 +35,7 @@ impl fmt::Display for Anchor {
     fn fmt(&self, f: &mut fmt::Formatter<'_>) -> fmt::Result {
         let (anchor, proof) = (self.anchor.text(" "), self.proof.text(" "));
         write!(f, "anchor {anchor} proof {proof} exec {} prev {}", u32::from(self.executable), self.previous)?;
-        write!(f, " points {}:", self.points.len())?;
+        write!(f, " payload {} {} points {}:", self.payload_len, self.payload_bytes, self.points.len())?;
         self.points.iter().try_for_each(|id| write!(f, " {}", id.text(".")))
     }
 }
@@ -54,7 +58,8 @@ fn anchor(rest: &mut &[u8]) -> Option<Anchor> {
     let [executable] = taken(rest)?;
     let (previous, count) = (number(rest)?, number(rest)?);
     let points = (0..count).map(|_| id(rest)).collect::<Option<_>>()?;
-    Some(Anchor { anchor, proof, executable: executable != 0, previous, points })
+    let [payload_len, payload_bytes] = [taken(rest)?, taken(rest)?].map(u64::from_be_bytes);
+    Some(Anchor { anchor, proof, executable: executable != 0, previous, points, payload_len, payload_bytes })
 }
 
 /// What an outlook tells of an anchor.

@@ -49,6 +49,8 @@ pub const REMOVE_BYTES_MAX: usize = 5_785_509;
 /// Words of a place in each table.
 pub const KEY_WORDS: usize = 8;
 pub const LINK_WORDS: usize = 328;
+/// Which word of a place in `links` holds `payload_len` * 2^32 + `payload_bytes`.
+const PAYLOAD_WORD: usize = 7;
 
 /// The tables. `include/committer.h` tells what their words are.
 #[derive(Clone, Debug, PartialEq, Eq)]
@@ -334,16 +336,21 @@ impl Committer {
     /// The point at a used place of started tables: its words are in their ranges.
     fn point_at(&self, place: usize) -> Point {
         let key = &self.tables.keys[place * KEY_WORDS..][..KEY_WORDS];
+        let status = Status::of(key[6] as u32);
+        // anything may stand there before the resolution
+        let payload = status.map_or(0, |_| self.tables.links[place * LINK_WORDS + PAYLOAD_WORD]);
         Point {
             id: PointId {
                 round: key[0] as u32,
                 author: key[1] as u32,
                 digest: digest_bytes(&[key[2], key[3], key[4], key[5]]),
             },
-            status: Status::of(key[6] as u32),
+            status,
             proof: key[7] & 1 != 0,
             trigger: key[7] & 2 != 0,
             cause: key[7] & 4 != 0,
+            payload_len: (payload >> 32) as u32,
+            payload_bytes: payload as u32,
             cert: self.tables.certs[place] as u16,
         }
     }

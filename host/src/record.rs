@@ -44,6 +44,8 @@ const NOBODY: u8 = 255;
 const LINK: usize = 33;
 /// Of a resolution's bytes before its links.
 const RESOLVE: usize = 82;
+/// Of its payload numbers, after its links.
+const PAYLOAD: usize = 8;
 /// Of place lists that fit into a record.
 const LISTS_MAX: usize = REST_MAX - REST_MIN - ID_BYTES;
 
@@ -133,6 +135,8 @@ fn put_info(out: &mut Vec<u8>, info: &PointInfo) {
         put_byte(out, link.peer);
         out.extend(link.digest);
     }
+    put_number(out, info.payload_len);
+    put_number(out, info.payload_bytes);
 }
 
 // ---- decoding
@@ -236,10 +240,11 @@ fn start(f: &[u8]) -> Start {
 fn resolve(f: &[u8]) -> Option<Call> {
     let includes = usize::from(*f.get(80)?);
     let witness = usize::from(*f.get(81)?);
-    if f.len() != RESOLVE + LINK * (includes + witness) {
+    let end = RESOLVE + LINK * (includes + witness);
+    if f.len() != end + PAYLOAD {
         return None;
     }
-    let (near, far) = f[RESOLVE..].split_at(LINK * includes);
+    let (near, far) = f[RESOLVE..end].split_at(LINK * includes);
     let info = PointInfo {
         status: f[37].into(),
         proof: f[38] & 1 != 0,
@@ -249,6 +254,8 @@ fn resolve(f: &[u8]) -> Option<Call> {
         evidence: number(&f[76..80]),
         includes: links(near),
         witness: links(far),
+        payload_len: number(&f[end..end + 4]),
+        payload_bytes: number(&f[end + 4..]),
     };
     Some(Call::Resolve(id(f), info))
 }

@@ -150,6 +150,8 @@ pub struct Resolution {
     pub evidence: u32,
     pub includes: usize,
     pub witness: usize,
+    pub payload_len: u32,
+    pub payload_bytes: u32,
 }
 
 /// The counters of a peer over the rounds that a remove reports.
@@ -189,7 +191,7 @@ const _: () = assert!(size_of::<State>() == 15432);
 const _: () = assert!(offset_of!(Reply, state) == 16);
 const _: () = assert!(size_of::<Reply>() == 15448);
 const _: () = assert!(size_of::<Start>() == 28);
-const _: () = assert!(size_of::<Resolution>() == 72);
+const _: () = assert!(size_of::<Resolution>() == 80);
 const _: () = assert!(size_of::<Counters>() == 18);
 
 // the generator and the game, which are lent nothing

@@ -77,6 +77,10 @@ pub struct PointInfo {
     pub includes: Vec<Link>,
     /// peers strictly rising, at most 32
     pub witness: Vec<Link>,
+    /// any number
+    pub payload_len: u32,
+    /// any number
+    pub payload_bytes: u32,
 }
 
 /// What a start takes.
@@ -103,6 +107,10 @@ pub struct Point {
     pub proof: bool,
     pub trigger: bool,
     pub cause: bool,
+    /// as it was resolved; 0 if it isn't
+    pub payload_len: u32,
+    /// as it was resolved; 0 if it isn't
+    pub payload_bytes: u32,
     /// the certificate word: top 8000, started 4000, completed 2000, committed 1000 (hexadecimal), height in the low
     /// 12 bits
     pub cert: u16,
@@ -229,6 +237,8 @@ impl From<&PointInfo> for sys::Resolution {
             evidence: info.evidence,
             includes: info.includes.len(),
             witness: info.witness.len(),
+            payload_len: info.payload_len,
+            payload_bytes: info.payload_bytes,
         }
     }
 }

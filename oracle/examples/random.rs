@@ -125,6 +125,8 @@ impl Writer<'_> {
             evidence: if linked { self.random.below(1 << PEERS) as u32 } else { 0 },
             includes: if linked { self.links(0, 90, id.author) } else { Vec::new() },
             witness: if linked { self.links(1, 30, PEERS) } else { Vec::new() },
+            payload_len: self.random.below(1 << 32) as u32,
+            payload_bytes: self.random.below(1 << 32) as u32,
         }
     }
 

@@ -292,6 +292,8 @@ fn trigger_not_held(id: &Id) -> DagPoint {
         evidence: 0,
         includes: Vec::new(),
         witness: Vec::new(),
+        payload_len: 0,
+        payload_bytes: 0,
     };
     let info = convert::info_of(id, &info).expect("it has no links");
     DagPoint::new_valid(info, Cert::default(), &Default::default())

@@ -81,7 +81,7 @@ pub fn info_of(id: &Id, info: &Info) -> Result<PointInfo, &'static str> {
         time: UnixTime::from_millis(0),
         anchor_time: UnixTime::from_millis(0),
     };
-    Ok(point_info(point_id(id), data))
+    Ok(point_info(point_id(id), info.payload_len, info.payload_bytes, data))
 }
 
 fn link_pair(link: &Link) -> (PeerId, Digest) {
@@ -109,6 +109,8 @@ pub fn anchor(data: &AnchorData) -> Anchor {
         executable: data.is_executable,
         prev_anchor: data.prev_anchor.map(|round| round.0),
         points: data.history.iter().map(|info| plain_id(info.id())).collect(),
+        payload_len: data.history.iter().map(|info| u64::from(info.payload_len())).sum(),
+        payload_bytes: data.history.iter().map(|info| u64::from(info.payload_bytes())).sum(),
     }
 }
 

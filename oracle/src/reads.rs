@@ -58,6 +58,7 @@ fn points_of(dag_round: &DagRound) -> Vec<PointState> {
                 id: Id { round, author, digest: *digest.inner() },
                 status: status(future.resolved()),
                 word: future.cert().read_word(),
+                payload: payload(future.resolved()),
             });
             Some(states.collect::<Vec<_>>())
         })
@@ -82,4 +83,14 @@ fn status(dag_point: Option<&DagPoint>) -> u8 {
         Some(DagPoint::IllFormed(_)) => 4,
         Some(DagPoint::NotFound(_)) => 5,
     }
+}
+
+fn payload(dag_point: Option<&DagPoint>) -> Option<(u32, u32)> {
+    let info = match dag_point? {
+        DagPoint::Valid(valid) => valid.info(),
+        DagPoint::TransInvalid(invalid) => invalid.info(),
+        DagPoint::Invalid(invalid) => invalid.info(),
+        DagPoint::IllFormed(_) | DagPoint::NotFound(_) => return None,
+    };
+    Some((info.payload_len(), info.payload_bytes()))
 }

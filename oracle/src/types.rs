@@ -43,6 +43,9 @@ pub struct Info {
     pub evidence: u32,
     pub includes: Vec<Link>,
     pub witness: Vec<Link>,
+    /// the Rust keeps neither of these two for statuses 4 and 5
+    pub payload_len: u32,
+    pub payload_bytes: u32,
 }
 
 #[derive(Clone, Debug, PartialEq, Eq, Hash)]
@@ -62,6 +65,9 @@ pub struct Anchor {
     pub prev_anchor: Option<u32>,
     /// the history in the Rust's own order: rounds rise, and inside a round the shuffle is read backwards
     pub points: Vec<Id>,
+    /// the sums of `payload_len` and of `payload_bytes` over the history
+    pub payload_len: u64,
+    pub payload_bytes: u64,
 }
 
 /// Peers rise by number, events by kind, round, author and digest, lists by round and digest: the Rust's own order is
@@ -100,6 +106,8 @@ pub struct PointState {
     pub status: u8,
     /// top 8000, started 4000, completed 2000, committed 1000 (hexadecimal), height in the low 12 bits
     pub word: u16,
+    /// `payload_len` and `payload_bytes` of its `PointInfo`: statuses 1 to 3
+    pub payload: Option<(u32, u32)>,
 }
 
 #[derive(Clone, Debug, PartialEq, Eq, Hash)]

@@ -40,6 +40,36 @@ fn two_anchors_in_one_commit() {
     );
 }
 
+/// The numbers of statuses 1 to 3 are held, any; of 4 and 5, and of a point that is named only, there are none.
+#[test]
+fn payloads_are_held() {
+    let mut oracle = started(&start(10, 2, 0, 10), 11);
+    let numbers = [(0, 0), (7, u32::MAX), (u32::MAX, 0), (5, 6), (8, 9)];
+    for ((status, letter), (len, bytes)) in (1..).zip('a'..).zip(numbers) {
+        add(&mut oracle, p(11, 0, letter), payload(common::status(status), len, bytes));
+        assert_eq!(state(&oracle, p(11, 0, letter)).payload, (status < 4).then_some((len, bytes)));
+    }
+    oracle.name(&p(11, 1, 'n')).done();
+    assert_eq!(state(&oracle, p(11, 1, 'n')).payload, None);
+}
+
+/// A point that an earlier anchor handed out isn't in a later sum; sums don't end at 32 bits.
+#[test]
+fn payloads_are_summed_over_each_history() {
+    let start = Start { used: Some(0), ..start(10, 2, 0, 10) };
+    let mut oracle = started(&start, 15);
+    let most = |info| payload(info, u32::MAX, 1);
+    add(&mut oracle, p(11, 0, 'a'), most(anchor(p(10, 0, 'z'), &[])));
+    add(&mut oracle, p(12, 0, 'b'), most(proof(&[(0, 'a')])));
+    add(&mut oracle, p(13, 0, 'c'), most(witness(anchor(p(12, 0, 'b'), &[(0, 'b')]), &[(0, 'a')])));
+    add(&mut oracle, p(14, 0, 'd'), proof(&[(0, 'c')]));
+    add(&mut oracle, p(15, 0, 'e'), trigger(&[(0, 'd')]));
+    oracle.certify(&p(13, 0, 'c')).done();
+    let anchors = anchors(oracle.commit(&p(15, 0, 'e')));
+    let sums: Vec<_> = anchors.iter().map(|anchor| (anchor.payload_len, anchor.payload_bytes)).collect();
+    assert_eq!(sums, [(4_294_967_295, 1), (8_589_934_590, 2)]);
+}
+
 #[test]
 fn history_conflict_has_the_points_round() {
     let mut oracle = started(&Start { used: Some(0), ..start(10, 2, 0, 10) }, 14);

@@ -152,12 +152,12 @@ fn k12_trigger_at_the_last_proof() {
 fn k13_one_anchor_four_points() {
     let start = Start { used: Some(0), ..start(10, 2, 0, 10) };
     let mut oracle = started(&start, 15);
-    add(&mut oracle, p(11, 0, 'a'), valid());
-    add(&mut oracle, p(12, 0, 'b'), includes(valid(), &[(0, 'a')]));
-    add(&mut oracle, p(12, 1, 'c'), includes(valid(), &[(0, 'a')]));
-    add(&mut oracle, p(13, 0, 'd'), anchor(p(10, 0, 'z'), &[(0, 'b'), (1, 'c')]));
-    add(&mut oracle, p(14, 0, 'e'), proof(&[(0, 'd')]));
-    add(&mut oracle, p(15, 0, 'f'), trigger(&[(0, 'e')]));
+    add(&mut oracle, p(11, 0, 'a'), payload(valid(), 1, 10));
+    add(&mut oracle, p(12, 0, 'b'), payload(includes(valid(), &[(0, 'a')]), 2, 200));
+    add(&mut oracle, p(12, 1, 'c'), payload(includes(valid(), &[(0, 'a')]), 3, 3000));
+    add(&mut oracle, p(13, 0, 'd'), payload(anchor(p(10, 0, 'z'), &[(0, 'b'), (1, 'c')]), 4, 40_000));
+    add(&mut oracle, p(14, 0, 'e'), payload(proof(&[(0, 'd')]), 5, 5));
+    add(&mut oracle, p(15, 0, 'f'), payload(trigger(&[(0, 'e')]), 6, 6));
     oracle.certify(&p(13, 0, 'd')).done();
     let anchors = anchors(oracle.commit(&p(15, 0, 'f')));
     assert_eq!(anchors.len(), 1);
@@ -168,6 +168,7 @@ fn k13_one_anchor_four_points() {
     // nothing is shuffled here, so inside a round digests fall
     assert_eq!(anchors[0].points, [p(11, 0, 'a'), p(12, 1, 'c'), p(12, 0, 'b'), p(13, 0, 'd')]);
     assert_eq!(oracle.place_lists()[..], [[vec![0], vec![0, 1], vec![0]]]);
+    assert_eq!((anchors[0].payload_len, anchors[0].payload_bytes), (10, 43_210));
     assert_eq!(word(&oracle, p(12, 1, 'c')), INIT | COMMITTED | 2);
     assert_eq!(word(&oracle, p(14, 0, 'e')), INIT);
     let state = oracle.state();

@@ -7,6 +7,9 @@ use oracle::PlaceLists;
 use crate::compare::in_a_row;
 use crate::library::{LARGE, UNTOUCHED};
 
+/// Of the two sums at the end of a record.
+const SUMS: usize = 16;
+
 /// A commit that wrote records, or none, with the lists of its anchors.
 pub struct Commit<'a> {
     trigger: &'a PointId,
@@ -51,7 +54,7 @@ impl<'a> Commit<'a> {
         let mut tried = 0;
         for n in 0..self.records.len() {
             let (begin, end) = (self.begin(n), self.begin(n + 1));
-            for length in [begin, begin + 82, end - 1] {
+            for length in [begin, begin + 82, end - SUMS, end - 1] {
                 let committer = self.cut(n, length)?;
                 if n == 0 && committer != *self.before {
                     return Err(format!("a buffer of {length} bytes: refused with 0 anchors, and something changed"));

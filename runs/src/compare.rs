@@ -1,8 +1,9 @@
 //! One list of calls on both sides, compared after each call.
 
+use std::collections::HashMap;
 use std::fmt;
 
-use committer::{Call, PointId, Start};
+use committer::{Anchor, Call, PointId, Start};
 use oracle::{HAS_OWN_ORDER, OWN_ORDER, PlaceLists};
 
 use crate::counts::Counts;
@@ -111,6 +112,8 @@ struct Pair<'a, S> {
     order: u64,
     /// the calls that both took
     taken: Vec<&'a Call>,
+    /// the payloads of the points that the Rust has none of: ill-formed and not found ones
+    given: HashMap<PointId, (u32, u32)>,
     /// the place lists of the commits
     lent: Vec<Vec<u8>>,
     /// the round of the last anchor handed out since the start
@@ -126,8 +129,8 @@ impl<'a, S: Side> Pair<'a, S> {
         let (view, fingerprint) = (ours.view(), ours.fingerprint());
         oracle::set_shuffle_order(list.order);
         let (rust, order) = (Rust::default(), list.order);
-        let (taken, lent) = (Vec::new(), Vec::new());
-        Pair { places: list.places, ours, rust, order, taken, lent, last_anchor: None, view, fingerprint }
+        let (taken, given, lent) = (Vec::new(), HashMap::new(), Vec::new());
+        Pair { places: list.places, ours, rust, order, taken, given, lent, last_anchor: None, view, fingerprint }
     }
 
     fn play(&mut self, list: &'a List, counts: &mut Counts) -> Result<(), Difference> {
@@ -248,8 +251,8 @@ impl<'a, S: Side> Pair<'a, S> {
         Err((Kind::Rule, format!("{}: {}; by document 01: {due:?}", name(call), answer_text(answer))))
     }
 
-    /// The points of a commit's records are those that got their committed mark, each once; smaller buffers cut the records, and damaged
-    /// place lists refuse them.
+    /// The points of a commit's records are those that got their committed mark, each once; the records before a refusal, which the Rust
+    /// loses, have the sums of these points' payloads; smaller buffers cut the records, and damaged place lists refuse them.
     fn records(&self, answer: &Answer, lists: &PlaceLists, view: &View, counts: &mut Counts) -> Result<(), Found> {
         let records = match answer {
             Answer::Anchors(anchors) => anchors,
@@ -268,7 +271,11 @@ impl<'a, S: Side> Pair<'a, S> {
             let text = format!("commit hands out {} points and marks {}", handed.len(), marked.len());
             return Err((Kind::Records, text));
         }
-        counts.handed(records.len(), matches!(answer, Answer::Refused(_)));
+        let refused = matches!(answer, Answer::Refused(_));
+        if let Some(record) = records.iter().find(|record| refused && !has_sums(record, view)) {
+            return Err((Kind::Records, format!("commit is refused after {record}, and its points have other sums")));
+        }
+        counts.handed(records.len(), refused);
         let tried = self.ours.smaller_buffers(lists).map_err(|text| (Kind::Buffer, format!("commit: {text}")))?;
         counts.times_met(Known::Entry(14), tried);
         let tried = self.ours.damaged_lists(lists).map_err(|text| (Kind::Lists, format!("commit: {text}")))?;
@@ -413,8 +420,14 @@ impl<'a, S: Side> Pair<'a, S> {
                 (None, _) => Err((Kind::Taken, format!("{} is taken; the Rust: {}", name(call), told_text(&told)))),
             };
         }
-        if let Answer::Anchors(_) = answer {
-            counts.compared(&lists, self.order == OWN_ORDER && HAS_OWN_ORDER);
+        match (answer, call) {
+            (Answer::Anchors(anchors), _) => {
+                counts.compared(anchors, &lists, self.order == OWN_ORDER && HAS_OWN_ORDER);
+            }
+            (_, Call::Resolve(id, info)) if info.status > 3 => {
+                self.given.insert(*id, (info.payload_len, info.payload_bytes));
+            }
+            _ => {}
         }
         self.taken.push(call);
         self.same(call, counts)
@@ -471,13 +484,25 @@ impl<'a, S: Side> Pair<'a, S> {
         if matches!(call, Call::Remove { .. }) {
             counts.remembered(&self.view.memory, lesser);
         }
-        counts.states += 1;
-        counts.points += self.view.points.len() as u64;
+        // the Rust keeps no payload of these
+        for point in rust.points.iter_mut().filter(|point| point.status > 3) {
+            point.payload = self.given.get(&point.id).copied();
+        }
+        counts.held(&self.view.points);
         if self.view.points == rust.points {
             return Ok(Next::On);
         }
         Err((Kind::Points, format!("after {}: {}", name(call), points_text(&self.view, &rust))))
     }
+}
+
+/// The record's sums are those of the points held.
+fn has_sums(record: &Anchor, view: &View) -> bool {
+    let points = view.points.iter().filter(|point| record.points.contains(&point.id));
+    let (len, bytes) = points
+        .filter_map(|point| point.payload)
+        .fold((0, 0), |(len, bytes), payload| (len + u64::from(payload.0), bytes + u64::from(payload.1)));
+    (record.payload_len, record.payload_bytes) == (len, bytes)
 }
 
 /// Entry 3: the Rust forgets a last proof below the bottom. Where it has, it is taken as kept.
@@ -526,5 +551,6 @@ fn points_text(ours: &View, rust: &View) -> String {
 fn point_text(point: &Point) -> String {
     let id = &point.id;
     let digest: String = id.digest.iter().map(|byte| format!("{byte:02x}")).collect();
-    format!("{}.{}.{digest} status {} word {:04x}", id.round, id.author, point.status, point.word)
+    let payload = point.payload.map_or(String::new(), |(len, bytes)| format!(" payload {len} {bytes}"));
+    format!("{}.{}.{digest} status {} word {:04x}{payload}", id.round, id.author, point.status, point.word)
 }

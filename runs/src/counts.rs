@@ -3,12 +3,12 @@
 use std::collections::BTreeMap;
 use std::fmt;
 
-use committer::{Call, Removal};
+use committer::{Anchor, Call, Removal};
 use oracle::PlaceLists;
 
 use crate::known::{ENTRIES, Known, ROWS, row_is_entry};
 use crate::outlook::Compared;
-use crate::view::{Memory, View};
+use crate::view::{Memory, Point, View};
 
 #[derive(Clone, Debug, Default)]
 pub struct Counts {
@@ -24,8 +24,14 @@ pub struct Counts {
     /// pairs of points, and pairs of states, that were compared
     pub points: u64,
     pub states: u64,
+    /// of the points those with a payload that isn't 0 and 0, and those of them that are ill-formed or not found, of which the Rust has none
+    pub payloads: u64,
+    pub payloads_ours: u64,
     /// anchor records compared with the Rust's
     pub anchors: u64,
+    /// of them those with sums that aren't 0, and those with one that needs more than 32 bits
+    pub sums: u64,
+    pub wide_sums: u64,
     /// of them those with three linked points or more in a round, and of these those in the Rust's own order
     pub three_linked: u64,
     pub own_order: u64,
@@ -87,10 +93,24 @@ impl Counts {
         }
     }
 
-    /// Anchor records by their place lists, and whether these are the Rust's own.
-    pub fn compared(&mut self, lists: &PlaceLists, own: bool) {
+    /// A state with these points.
+    pub fn held(&mut self, points: &[Point]) {
+        self.states += 1;
+        self.points += points.len() as u64;
+        for point in points.iter().filter(|point| point.payload.is_some_and(|payload| payload != (0, 0))) {
+            self.payloads += 1;
+            self.payloads_ours += u64::from(point.status > 3);
+        }
+    }
+
+    /// Anchor records, their place lists, and whether these are the Rust's own.
+    pub fn compared(&mut self, anchors: &[Anchor], lists: &PlaceLists, own: bool) {
+        for greatest in anchors.iter().map(|anchor| anchor.payload_len.max(anchor.payload_bytes)) {
+            self.sums += u64::from(greatest > 0);
+            self.wide_sums += u64::from(greatest > u32::MAX.into());
+        }
         let three = lists.iter().filter(|rounds| rounds.iter().any(|list| list.len() >= 3)).count() as u64;
-        self.anchors += lists.len() as u64;
+        self.anchors += anchors.len() as u64;
         self.three_linked += three;
         self.own_order += if own { three } else { 0 };
     }
@@ -166,7 +186,11 @@ impl Counts {
         }
         self.points += other.points;
         self.states += other.states;
+        self.payloads += other.payloads;
+        self.payloads_ours += other.payloads_ours;
         self.anchors += other.anchors;
+        self.sums += other.sums;
+        self.wide_sums += other.wide_sums;
         self.three_linked += other.three_linked;
         self.own_order += other.own_order;
         self.damaged_lists += other.damaged_lists;
@@ -227,6 +251,16 @@ impl fmt::Display for Counts {
             writeln!(f, "  {kind}: {calls}, of them refused {refused}")?;
         }
         writeln!(f, "compared: {} states, {} points, {} anchor records", self.states, self.points, self.anchors)?;
+        writeln!(
+            f,
+            "points with a payload: {}, of them ill-formed or not found, where the Rust has none: {}",
+            self.payloads, self.payloads_ours
+        )?;
+        writeln!(
+            f,
+            "anchor records with sums that aren't 0: {}, with one of more than 32 bits: {}",
+            self.sums, self.wide_sums
+        )?;
         writeln!(
             f,
             "anchor records with three linked points or more in a round: {}, in the Rust's own order {}",

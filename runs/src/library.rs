@@ -228,7 +228,8 @@ fn refused(why: committer::Refused, finished: Vec<Anchor>) -> Refused {
 }
 
 fn point(point: &committer::Point) -> Point {
-    Point { id: point.id, status: point.status.map_or(0, Status::number), word: point.cert }
+    let payload = point.status.map(|_| (point.payload_len, point.payload_bytes));
+    Point { id: point.id, status: point.status.map_or(0, Status::number), word: point.cert, payload }
 }
 
 /// Four lanes, so that the products overlap: it is taken after every call.

@@ -99,6 +99,9 @@ impl Writer<'_> {
                 parts.push(format!("{name} {}", self.links(links)));
             }
         }
+        if (info.payload_len, info.payload_bytes) != (0, 0) {
+            parts.push(format!("payload {} {}", info.payload_len, info.payload_bytes));
+        }
         format!("resolve({})", parts.join(", "))
     }
 

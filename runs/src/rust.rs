@@ -96,7 +96,7 @@ fn memory(memory: &oracle::Memory) -> Memory {
 }
 
 fn point(point: &oracle::PointState) -> Point {
-    Point { id: id(&point.id), status: point.status.into(), word: point.word }
+    Point { id: id(&point.id), status: point.status.into(), word: point.word, payload: point.payload }
 }
 
 // ---- what goes in
@@ -132,6 +132,8 @@ fn info(info: &PointInfo) -> Result<Info, &'static str> {
         evidence: info.evidence,
         includes: links(&info.includes)?,
         witness: links(&info.witness)?,
+        payload_len: info.payload_len,
+        payload_bytes: info.payload_bytes,
     })
 }
 
@@ -175,6 +177,8 @@ fn anchor(anchor: &oracle::Anchor) -> Anchor {
         executable: anchor.executable,
         previous: anchor.prev_anchor.unwrap_or(0),
         points: anchor.points.iter().map(id).collect(),
+        payload_len: anchor.payload_len,
+        payload_bytes: anchor.payload_bytes,
     }
 }
 

@@ -250,6 +250,8 @@ fn simpler_infos(id: &PointId, info: &PointInfo) -> Vec<PointInfo> {
         PointInfo { includes: Vec::new(), ..info.clone() },
         PointInfo { witness: Vec::new(), ..info.clone() },
         PointInfo { evidence: 0, ..info.clone() },
+        PointInfo { payload_len: 0, ..info.clone() },
+        PointInfo { payload_bytes: 0, ..info.clone() },
         PointInfo { trigger: false, ..info.clone() },
         PointInfo { cause: false, ..info.clone() },
         PointInfo { proof: false, top_proof: PointId::default(), ..info.clone() },

@@ -56,6 +56,8 @@ pub struct Point {
     pub status: u32,
     /// the certificate word
     pub word: u16,
+    /// `payload_len` and `payload_bytes`, as it was resolved; none if it isn't. The Rust has them for statuses 1 to 3
+    pub payload: Option<(u32, u32)>,
 }
 
 impl Point {

@@ -1,5 +1,5 @@
-//! The harness finds faults: a side with one wrong height, flag, answer, refusal, word, counter, event or entry of the memory is caught, and
-//! the list that shows it is short.
+//! The harness finds faults: a side with one wrong height, flag, answer, refusal, word, sum, counter, event or entry of the memory is caught,
+//! and the list that shows it is short.
 
 use std::marker::PhantomData;
 
@@ -381,6 +381,89 @@ fn faults_of_commits_are_caught() {
     assert_eq!(found_in_chains::<Number>(), Kind::Refused(14));
 }
 
+/// Changes the records of a commit that is refused after some, or of one that isn't.
+fn records(mut answer: Answer, before_refusal: bool, change: impl Fn(&mut Anchor)) -> Answer {
+    match &mut answer {
+        Answer::Anchors(anchors) if !before_refusal => anchors.iter_mut().for_each(change),
+        Answer::Refused(why) if before_refusal => why.finished.iter_mut().for_each(change),
+        _ => {}
+    }
+    answer
+}
+
+/// What the first point of a history holds.
+fn first_payload(anchor: &Anchor, view: &View) -> (u64, u64) {
+    let first = view.points.iter().find(|point| point.id == anchor.points[0]);
+    let (len, bytes) = first.and_then(|point| point.payload).expect("it is resolved");
+    (len.into(), bytes.into())
+}
+
+/// The sum of the lengths misses the first point of the history.
+struct MissedLen;
+
+impl Fault for MissedLen {
+    fn answer(_: &Call, before: &View, answer: Answer) -> Answer {
+        records(answer, false, |anchor| anchor.payload_len -= first_payload(anchor, before).0)
+    }
+}
+
+/// The sum of the bytes does.
+struct MissedBytes;
+
+impl Fault for MissedBytes {
+    fn answer(_: &Call, before: &View, answer: Answer) -> Answer {
+        records(answer, false, |anchor| anchor.payload_bytes -= first_payload(anchor, before).1)
+    }
+}
+
+/// It does in a record that is finished before a refusal, which the Rust loses.
+struct MissedBefore;
+
+impl Fault for MissedBefore {
+    fn answer(_: &Call, before: &View, answer: Answer) -> Answer {
+        records(answer, true, |anchor| anchor.payload_bytes -= first_payload(anchor, before).1)
+    }
+}
+
+/// A sum has 32 bits.
+struct Narrow;
+
+impl Fault for Narrow {
+    fn answer(_: &Call, _: &View, answer: Answer) -> Answer {
+        records(answer, false, |anchor| anchor.payload_len &= u64::from(u32::MAX))
+    }
+}
+
+/// A point holds the two numbers exchanged.
+struct Exchanged;
+
+impl Fault for Exchanged {
+    fn view(view: &mut View) {
+        for (len, bytes) in view.points.iter_mut().filter_map(|point| point.payload.as_mut()) {
+            std::mem::swap(len, bytes);
+        }
+    }
+}
+
+/// Ill-formed and not found points hold none.
+struct Unheld;
+
+impl Fault for Unheld {
+    fn view(view: &mut View) {
+        view.points.iter_mut().filter(|point| point.status > 3).for_each(|point| point.payload = Some((0, 0)));
+    }
+}
+
+#[test]
+fn faults_of_payloads_are_caught() {
+    assert_eq!(found_in_chains::<MissedLen>(), Kind::Answer);
+    assert_eq!(found_in_chains::<MissedBytes>(), Kind::Answer);
+    assert_eq!(found_in_chains::<MissedBefore>(), Kind::Records);
+    assert_eq!(found_in_chains::<Narrow>(), Kind::Answer);
+    assert_eq!(calls::<Exchanged>(), (3, Kind::Points));
+    assert_eq!(calls::<Unheld>(), (3, Kind::Points));
+}
+
 /// Each list of the first anchor.
 fn each_list(first: &Look, lists: &mut [u8], change: impl Fn(&mut [u8])) {
     let mut rest = lists;
@@ -630,6 +713,7 @@ fn the_library_passes_chains() {
     }
     assert!(counts.anchors > 100 && counts.outlooks_with_anchors() > 100, "{counts}");
     assert!(counts.three_linked > 50 && counts.damaged_lists > 500, "{counts}");
+    assert!(counts.sums > 100 && counts.wide_sums > 50, "{counts}");
 }
 
 /// A word is written where 9 is given.

@@ -32,7 +32,8 @@ fn rows_are_those_of_the_document() {
 fn lists_are_written_as_in_the_document() {
     let with = Start { genesis: 10, commit_history_rounds: 1, bottom: 10, peers: 3, used: Some(0), ..Start::default() };
     let top_proof = PointId { round: 10, author: 0, digest: digest(9) };
-    let info = PointInfo { status: 1, trigger: true, top_proof, includes: vec![link(0, 5)], ..PointInfo::default() };
+    let includes = vec![link(0, 5)];
+    let info = PointInfo { status: 1, trigger: true, top_proof, includes, payload_bytes: 9, ..PointInfo::default() };
     let commit = Call::Commit(point(11, 1, 7), vec![0, 1, 0]);
     let calls =
         vec![Call::Start(with), Call::Name(point(11, 1, 7)), Call::Resolve(point(11, 1, 7), info), Call::Gap, commit];
@@ -42,7 +43,7 @@ fn lists_are_written_as_in_the_document() {
         "tables of 3 places, order 7\n\
          start(genesis 10, H 1, dedup 0, bottom 10, peers {0,1}, no gap, used 0)\n\
          name(11.1.b)\n\
-         resolve(11.1.b, valid, trigger, top 10.0.c, includes 0:a)\n\
+         resolve(11.1.b, valid, trigger, top 10.0.c, includes 0:a, payload 0 9)\n\
          gap question\n\
          commit(11.1.b, lists 0 1 0)\n",
     );

@@ -200,6 +200,8 @@ fn what_a_resolution_gives_stands_in_the_tables() {
         evidence: 0xdead_beef,
         includes: vec![link(&mid)],
         witness: vec![link(&low)],
+        payload_len: 0x0102_0304,
+        payload_bytes: u32::MAX - 1,
     };
     committer.resolve(&high, &info).unwrap();
 
@@ -207,7 +209,7 @@ fn what_a_resolution_gives_stands_in_the_tables() {
     assert_eq!(points.iter().map(|point| point.id).collect::<Vec<_>>(), [low, mid, high]);
     let last = points[2];
     assert_eq!((last.status, last.proof, last.trigger, last.cause), (Some(Status::TransInvalid), true, false, true));
-    assert_eq!(last.cert, 0x6000);
+    assert_eq!((last.payload_len, last.payload_bytes, last.cert), (0x0102_0304, u32::MAX - 1, 0x6000));
 
     let (tables, state) = committer.parts();
     assert_eq!((state.count, &tables.order[..3]), (3, [0, 1, 2].as_slice()));

@@ -5,7 +5,7 @@ use std::cmp::Reverse;
 use committer::{Anchor, Answer, Call, Committer, PointId, PointInfo, Refusal, Refused, Start, anchors};
 
 use crate::common::{
-    assert_outlook, assert_unchanged, beginning, buffer, link, lists, point, refuses, started, valid, version,
+    assert_outlook, assert_unchanged, beginning, buffer, link, lists, paid, point, refuses, started, valid, version,
 };
 
 const LARGE: usize = committer::COMMIT_BYTES_MAX;
@@ -65,7 +65,18 @@ fn k13() {
     committer.certify(&a).unwrap();
     let records = commit(&mut committer, &t).unwrap();
     let points = vec![low, right, left, a];
-    assert_eq!(records, [Anchor { anchor: a, proof: p, executable: true, previous: 0, points: points.clone() }]);
+    assert_eq!(
+        records,
+        [Anchor {
+            anchor: a,
+            proof: p,
+            executable: true,
+            previous: 0,
+            points: points.clone(),
+            payload_len: 0,
+            payload_bytes: 0
+        }]
+    );
     for held in committer.points() {
         assert_eq!(held.is_committed(), points.contains(&held.id), "{held:?}");
     }
@@ -129,15 +140,17 @@ fn list_a() -> Chain {
 
 #[test]
 fn list_a_and_its_bytes() {
-    let mut list = list_a();
+    let payload = |id: PointId, info| paid(info, if id.round == 11 { (0x0102_0304, u32::MAX) } else { (1, 1) });
+    let mut list = certified(chain(1, &short(), payload));
     let (a, p) = (point(11, 0), point(12, 0));
     let mut bytes = buffer(200);
     assert_eq!(list.committer.commit(&list.trigger, &[0], &mut bytes), Ok(1));
     let id = |id: &PointId| [&id.round.to_be_bytes()[..], &[id.author as u8], &id.digest].concat();
-    let record = [&id(&a)[..], &id(&p), &[1], &[0; 4], &[0, 0, 0, 1], &id(&a)].concat();
-    assert_eq!(record.len(), 120);
-    assert_eq!(bytes[..120], record);
-    assert!(bytes[120..].iter().all(|byte| *byte == 0xa5));
+    let sums = [0, 0, 0, 0, 1, 2, 3, 4, 0, 0, 0, 0, 255, 255, 255, 255];
+    let record = [&id(&a)[..], &id(&p), &[1], &[0; 4], &[0, 0, 0, 1], &id(&a), &sums].concat();
+    assert_eq!(record.len(), 136);
+    assert_eq!(bytes[..136], record);
+    assert!(bytes[136..].iter().all(|byte| *byte == 0xa5));
     // entry 3: only a reset forgets the last proof
     assert_eq!(list.committer.drop_upto(13), Ok(true));
     assert_eq!(list.committer.summary().unwrap().last_committed_proof, Some(12));
@@ -216,7 +229,7 @@ fn buffers_of_every_length() {
     let mut whole = list.committer.clone();
     let mut large = buffer(LARGE);
     assert_eq!(whole.commit(&list.trigger, &[0; 3], &mut large), Ok(2));
-    let (one, two) = (120, 120 + 83 + 2 * 37);
+    let (one, two) = (136, 136 + 99 + 2 * 37);
     for length in 0..=two + 3 {
         let mut committer = list.committer.clone();
         let mut bytes = buffer(length);
@@ -465,7 +478,7 @@ fn ids_2_5_6_9() {
     }
 }
 
-/// A list of the largest history: 255 rounds below the anchor, 4,096 places.
+/// A list of the largest history: 255 rounds below the anchor, 4,096 places, each point with the largest payload.
 #[test]
 fn the_largest_history() {
     let with = Start { commit_history_rounds: 255, used: Some(0), ..beginning() };
@@ -481,7 +494,7 @@ fn the_largest_history() {
             }
             let below = if round == 11 { vec![] } else { row(round - 1) };
             let info = PointInfo { includes: below.iter().map(link).collect(), ..anchor(point(10, 0), &[]) };
-            put(&mut committer, id, info);
+            put(&mut committer, id, paid(info, (u32::MAX, u32::MAX)));
         }
     }
     let (a, p, t) = (point(266, 0), point(267, 0), point(268, 0));
@@ -491,6 +504,7 @@ fn the_largest_history() {
     let records = commit(&mut committer, &t).unwrap();
     assert_eq!(records.len(), 1);
     assert_eq!(records[0].points.len(), 14 + 254 * 16 + 1);
+    assert_eq!([records[0].payload_len, records[0].payload_bytes], [4079 * u64::from(u32::MAX); 2]);
     assert!(records[0].points.is_sorted_by_key(|id| (id.round, Reverse(id.digest))));
     assert_eq!(records[0].points.iter().map(|id| id.round).min(), Some(11));
 }
@@ -502,7 +516,10 @@ fn records_that_are_cut_short() {
     assert_eq!(list.committer.commit(&list.trigger, &[0; 5], &mut bytes), Ok(3));
     let whole = anchors(&bytes, 3);
     assert_eq!(anchors(&bytes, 2), whole[..2]);
-    assert_eq!(anchors(&bytes[..120 + 156], 3), whole[..1]);
-    assert_eq!(anchors(&bytes[..119], 3), []);
+    assert_eq!(anchors(&bytes[..136 + 172], 3), whole[..1]);
+    // in the second sum, in the first, before both
+    for length in [135, 127, 120, 119] {
+        assert_eq!(anchors(&bytes[..length], 3), []);
+    }
     assert_eq!(anchors(&[], 1), []);
 }

@@ -2,7 +2,8 @@
 
 use committer::sys::Memory;
 use committer::{
-    Committer, Link, Look, OUTLOOK_BYTES_MAX, PointId, PointInfo, Refusal, Refused, Start, Status, anchors, looks,
+    Answer, Call, Committer, Link, Look, OUTLOOK_BYTES_MAX, PointId, PointInfo, Refusal, Refused, Start, Status,
+    anchors, looks,
 };
 
 use crate::model::Model;
@@ -72,6 +73,11 @@ pub fn valid(includes: &[PointId], witness: &[PointId]) -> PointInfo {
     }
 }
 
+/// The resolution with these payload numbers.
+pub fn paid(info: PointInfo, (payload_len, payload_bytes): (u32, u32)) -> PointInfo {
+    PointInfo { payload_len, payload_bytes, ..info }
+}
+
 /// Names a point and resolves it as valid.
 pub fn add(committer: &mut Committer, id: &PointId, includes: &[PointId], witness: &[PointId]) {
     committer.name(id).expect("a new point");
@@ -124,7 +130,7 @@ fn lists_of(looks: &[Look]) -> Vec<u8> {
 
 /// The outlook of a trigger is what a commit with right lists would do, once the gap question is put: the same anchors,
 /// the first with as many points and lists as long (the histories of the others lose what the ones before them hold),
-/// or the same refusal. It changes nothing, and writes only if it isn't refused.
+/// or the same refusal. It changes nothing, and writes only if it isn't refused. The commit's records are the model's.
 pub fn assert_outlook(committer: &Committer, trigger: &PointId) {
     let mut bytes = buffer(OUTLOOK_BYTES_MAX);
     let before = committer.clone();
@@ -134,11 +140,14 @@ pub fn assert_outlook(committer: &Committer, trigger: &PointId) {
     // refused with 2 if nothing is started, as commit and outlook are
     let _ = copy.gap_question();
     let ahead = Model::of(committer).looks(trigger);
+    let lists = lists_of(&ahead);
+    let due = Model::of(&copy).call(&Call::Commit(*trigger, lists.clone()));
     let mut records = buffer(committer::COMMIT_BYTES_MAX);
-    match copy.commit(trigger, &lists_of(&ahead), &mut records) {
+    match copy.commit(trigger, &lists, &mut records) {
         Ok(count) => {
             assert_eq!(told, Ok(count));
             let (looks, anchors) = (looks(&bytes, count, committer.parts().1), anchors(&records, count));
+            assert_eq!(due, Answer::Handed(anchors.clone()));
             assert_eq!([looks.len(), anchors.len()], [ahead.len(); 2]);
             assert_eq!(looks.first(), ahead.first());
             for ((look, later), anchor) in looks.iter().zip(&ahead).zip(&anchors) {
@@ -151,6 +160,7 @@ pub fn assert_outlook(committer: &Committer, trigger: &PointId) {
         }
         Err(why) => {
             assert_eq!(told, Err(Refused { finished: 0, ..why }));
+            assert_eq!(due, Answer::Refused(why, anchors(&records, why.finished)));
             assert_eq!(bytes, buffer(OUTLOOK_BYTES_MAX));
         }
     }

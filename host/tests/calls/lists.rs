@@ -1,7 +1,7 @@
 //! Place lists (document 02, N1): the order inside a round, which lists are refused with 24 and when, lists that an
 //! outlook tells the lengths of.
 
-use committer::{Committer, Look, PointId, PointInfo, Refusal, Refused, Start, anchors, looks};
+use committer::{Anchor, Committer, Look, PointId, PointInfo, RECORD_BYTES, Refusal, Refused, Start, anchors, looks};
 
 use crate::commits::{anchor, proof, put, trigger, used};
 use crate::common::{assert_outlook, assert_unchanged, buffer, id, refuses, started, valid, version};
@@ -18,28 +18,42 @@ fn yields(committer: &mut Committer, anchor: PointId) -> PointId {
     t
 }
 
-/// K13: a in 11, b and c above it, the anchor d in 13.
+/// K13 in place order: a in 11, b and c above it, the anchor d in 13, its proof e, the trigger f.
+pub fn k13_points() -> [(PointId, PointInfo); 6] {
+    let [a, b, c, d] = [id(11, 0, 'a'), id(12, 0, 'b'), id(12, 1, 'c'), id(13, 0, 'd')];
+    let [e, f] = [id(14, 0, 'e'), id(15, 0, 'f')];
+    [
+        (a, valid(&[], &[])),
+        (b, valid(&[a], &[])),
+        (c, valid(&[a], &[])),
+        (d, anchor(id(10, 0, 'z'), &[b, c])),
+        (e, proof(e, &[d])),
+        (f, trigger(&[e])),
+    ]
+}
+
 fn k13(after_gap: bool) -> (Committer, PointId) {
     let mut committer = started(8, &Start { after_gap, ..used() }, 15);
-    let [a, b, c, d] = [id(11, 0, 'a'), id(12, 0, 'b'), id(12, 1, 'c'), id(13, 0, 'd')];
-    put(&mut committer, a, valid(&[], &[]));
-    put(&mut committer, b, valid(&[a], &[]));
-    put(&mut committer, c, valid(&[a], &[]));
-    put(&mut committer, d, anchor(id(10, 0, 'z'), &[b, c]));
-    let trigger = yields(&mut committer, d);
-    (committer, trigger)
+    let points = k13_points();
+    points.iter().for_each(|(id, info)| put(&mut committer, *id, info.clone()));
+    committer.certify(&points[3].0).unwrap();
+    (committer, points[5].0)
 }
 
 /// The letters of each record's points, in their order.
 fn letters(bytes: &[u8], count: u32) -> Vec<String> {
-    let text = |points: &[PointId]| points.iter().map(|id| char::from(id.digest[0])).collect();
-    anchors(bytes, count).iter().map(|anchor| text(&anchor.points)).collect()
+    anchors(bytes, count).iter().map(letters_of).collect()
+}
+
+/// The letters of a record's points, in their order.
+pub fn letters_of(anchor: &Anchor) -> String {
+    anchor.points.iter().map(|id| char::from(id.digest[0])).collect()
 }
 
 /// The commit hands out records with these letters, in a buffer of just as many bytes.
 fn hands_out(committer: &Committer, trigger: &PointId, lists: &[u8], expected: &[&str]) -> Committer {
     let mut copy = committer.clone();
-    let mut bytes = buffer(expected.iter().map(|points| 83 + 37 * points.len()).sum());
+    let mut bytes = buffer(expected.iter().map(|points| RECORD_BYTES + 37 * points.len()).sum());
     assert_eq!(copy.commit(trigger, lists, &mut bytes), Ok(expected.len() as u32), "{lists:?}");
     assert_eq!(letters(&bytes, expected.len() as u32), expected);
     copy
@@ -47,7 +61,7 @@ fn hands_out(committer: &Committer, trigger: &PointId, lists: &[u8], expected: &
 
 /// Refused before an anchor is finished, with nothing changed and no byte written, in a buffer of any length.
 fn refused_at_first(committer: &Committer, trigger: &PointId, lists: &[u8], number: u32) {
-    for length in [0, 82, 83, 5000] {
+    for length in [0, 98, 99, 5000] {
         let mut bytes = buffer(length);
         refuses(&mut committer.clone(), number, |c| c.commit(trigger, lists, &mut bytes));
         assert_eq!(bytes, buffer(length), "{lists:?}");
@@ -72,9 +86,9 @@ fn k13_in_both_orders() {
     // marks and state don't depend on the order
     assert_unchanged(&one, &other);
     assert_unchanged(&one, &more);
-    let mut bytes = buffer(230);
+    let mut bytes = buffer(246);
     refuses(&mut committer.clone(), 21, |c| c.commit(&trigger, &[0, 1, 0, 0], &mut bytes));
-    assert_eq!(bytes, buffer(230));
+    assert_eq!(bytes, buffer(246));
 }
 
 #[test]
@@ -182,7 +196,7 @@ fn wrong_lists_of_the_second_anchor() {
     let (committer, trigger) = (two_anchors(false), trigger_of_two());
     let mut first: Option<Committer> = None;
     for lists in [&[0, 0][..], &[0, 0, 0], &[0, 0, 0, 0], &[0, 0, 1, 0, 0], &[0, 0, 0, 1, 0], &[0, 0, 0, 0, 255]] {
-        for length in [157, 158, 1000] {
+        for length in [173, 174, 1000] {
             let mut copy = committer.clone();
             let mut bytes = buffer(length);
             assert_eq!(
@@ -191,7 +205,7 @@ fn wrong_lists_of_the_second_anchor() {
                 "{lists:?}"
             );
             assert_eq!(letters(&bytes, 1), ["ab"]);
-            assert!(bytes[157..].iter().all(|byte| *byte == 0xa5), "bytes beyond the records were touched");
+            assert!(bytes[173..].iter().all(|byte| *byte == 0xa5), "bytes beyond the records were touched");
             assert_unchanged(first.get_or_insert(copy.clone()), &copy);
         }
     }
@@ -244,7 +258,7 @@ fn the_widest_round() {
     row.sort_by_key(|id| id.digest);
     let list: Vec<u8> = (0..128u32).map(|k| (k * 77 + 5) as u8 % 128).collect();
     let right = [&[0, 3, 2, 1, 0], &list[..]].concat();
-    let mut bytes = buffer(83 + 133 * 37);
+    let mut bytes = buffer(RECORD_BYTES + 133 * 37);
     assert_eq!(committer.clone().commit(&trigger, &right, &mut bytes), Ok(1));
     let expected: Vec<PointId> =
         list.iter().rev().map(|place| row[usize::from(*place)]).chain(above).chain([d]).collect();

@@ -10,6 +10,7 @@ mod lists;
 mod model;
 mod noise;
 mod outlooks;
+mod payloads;
 mod random_runs;
 mod records;
 mod refusals;

@@ -181,6 +181,8 @@ impl Held {
             proof: info.is_some_and(|info| info.proof),
             trigger: info.is_some_and(|info| info.trigger),
             cause: info.is_some_and(|info| info.cause),
+            payload_len: info.map_or(0, |info| info.payload_len),
+            payload_bytes: info.map_or(0, |info| info.payload_bytes),
             cert: flags | height as u16,
         }
     }
@@ -538,7 +540,15 @@ impl Store {
         if first {
             self.gap = None;
         }
-        Ok(Anchor { anchor: e.anchor, proof: e.proof, executable, previous, points })
+        let (payload_len, payload_bytes) = self.sums(&points);
+        Ok(Anchor { anchor: e.anchor, proof: e.proof, executable, previous, points, payload_len, payload_bytes })
+    }
+
+    /// Of both payload numbers over these points.
+    fn sums(&self, points: &[PointId]) -> (u64, u64) {
+        let infos = || points.iter().filter_map(|id| self.points[&(id.round, id.digest)].info.as_ref());
+        let len = infos().map(|info| u64::from(info.payload_len)).sum();
+        (len, infos().map(|info| u64::from(info.payload_bytes)).sum())
     }
 }
 
@@ -759,6 +769,8 @@ fn info_of(words: &[u64], point: &Point, status: Status) -> PointInfo {
         evidence: words[0] as u32,
         includes: links(0),
         witness: links(32),
+        payload_len: (words[7] / 4_294_967_296) as u32,
+        payload_bytes: (words[7] % 4_294_967_296) as u32,
     }
 }
 

@@ -4,7 +4,7 @@ use committer::sys::Memory;
 use committer::{Answer, Call, Committer, PLACES_MAX, PointId, PointInfo, STATE_BYTES, Start, State, Tables};
 
 use crate::common::{
-    Noise, add, assert_outlook, assert_unchanged, beginning, buffer, fill_memory, point, started, valid,
+    Noise, add, assert_outlook, assert_unchanged, beginning, buffer, fill_memory, paid, point, started, valid,
 };
 use crate::outlooks::{trigger_of_two, two_anchors};
 use crate::removes::{board, two_proofs_committed};
@@ -15,6 +15,7 @@ fn calls(noise: &mut Noise) -> Vec<Call> {
     digest.fill_with(|| noise.word() as u8);
     let id = PointId { round: noise.below(40), author: noise.below(40), digest };
     let info = PointInfo { status: noise.below(7), evidence: noise.word() as u32, ..valid(&[id], &[id]) };
+    let info = paid(info, (noise.word() as u32, noise.word() as u32));
     let round = noise.word() as u32;
     vec![
         Call::Round { round, peers: noise.word() as u32 },

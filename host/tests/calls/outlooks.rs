@@ -3,13 +3,14 @@
 
 use committer::{Answer, Call, Committer, Look, OUTLOOK_BYTES_MAX, PointId, PointInfo, Refusal, Refused, Start, looks};
 
-use crate::common::{assert_unchanged, beginning, buffer, id, point, started, valid};
+use crate::common::{assert_unchanged, beginning, buffer, id, paid, point, started, valid};
 
 const NO_ROOM: Refused = Refused { refusal: Refusal::NoRoom, finished: 0 };
 
+/// Named and resolved, with the payload numbers 1 and its round.
 fn put(committer: &mut Committer, id: PointId, below: &[PointId], change: impl Fn(PointInfo) -> PointInfo) {
     committer.name(&id).expect("a new point");
-    committer.resolve(&id, &change(valid(below, &[]))).expect("a named point");
+    committer.resolve(&id, &change(paid(valid(below, &[]), (1, id.round)))).expect("a named point");
 }
 
 /// List A without its commit: anchor 11, trigger 13.
@@ -79,7 +80,7 @@ fn list_a_and_its_bytes() {
     let Answer::Looked(told) = committer.call(&Call::Outlook(trigger)) else { panic!("an outlook") };
     assert_eq!(told[0].to_string(), format!("outlook {} 1 linked 1", a.text(" ")));
     // nothing is left after the commit
-    assert_eq!(committer.commit(&trigger, &[0], &mut buffer(120)), Ok(1));
+    assert_eq!(committer.commit(&trigger, &[0], &mut buffer(136)), Ok(1));
     every_length(&committer, &trigger, &[]);
 }
 
@@ -95,8 +96,8 @@ fn two_anchors_and_the_gap_question() {
             assert_eq!(committer.commit(&trigger, &[], &mut buffer(500)), Err(asked));
             committer.gap_question().unwrap();
         }
-        // the first record has 157 bytes: the second anchor is left, with 12 committed
-        assert_eq!(committer.commit(&trigger, &[0; 5], &mut buffer(157)), Err(Refused { finished: 1, ..NO_ROOM }));
+        // the first record has 173 bytes: the second anchor is left, with 12 committed
+        assert_eq!(committer.commit(&trigger, &[0; 5], &mut buffer(173)), Err(Refused { finished: 1, ..NO_ROOM }));
         every_length(&committer, &trigger, &[look(d, 2, &[1, 1, 1])]);
     }
 }

@@ -5,13 +5,15 @@ use std::collections::BTreeMap;
 
 use committer::{Anchor, Answer, Call, Committer, Link, PLACES_MAX, PointId, PointInfo, Start};
 
-use crate::common::{Noise, assert_outlook, assert_unchanged, version};
+use crate::common::{Noise, assert_outlook, assert_unchanged, paid, version};
 use crate::model::Model;
 
 struct Run {
     noise: Noise,
     /// of place lists alone
     lists: Noise,
+    /// of payload numbers alone
+    payloads: Noise,
     committer: Committer,
     model: Model,
     /// how many calls of a name were answered with a number, 0 if not refused
@@ -20,6 +22,8 @@ struct Run {
     anchors: [u32; 2],
     /// how many records have three points or more of a round, not by falling digest
     mixed: u32,
+    /// how many sums of records are beyond 32 bits, and how many are 0
+    sums: [u32; 2],
     /// how many commits were refused with 24 after an anchor
     stopped: u32,
     /// how many events of a kind, and stats of peers, removes reported
@@ -36,11 +40,13 @@ impl Run {
         Run {
             noise: Noise::new(seed),
             lists: Noise::new(seed + 2_000_000),
+            payloads: Noise::new(seed + 3_000_000),
             committer: Committer::new(places),
             model: Model::new(places),
             answers: BTreeMap::new(),
             anchors: [0; 2],
             mixed: 0,
+            sums: [0; 2],
             stopped: 0,
             events: [0; 6],
             peers: 0,
@@ -57,12 +63,12 @@ impl Run {
         match &answer {
             Answer::Refused(why, _) if why.finished == 0 => assert_unchanged(&self.committer, &before),
             Answer::Refused(why, finished) => {
-                self.mixed += mixed(finished);
+                self.count(finished);
                 self.stopped += u32::from(why.number() == 24);
             }
             Answer::Handed(anchors) => {
                 self.anchors[0] += anchors.len() as u32;
-                self.mixed += mixed(anchors);
+                self.count(anchors);
             }
             Answer::Looked(looks) => self.anchors[1] += looks.len() as u32,
             Answer::Removed(told) => {
@@ -75,6 +81,15 @@ impl Run {
             assert_outlook(&before, trigger);
         }
         *self.answers.entry((name(call), number(&answer))).or_insert(0) += 1;
+    }
+
+    /// What the records of a commit are like.
+    fn count(&mut self, anchors: &[Anchor]) {
+        self.mixed += mixed(anchors);
+        for sum in anchors.iter().flat_map(|anchor| [anchor.payload_len, anchor.payload_bytes]) {
+            self.sums[0] += u32::from(sum > u32::MAX.into());
+            self.sums[1] += u32::from(sum == 0);
+        }
     }
 
     fn compare(&self) {
@@ -194,6 +209,17 @@ impl Run {
         list
     }
 
+    /// The resolution with payload numbers that are 0, small, the largest, or any.
+    fn any_paid(&mut self, info: PointInfo) -> PointInfo {
+        let mut number = || match self.payloads.below(4) {
+            0 => 0,
+            1 => self.payloads.below(100),
+            2 => u32::MAX,
+            _ => self.payloads.word() as u32,
+        };
+        paid(info, (number(), number()))
+    }
+
     /// A round that mostly isn't above the last anchor.
     fn any_remove(&mut self) -> Call {
         let (bottom, top) = self.rounds();
@@ -235,7 +261,9 @@ impl Run {
                 evidence,
                 includes: if linked { self.most(author, &links) } else { Vec::new() },
                 witness: if linked && self.noise.one_in(4) { self.any_links(round, 2) } else { Vec::new() },
+                ..PointInfo::default()
             };
+            let info = self.any_paid(info);
             if !self.noise.one_in(self.fault_in) {
                 self.make(&Call::Resolve(id, info));
             }
@@ -267,6 +295,7 @@ impl Run {
             includes: if linked { self.most(author, links) } else { Vec::new() },
             ..PointInfo::default()
         };
+        let info = self.any_paid(info);
         self.make(&Call::Resolve(id, info));
     }
 
@@ -301,11 +330,12 @@ impl Run {
             evidence: if self.noise.one_in(2) { self.noise.word() as u32 } else { 0 },
             includes: self.any_links(id.round, 1),
             witness: self.any_links(id.round, 2),
+            ..PointInfo::default()
         };
         if info.status > 3 && !self.noise.one_in(4) {
             info = PointInfo { evidence: 0, includes: Vec::new(), witness: Vec::new(), ..info };
         }
-        Call::Resolve(id, info)
+        Call::Resolve(id, self.any_paid(info))
     }
 
     /// Links to points that are named, mostly one for each author, with a fault now and then.
@@ -428,7 +458,7 @@ fn small_boards() {
 fn boards_that_commit() {
     let mut answers = Answers::new();
     let mut anchors = [0; 2];
-    let (mut mixed, mut stopped) = (0, 0);
+    let (mut mixed, mut stopped, mut sums) = (0, 0, [0; 2]);
     for seed in 0..250 {
         let mut run = Run::new(seed, 130, 1 + seed as u32 % 3);
         let noise = &mut run.noise;
@@ -455,11 +485,13 @@ fn boards_that_commit() {
         anchors = [anchors[0] + run.anchors[0], anchors[1] + run.anchors[1]];
         mixed += run.mixed;
         stopped += run.stopped;
+        sums = [sums[0] + run.sums[0], sums[1] + run.sums[1]];
     }
     assert_met(&answers, 10, &[("commit", &[0, 13, 14, 16, 18, 20, 24]), ("outlook", &[0, 13, 14, 15, 16, 17, 18])]);
     assert_met(&answers, 10, &[("remove", &[0, 23])]);
     assert!(!answers.contains_key(&("outlook", 20)) && !answers.contains_key(&("outlook", 24)));
     assert!(mixed >= 20 && stopped >= 10, "records of three in a round, 24 after an anchor: {mixed}, {stopped}");
+    assert!(sums[0] >= 50 && sums[1] >= 5, "sums beyond 32 bits, sums of 0: {sums:?}");
     assert!(anchors[0] >= 100 && anchors[1] >= 500, "handed out and told: {anchors:?}");
 }
 

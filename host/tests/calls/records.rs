@@ -3,7 +3,7 @@
 use committer::record::{self, Broken, calls, decode, encode};
 use committer::{Anchor, Answer, Call, Committer, Link, Look, PointId, PointInfo, Refusal, Start};
 
-use crate::common::{beginning, point, started, valid};
+use crate::common::{beginning, paid, point, started, valid};
 
 fn one_of_each() -> Vec<Call> {
     let id = PointId { round: 0x0102_0304, author: 31, digest: std::array::from_fn(|i| i as u8) };
@@ -17,6 +17,8 @@ fn one_of_each() -> Vec<Call> {
         evidence: 0xdead_beef,
         includes: (0..32).map(link).collect(),
         witness: vec![link(3), link(30)],
+        payload_len: 0x0a0b_0c0d,
+        payload_bytes: u32::MAX,
     };
     vec![
         Call::Start(Start {
@@ -63,7 +65,7 @@ fn bytes_of_records() {
     assert_eq!(encode(&Call::Drop(0x0102_0304)), [0, 0, 0, 6, 1, 8, 1, 2, 3, 4]);
     assert_eq!(encode(&Call::Remove { round: 1, since: Some(2) }), [0, 0, 0, 11, 1, 7, 0, 0, 0, 1, 1, 0, 0, 0, 2]);
     let lengths: Vec<usize> = one_of_each().iter().map(|call| encode(call).len() - 6).collect();
-    assert_eq!(lengths, [22, 22, 8, 37, 82 + 34 * 33, 82, 37, 41, 37, 9, 9, 4, 0, 0, 37]);
+    assert_eq!(lengths, [22, 22, 8, 37, 90 + 34 * 33, 90, 37, 41, 37, 9, 9, 4, 0, 0, 37]);
     let start = encode(&one_of_each()[0]);
     assert_eq!(start[6..], [0, 0, 0, 1, 0, 0, 0, 2, 0, 0, 0, 3, 0, 0, 0, 4, 0, 0, 0, 5, 1, 6]);
     assert_eq!(encode(&one_of_each()[1])[27], 255);
@@ -71,6 +73,7 @@ fn bytes_of_records() {
     assert_eq!(resolve[6 + 37..6 + 39], [1, 5]);
     assert_eq!(resolve[6 + 76..6 + 82], [0xde, 0xad, 0xbe, 0xef, 32, 2]);
     assert_eq!(resolve[6 + 82..6 + 84], [0, 1]);
+    assert_eq!(resolve[6 + 82 + 34 * 33..], [10, 11, 12, 13, 255, 255, 255, 255]);
 }
 
 #[test]
@@ -104,6 +107,37 @@ fn broken_records() {
     let mut two = [encode(&Call::Gap), encode(&Call::Reset)].concat();
     two[10] = 9;
     assert_eq!(calls(&two).collect::<Vec<_>>(), [Ok(Call::Gap), Err(Broken { at: 6 })]);
+}
+
+/// A record of the length that resolutions had before their payload numbers.
+#[test]
+fn a_resolution_without_payload() {
+    for call in one_of_each().into_iter().filter(|call| matches!(call, Call::Resolve(..))) {
+        let mut bytes = encode(&call);
+        bytes.truncate(bytes.len() - 8);
+        let rest = bytes.len() as u32 - 4;
+        bytes[..4].copy_from_slice(&rest.to_be_bytes());
+        assert_eq!(decode(&bytes), Err(Broken { at: 0 }));
+        let recording = [&encode(&Call::Gap)[..], &bytes].concat();
+        assert_eq!(calls(&recording).collect::<Vec<_>>(), [Ok(Call::Gap), Err(Broken { at: 6 })]);
+    }
+}
+
+/// A record has room for 121 links, with the payload numbers behind them.
+#[test]
+fn the_most_links() {
+    let bare = Call::Resolve(point(11, 0), paid(valid(&[], &[]), (7, 8)));
+    let resolve = |includes: u8, witness: u8| {
+        let fields = encode(&bare)[6..].to_vec();
+        let (head, payload) = fields.split_at(82);
+        let links = vec![3; 33 * (usize::from(includes) + usize::from(witness))];
+        let rest = [&[1, 4], &head[..80], &[includes, witness], &links, payload].concat();
+        [&(rest.len() as u32).to_be_bytes()[..], &rest].concat()
+    };
+    let Ok((Call::Resolve(_, info), 4089)) = decode(&resolve(61, 60)) else { panic!("a whole record") };
+    assert_eq!((info.includes.len(), info.witness.len()), (61, 60));
+    assert_eq!((info.payload_len, info.payload_bytes), (7, 8));
+    assert_eq!(decode(&resolve(61, 61)), Err(Broken { at: 0 }));
 }
 
 /// A record has room for 4,057 bytes of lists.

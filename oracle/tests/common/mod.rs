@@ -42,6 +42,8 @@ pub fn status(status: u8) -> Info {
         evidence: 0,
         includes: Vec::new(),
         witness: Vec::new(),
+        payload_len: 0,
+        payload_bytes: 0,
     }
 }
 
@@ -61,6 +63,11 @@ pub fn includes(mut info: Info, links: &[(u8, char)]) -> Info {
 
 pub fn witness(mut info: Info, links: &[(u8, char)]) -> Info {
     info.witness = links.iter().map(|&(peer, letter)| Link { peer, digest: digest(letter) }).collect();
+    info
+}
+
+pub fn payload(mut info: Info, len: u32, bytes: u32) -> Info {
+    (info.payload_len, info.payload_bytes) = (len, bytes);
     info
 }
 

@@ -30,6 +30,9 @@ const CALLS_LEAST: u64 = 100_000;
 /// Anchor records that both handed out, and commits refused with 13, 14, 15, 16, 18, 20 that the Rust was given.
 const ANCHORS_LEAST: u64 = 5_000;
 const COMMITS_LEAST: u64 = 100;
+/// Of the records those with sums that aren't 0, and with one of more than 32 bits.
+const SUMS_LEAST: u64 = 5_000;
+const WIDE_SUMS_LEAST: u64 = 1_000;
 /// Of the records those with three linked points or more in a round.
 const THREE_LEAST: u64 = 5_000;
 /// Commits with a damaged place list.
@@ -167,6 +170,12 @@ fn enough(counts: &Counts) -> ExitCode {
     }
     if counts.anchors < ANCHORS_LEAST {
         println!("{} anchor records were compared only, not {ANCHORS_LEAST}", counts.anchors);
+        good = false;
+    }
+    let (sums, wide) = (counts.sums, counts.wide_sums);
+    if sums < SUMS_LEAST || wide < WIDE_SUMS_LEAST {
+        println!("{sums} records with sums that aren't 0 were compared, not {SUMS_LEAST}, or");
+        println!("{wide} with one of more than 32 bits, not {WIDE_SUMS_LEAST}");
         good = false;
     }
     let (three, lists) = (counts.three_linked, counts.damaged_lists);

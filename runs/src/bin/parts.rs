@@ -1,8 +1,8 @@
-//! Writes the recorded runs of `crates/recorded` anew: parts 0 to 102 as they stand in FOLDER/stdin, their commits with the Rust's place
-//! lists, the parts of remove and of place lists, the sample that `record` wrote into SAMPLE, and the part that is cut short. Texts are what
-//! the library answers, those of the sample the Rust's.
+//! Writes the recorded runs of `crates/recorded` anew: parts 0 to 102 as they stand in CRATES/recorded/stdin, their commits with the Rust's place
+//! lists, the parts of remove, of place lists and of payloads, the sample that `record` wrote into SAMPLE, and the part that is cut short. Texts are what
+//! the library answers, those of the sample the Rust's. What `crates/replay` plays, K13, is part 67 without its last commit.
 //!
-//!     cargo run --release --offline --bin parts -- FOLDER SAMPLE
+//!     cargo run --release --offline --bin parts -- CRATES SAMPLE
 
 use committer::{Anchor, Answer, Look};
 use committer::{Call, Committer, Link, PointId, PointInfo, Start, record};
@@ -181,6 +181,54 @@ fn listed() -> Vec<Vec<Call>> {
     lists
 }
 
+// ---- payloads (02, N2)
+
+/// Of the points of K13, in the order in which they are resolved.
+const K13: [(u32, u32); 6] = [(1, 10), (2, 200), (3, 3_000), (4, 40_000), (5, 5), (6, 6)];
+fn paying(info: PointInfo, (payload_len, payload_bytes): (u32, u32)) -> PointInfo {
+    PointInfo { payload_len, payload_bytes, ..info }
+}
+/// The calls, their resolutions with these payloads.
+fn paid(mut calls: Vec<Call>, payloads: [(u32, u32); 6]) -> Vec<Call> {
+    let infos = calls.iter_mut().filter_map(|call| match call {
+        Call::Resolve(_, info) => Some(info),
+        _ => None,
+    });
+    infos.zip(payloads).for_each(|(info, payload)| *info = paying(info.clone(), payload));
+    calls
+}
+fn summed() -> Vec<Vec<Call>> {
+    let commit = |round, bytes: &[u8]| Call::Commit(id(round, 0, 'f'), bytes.to_vec());
+    let k13 = |payloads| paid(four(from_10(2, 3)), payloads);
+    let a = id(11, 0, 'a');
+    // 135, 136: K13 in either order; 137: the greatest numbers
+    let mut lists = vec![
+        with(k13(K13), [commit(15, &[0, 0, 1, 0])]),
+        with(k13(K13), [commit(15, &[0, 1, 0, 0])]),
+        with(k13([(u32::MAX, u32::MAX); 6]), [commit(15, &[0, 0, 1, 0])]),
+    ];
+    // 138: a second resolution with other numbers is refused with 10, and the first ones stay
+    let again = Call::Resolve(a, paying(valid(), (100, 7)));
+    lists.push(with(k13(K13), [again, commit(15, &[0, 0, 1, 0])]));
+    // 139: 12.0.b is linked from the second anchor's history and summed in the first one's
+    lists.push(with(paid(two(), [(1, 100); 6]), [commit(16, &[0; 5])]));
+    // 140: an ill-formed and a not found point, in no history
+    let mut calls = k13(K13);
+    put(&mut calls, id(11, 1, 'x'), paying(of(4), (7, 7)));
+    put(&mut calls, id(11, 1, 'y'), paying(of(5), (7, 7)));
+    lists.push(with(calls, [Call::Outlook(id(15, 0, 'f')), commit(15, &[0, 0, 1, 0])]));
+    // 141: certified before it is resolved, and resolved last; after a drop other points in the places that it frees
+    let mut calls = k13(K13);
+    let first = calls.iter().position(|call| matches!(call, Call::Resolve(id, _) if *id == a)).unwrap();
+    let late = calls.remove(first);
+    calls.extend([Call::Certify(a), late, commit(15, &[0, 0, 1, 0]), Call::Drop(13), Call::Gap]);
+    calls.extend((16..=18).map(|round| Call::Round { round, peers: 3 }));
+    let info = PointInfo { top_proof: id(14, 0, 'e'), ..includes(&[(0, 'f')]) };
+    chain(&mut calls, 16, ['g', 'h', 'i'], paying(info, (8, 80)));
+    lists.push(with(calls, [Call::Commit(id(18, 0, 'i'), vec![0; 3])]));
+    lists
+}
+
 fn parts() -> Vec<Vec<u8>> {
     let mut lists: Vec<Vec<Call>> = Vec::new();
     // 103: 23 before the anchor and above it, nothing to drain
@@ -237,7 +285,12 @@ fn parts() -> Vec<Vec<u8>> {
         part.extend(broken);
         parts.push(part);
     }
-    parts.extend(listed().iter().map(|calls| encoded(calls)));
+    parts.extend(listed().iter().chain(&summed()).map(|calls| encoded(calls)));
+    // 142: a resolution without payload
+    let mut broken = record::encode(&Call::Resolve(id(2, 0, 'a'), valid()));
+    broken.truncate(broken.len() - 8);
+    broken[3] -= 8;
+    parts.push([record::encode(&Call::Start(start(0b11))), broken].concat());
     parts
 }
 
@@ -314,7 +367,7 @@ fn last_lines(committer: &Committer) -> Vec<String> {
         .collect()
 }
 
-fn played(recording: &[u8]) -> Vec<String> {
+fn played(recording: &[u8]) -> String {
     let mut committer = Committer::new(20);
     let mut lines = Vec::new();
     for call in record::calls(recording) {
@@ -324,16 +377,16 @@ fn played(recording: &[u8]) -> Vec<String> {
         }
     }
     lines.extend(last_lines(&committer));
-    lines
+    lines.iter().map(|line| format!("{line}\n")).collect()
 }
 
 fn main() -> ExitCode {
     let args: Vec<String> = std::env::args().collect();
-    let [_, folder, sample] = &args[..] else {
-        eprintln!("usage: parts FOLDER SAMPLE");
+    let [_, crates, sample] = &args[..] else {
+        eprintln!("usage: parts CRATES SAMPLE");
         return ExitCode::from(2);
     };
-    let mut input = &fs::read(format!("{folder}/stdin")).unwrap()[..];
+    let mut input = &fs::read(format!("{crates}/recorded/stdin")).unwrap()[..];
     let mut all: Vec<Vec<u8>> = Vec::new();
     for _ in 0..=102 {
         let (length, rest) = input.split_first_chunk::<4>().unwrap();
@@ -363,13 +416,21 @@ fn main() -> ExitCode {
         if n == sample_at {
             text += &sample_text;
         } else {
-            played(part).iter().for_each(|line| text += &format!("{line}\n"));
+            text += &played(part);
         }
     }
     bytes.extend(cut);
     text += &format!("cut part {}\n", all.len());
     println!("{} parts, the sample is {sample_at}, {} bytes", all.len() + 1, bytes.len());
-    fs::write(format!("{folder}/stdin"), bytes).unwrap();
-    fs::write(format!("{folder}/stdout"), text).unwrap();
+    let mut k13: Vec<Call> = record::calls(&all[67]).map(Result::unwrap).collect();
+    k13.pop();
+    let k13 = encoded(&k13);
+    write(&format!("{crates}/replay"), &k13, &played(&k13));
+    write(&format!("{crates}/recorded"), &bytes, &text);
     ExitCode::SUCCESS
+}
+
+fn write(folder: &str, input: &[u8], output: &str) {
+    fs::write(format!("{folder}/stdin"), input).unwrap();
+    fs::write(format!("{folder}/stdout"), output).unwrap();
 }

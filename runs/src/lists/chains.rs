@@ -8,7 +8,7 @@ use std::collections::BTreeMap;
 use committer::{Call, Link, PointId, PointInfo, Start};
 
 use crate::compare::List;
-use crate::lists::{commit, digest};
+use crate::lists::{Payloads, commit, digest};
 use crate::random::Random;
 
 /// What a list is like. Percentages, but for `peers`.
@@ -56,6 +56,7 @@ struct Held {
 
 struct Chains {
     random: Random,
+    payloads: Payloads,
     taste: Taste,
     calls: Vec<Call>,
     rounds: BTreeMap<u32, Vec<Held>>,
@@ -155,8 +156,10 @@ fn list(mut chains: Chains, rounds: u32) -> List {
 
 impl Chains {
     fn new(random: Random, taste: Taste) -> Chains {
+        let payloads = Payloads::of(&random);
         Chains {
             random,
+            payloads,
             taste,
             calls: Vec::new(),
             rounds: BTreeMap::new(),
@@ -332,7 +335,8 @@ impl Chains {
         let held = self.rounds.get_mut(&id.round).expect("retained").iter_mut().find(|point| point.id == id);
         let held = held.expect("named");
         (held.resolved, held.shunned) = (true, shunned);
-        self.calls.push(Call::Resolve(id, PointInfo { includes, witness, evidence, ..info }));
+        let info = self.payloads.put(PointInfo { includes, witness, evidence, ..info });
+        self.calls.push(Call::Resolve(id, info));
     }
 
     fn evidence(&mut self) -> u32 {

@@ -6,7 +6,7 @@ use std::collections::BTreeMap;
 use committer::{Call, Link, PointId, PointInfo, ROUND_MAX, Start};
 
 use crate::compare::List;
-use crate::lists::commit;
+use crate::lists::{Payloads, commit};
 use crate::random::Random;
 
 /// What the lists are like.
@@ -52,6 +52,7 @@ pub struct Growth {
     calls: Vec<Call>,
     /// what a digest is made of
     digests: Digests,
+    payloads: Payloads,
     /// the peers of the retained rounds; none if not started
     rounds: BTreeMap<u32, u32>,
     genesis: u32,
@@ -67,12 +68,14 @@ const LEADER: u32 = 0;
 
 impl Growth {
     pub fn new(mut random: Random, taste: Taste) -> Growth {
+        let payloads = Payloads::of(&random);
         let digests = Digests { style: random.below(4), count: 0 };
         Growth {
             random,
             taste,
             calls: Vec::new(),
             digests,
+            payloads,
             rounds: BTreeMap::new(),
             genesis: 0,
             points: Vec::new(),
@@ -310,7 +313,7 @@ impl Growth {
         let odd = self.random.chance(3);
         let proof = (leads && stage == 2) != odd;
         let linked = status < 4;
-        PointInfo {
+        let info = PointInfo {
             status,
             proof,
             trigger: leads && stage == 0 || self.random.chance(3),
@@ -320,7 +323,9 @@ impl Growth {
             evidence: if linked { self.random.word() as u32 & self.random.word() as u32 } else { 0 },
             includes: if linked { self.links(id, 1, 75) } else { Vec::new() },
             witness: if linked { self.links(id, 2, 35) } else { Vec::new() },
-        }
+            ..PointInfo::default()
+        };
+        self.payloads.put(info)
     }
 
     /// At most one link for each peer, to one of its versions; the author's own with more certainty. Into rounds that aren't retained

@@ -78,14 +78,15 @@ fn many_anchors(step: u32) -> List {
         let includes = if round > 11 { vec![link(0, number(round - 1, 0, 0))] } else { vec![] };
         calls.push(Call::Round { round, peers: 1 });
         calls.push(Call::Name(id));
-        calls.push(Call::Resolve(id, PointInfo { proof, trigger: round == 521, top_proof, ..valid(includes, vec![]) }));
+        let info = PointInfo { payload_len: round, payload_bytes: u32::MAX - round, ..valid(includes, vec![]) };
+        calls.push(Call::Resolve(id, PointInfo { proof, trigger: round == 521, top_proof, ..info }));
         calls.push(Call::Certify(id));
     }
     calls.extend([commit(at(521, 0, 0)), commit(at(521, 0, 0)), Call::Drop(300), commit(at(521, 0, 0))]);
     list(511, start(1, 1), calls)
 }
 
-/// An anchor 255 rounds above genesis + 1, and 4,096 points in all: its history is as large as can be.
+/// An anchor 255 rounds above genesis + 1, and 4,096 points in all: its history is as large as can be, and so are its sums.
 fn large_history() -> List {
     let authors = |round| match round {
         11 => 14,
@@ -110,12 +111,17 @@ fn large_history() -> List {
             calls.push(Call::Name(id));
             calls.push(Call::Resolve(
                 id,
-                PointInfo { proof, trigger: round == 268, top_proof, ..valid(includes, vec![]) },
+                PointInfo { proof, trigger: round == 268, top_proof, ..most(valid(includes, vec![])) },
             ));
         }
     }
     calls.extend([commit(at(268, 0, 0)), Call::Certify(at(266, 0, 0)), commit(at(268, 0, 0))]);
     list(PLACES_MAX, start(255, ALL), calls)
+}
+
+/// With the greatest payload.
+fn most(info: PointInfo) -> PointInfo {
+    PointInfo { payload_len: u32::MAX, payload_bytes: u32::MAX, ..info }
 }
 
 const ALL: u32 = u32::MAX;

@@ -29,7 +29,8 @@ fn round(round: u32) -> Call {
 }
 
 fn resolve(round: u32, author: u32, number: u32, includes: Vec<Link>, witness: Vec<Link>) -> Call {
-    Call::Resolve(point(round, author, number), valid(includes, witness))
+    let info = PointInfo { payload_len: number, payload_bytes: u32::MAX - number, ..valid(includes, witness) };
+    Call::Resolve(point(round, author, number), info)
 }
 
 /// Four points are named: every order of resolving and certifying them, and of dropping below them. Lists of four letters, H 1 to 3.
@@ -97,7 +98,7 @@ fn removing() -> impl Iterator<Item = List> {
         (point(2, 0, 3), signed),
         (point(2, 1, 4), valid(vec![], vec![])),
         (point(3, 1, 5), valid(vec![], vec![])),
-        (point(5, 0, 6), PointInfo { top_proof: point(1, 0, 9), ..valid(vec![], vec![]) }),
+        (point(5, 0, 6), PointInfo { top_proof: point(1, 0, 9), payload_len: 5, ..valid(vec![], vec![]) }),
         (point(6, 0, 7), proof),
         (point(7, 0, 8), trigger),
     ];

@@ -23,9 +23,9 @@ impl PointKey {
     }
 }
 
-/// A point's info with an empty signature and payload.
-pub fn point_info(id: PointId, data: PointData) -> PointInfo {
-    PointInfo::new(id, Signature::ZERO, 0, 0, data)
+/// A point's info with an empty signature.
+pub fn point_info(id: PointId, payload_len: u32, payload_bytes: u32, data: PointData) -> PointInfo {
+    PointInfo::new(id, Signature::ZERO, payload_len, payload_bytes, data)
 }
 
 pub fn empty_signature() -> Signature {
