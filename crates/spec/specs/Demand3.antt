@@ -16,26 +16,26 @@ use Rattle.laws.specs.Lists.{NoDup, nodup-append, mem-map, joined, weigh}
 use Rattle.laws.specs.Sort.{sort-length}
 use Rattle.laws.specs.Bytes.{be}
 use Rattle.spec.specs.Ids.{Id, sameId, rises}
-use Rattle.spec.specs.Store.{Resolution, Progress, Memory, Store, idAt, roundAt, resolved, retained, withNumbers}
+use Rattle.spec.specs.Store.{Resolution, Memory, Store, idAt, roundAt, resolved, retained}
 use Rattle.spec.specs.Paths.{Path, here, step, LinkedTo}
 use Rattle.spec.specs.Rules.{isPeer, placesOk}
 use Rattle.spec.specs.Chain.{Refusal, Out, bad, good, EnqueuedAnchor, orZero, anchorsOf}
 use Rattle.spec.specs.History.{limit, lowest, inHistory, history, afterLists, summed, tailBytes, recordBytes, testAnchor, dequeued, Finished, commitAll}
-use Rattle.spec.specs.Calls.{Outcome, finish, StartArgs, startOk, memoryKept, doStart, begun, doResolve, commitEnd, doCommit, drained, newBottom, Call, start, resetAll, round, name, resolve, certify, gapQuestion, commit, outlook, remove, drop as dropTo, perform, call}
+use Rattle.spec.specs.Calls.{Outcome, finish, StartArgs, startOk, memoryKept, begun, doResolve, commitEnd, doCommit, Call, start, resetAll, round, name, resolve, certify, gapQuestion, commit, outlook, remove, drop as dropTo, perform, call}
 use Rattle.spec.specs.Graph.{snoc, path-down}
 use Rattle.spec.specs.Links.{down, linked, resolved-named}
 use Rattle.spec.specs.WellFormed.{Wf}
 use Rattle.spec.specs.Order.{history-elim, history-named}
 use Rattle.spec.specs.OrderInRound.{order-mem, order-once, order-length, order-sum}
 use Rattle.spec.specs.Walk.{same-id, id-same}
-use Rattle.spec.specs.Accepted.{finish-store, gapQuestion-way, remove-way, drop-way, round-way, name-way, resolve-way, certify-way}
+use Rattle.spec.specs.Accepted.{finish-store, name-way, resolve-way, certify-way}
 use Rattle.spec.specs.Demand.{InList, AllInList, History, readRecords, finished, wrote, histories, Given, accepted, gave, resolutions, Edge, Exact, AllExact, Writes, StartRefused, AsSaid, AllAsSaid, FirstHalf, Demand3, paid, Summed, SumsFollow}
 use Rattle.spec.specs.Demand3Second.{commit-is, second-half}
 use Rattle.spec.specs.Records.{Fits, Event, passed, passedBy, bytesOf, commit-buffer, Readable, read-all, readAs}
-use Rattle.spec.specs.Preservation.{begun-kept, call-perform, start-begun, start-same, new-bottom}
+use Rattle.spec.specs.Preservation.{begun-kept, call-perform, start-begun}
 use Rattle.spec.specs.Invariant.{Inv, hist-paths, history-is}
-use Rattle.spec.specs.Demand3First.{ids, allIds, Right, AllRight, finishesBy, commitBy, finishes, eventsOf, Keeps, call-keeps, outlook-store}
-use Rattle.spec.specs.Demand3Calls.{Frame, frame-mark, commit-keeps-all, anchorId, commit-writes, start-refused, perform-retains, begun-retains}
+use Rattle.spec.specs.Demand3First.{ids, allIds, Right, AllRight, finishesBy, commitBy, finishes, eventsOf, Keeps, call-keeps}
+use Rattle.spec.specs.Demand3Calls.{Frame, frame-mark, changesPoint, steady, anchorId, commit-writes, start-refused, perform-retains, begun-retains}
 use Rattle.spec.specs.Demand3Paths.{givenOf, given, Log, edge-down, path-under, edge-link, ids→places, places→ids, numbers-log, round-log, cert-log, mark-log, drain-log, name-log, res-log, res-first}
 
 -- ---- one history
@@ -332,25 +332,22 @@ resolve-log s G i t w l = go (doResolve s i t) refl
     go (bad r) e = nothing s G l
     go (good x) e = let r = resolve-way s i t x e in subst (λ y. Log y (G ++ (given i t ∷ []))) (r .is) (res-log s i t x w r G l)
 
-start-log : (s : Store) (b : StartArgs) (G : List Given) → Wf s → Log s G → Log (doStart s b .store) G
-start-log s b G w l = subst (λ t. Log t G) (sym (start-same s w b)) l
-
-drained-log : (s : Store) (r : ℕ) (p : Progress) (m : Memory) (G : List Given) → Wf s → Log s G → Log (withNumbers (drained s (newBottom s r)) p m) G
-drained-log s r p m G w l = numbers-log (drained s (newBottom s r)) p m G (drain-log s (newBottom s r) (new-bottom s w r .0) G l)
+steady-log : (s : Store) (c : Call) (G : List Given) → Wf s → InList c → changesPoint c ≡ false → Log s G → Log (perform s c .store) (G ++ [])
+steady-log s c G w h k l = nothing _ G (steady (λ t. Log t G) (numbers-log resolved givenOf _ G) (round-log resolved givenOf _ G) (mark-log G) (drain-log resolved givenOf _ G resolved-named (λ p. refl)) s w c h k l)
 
 pub call-log : (s : Store) (c : Call) (G : List Given) → Wf s → InList c → Log s G → Log (perform s c .store) (G ++ gave c (perform s c .answer))
-unfolding perform gave
-call-log s (start b) G w h l = nothing _ G (start-log s b G w l)
+unfolding perform gave changesPoint
+call-log s (start b) G w h l = steady-log s (start b) G w h refl l
 call-log s resetAll G w h l = absurd h
-call-log s (round r peers) G w h l = nothing _ G (finish-store (λ t. Log t G) s _ l (λ t k. ⊎-elim (λ e. subst (λ x. Log x G) e l) (λ (e, a, b). subst (λ x. Log x G) e (round-log s peers G l)) (round-way s r peers t k)))
+call-log s (round r peers) G w h l = steady-log s (round r peers) G w h refl l
 call-log s (name i) G w h l = nothing _ G (finish-store (λ t. Log t G) s _ l (λ t k. let n = name-way s i t k in subst (λ x. Log x G) (n .is) (name-log s i t w n G l)))
 call-log s (resolve i t) G w h l = resolve-log s G i t w l
 call-log s (certify i) G w h l = nothing _ G (finish-store (λ t. Log t G) s _ l (λ t k. let c = certify-way s i t k in subst (λ x. Log x G) (c .is) (cert-log s (c .place) G l)))
-call-log s gapQuestion G w h l = nothing _ G (gapQuestion-way (λ t. Log t G) s l (λ p a b. numbers-log s p _ G l))
-call-log s (commit i ls b) G w h l = nothing _ G (commit-keeps-all (λ u. Log u G) (λ u x. mark-log G u x) s i ls b l)
-call-log s (outlook i b) G w h l = nothing _ G (subst (λ t. Log t G) (sym (outlook-store s i b)) l)
-call-log s (remove r from b) G w h l = nothing _ G (remove-way (λ t. Log t G) s r from b l (λ m. drained-log s (r - s .conf .historyRounds) _ m G w l))
-call-log s (dropTo r) G w h l = nothing _ G (drop-way (λ t. Log t G) s r (λ p a b. drained-log s r p _ G w l))
+call-log s gapQuestion G w h l = steady-log s gapQuestion G w h refl l
+call-log s (commit i ls b) G w h l = steady-log s (commit i ls b) G w h refl l
+call-log s (outlook i b) G w h l = steady-log s (outlook i b) G w h refl l
+call-log s (remove r from b) G w h l = steady-log s (remove r from b) G w h refl l
+call-log s (dropTo r) G w h l = steady-log s (dropTo r) G w h refl l
 
 -- ---- accepted resolutions are new
 

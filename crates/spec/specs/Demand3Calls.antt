@@ -1,8 +1,8 @@
 -- Demand 3: each call of a list does as said: what a commit writes, that a start is refused, which rounds are retained.
 use Prim.Native.Nat.{ℕ, suc, _+_, _-_, _≤_, max, min}
 use mathlib.Core.Path.{_≡_, refl, sym, _∙_, subst, ap, ap₂}
-use mathlib.Core.Logic.{inl, inr}
-use mathlib.Core.Bool.{Bool, true, false, not, _&&_, _||_}
+use mathlib.Core.Logic.{inl, inr, ⊎-elim}
+use mathlib.Core.Bool.{Bool, true, false, not, _&&_, _||_, true≢false}
 use mathlib.Core.List.{List, [], _∷_, _++_, map}
 use mathlib.Core.Option.{Option, none, some}
 use lib.Dec.{eqb, leb, ltb}
@@ -20,10 +20,10 @@ use Rattle.spec.specs.History.{afterLists, recordBytes, testAnchor, setC
 use Rattle.spec.specs.Inspect.{inspected, memoryAfter, removeBytes}
 use Rattle.spec.specs.Calls.{done, anchors, refused, Outcome, finish, StartArgs, startOk, memoryKept, begun, doStart, addRound, doRound, nameAt, doName, withPathHeights, resolveAt, doResolve, certifyAt, doCertify, doGapQuestion, commitEnd, doCommit, doOutlook, drained, newBottom, removing, doRemove, doDrop, Call, start, resetAll, round, name, resolve, certify, gapQuestion, commit, outlook, remove, drop as dropTo, perform}
 use Rattle.spec.specs.WellFormed.{Wf, countsAsStarted-intro}
-use Rattle.spec.specs.Accepted.{finish-store, gapQuestion-way, name-way, resolve-way, certify-way}
+use Rattle.spec.specs.Accepted.{finish-store, gapQuestion-way, remove-way, drop-way, round-way, name-way, resolve-way, certify-way}
 use Rattle.spec.specs.Demand.{InList, History, readRecords, finished, testAfter, Stops, OneForEach, Writes, StartRefused, isDone, adds, drains, Retains}
 use Rattle.spec.specs.Records.{Event, passed, finishedBy, passedBy, room-left, commit-buffer}
-use Rattle.spec.specs.Preservation.{start-same}
+use Rattle.spec.specs.Preservation.{start-same, new-bottom}
 use Rattle.spec.specs.Demand3First.{finishesBy, commitBy, finishes, outlook-store}
 
 -- ---- what a commit keeps
@@ -56,6 +56,27 @@ commit-keeps-all P k s i ls b h = go (anchorsOf s i)
     go : (o : Out (List EnqueuedAnchor)) → P ((elim o as (λ x. Outcome) [ bad r ↦ record { answer = refused r 0; store = s; buffer = b } | good es ↦ commitEnd (commitAll s ls b 0 0 es) ]) .store)
     go (bad r) = h
     go (good es) = commit-marks P k s ls b 0 0 es h
+
+-- name, resolve, certify
+unfoldable pub changesPoint : Call → Bool
+changesPoint c = elim c [ start b ↦ false | resetAll ↦ false | round r peers ↦ false | name i ↦ true | resolve i t ↦ true | certify i ↦ true | gapQuestion ↦ false | commit i ls b ↦ false | outlook i b ↦ false | remove r from b ↦ false | dropTo r ↦ false ]
+
+-- what added rounds, other numbers, commit marks and drains keep, every other call of a list keeps
+module _ (P : Store → Type 0) (numbers : (s : Store) (p : Progress) (m : Memory) → P s → P (withNumbers s p m)) (rounds : (s : Store) (peers : ℕ) → P s → P (addRound s peers))
+    (mark : (s : Store) (e : EnqueuedAnchor) → P s → P (dequeued s e)) (drain : (s : Store) (b : ℕ) → s .bottom ≤ b → P s → P (drained s b)) where
+  pub steady : (s : Store) → Wf s → (c : Call) → InList c → changesPoint c ≡ false → P s → P (perform s c .store)
+  unfolding perform changesPoint
+  steady s w (start b) h k l = subst P (sym (start-same s w b)) l
+  steady s w resetAll h k l = absurd h
+  steady s w (round r peers) h k l = finish-store P s _ l (λ t j. ⊎-elim (λ e. subst P e l) (λ (e, a, b). subst P e (rounds s peers l)) (round-way s r peers t j))
+  steady s w (name i) h k l = absurd (true≢false k)
+  steady s w (resolve i t) h k l = absurd (true≢false k)
+  steady s w (certify i) h k l = absurd (true≢false k)
+  steady s w gapQuestion h k l = gapQuestion-way P s l (λ p a b. numbers s p _ l)
+  steady s w (commit i ls b) h k l = commit-keeps-all P mark s i ls b l
+  steady s w (outlook i b) h k l = subst P (sym (outlook-store s i b)) l
+  steady s w (remove r from b) h k l = remove-way P s r from b l (λ m. numbers _ _ m (drain s _ (new-bottom s w (r - s .conf .historyRounds) .0) l))
+  steady s w (dropTo r) h k l = drop-way P s r (λ p a b. numbers _ p _ (drain s _ (new-bottom s w r .0) l))
 
 -- ---- where a commit stops
 

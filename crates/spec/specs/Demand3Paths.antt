@@ -3,7 +3,7 @@
 use Prim.Native.Nat.{ℕ, _+_, _≤_}
 use mathlib.Core.Path.{_≡_, refl, sym, _∙_, subst, ap}
 use mathlib.Core.Logic.{_⊎_, inl, inr, _≢_}
-use mathlib.Core.Bool.{true, false}
+use mathlib.Core.Bool.{Bool, true, false}
 use mathlib.Core.List.{List, [], _∷_, _++_, List·Memᴰ, List·Memᴰ·head, List·Memᴰ·append-cases, List·Memᴰ·eq-of-singleton, Memᴰ·append-left, Memᴰ·append-right}
 use lib.Dec.{leb, ltb}
 use borrow.Author.Tests.{eq-eqb}
@@ -30,10 +30,14 @@ use Rattle.spec.specs.Preservation.{name-at, name-off}
 abbrev pub givenOf : Point → Given
 givenOf p = record { who = p .id; links = links p; payloadLen = p .resolution .payloadLen; payloadBytes = p .resolution .payloadBytes }
 
+-- what the points that pass a test hold is in a list, and all that is in it for a retained round is so held
+pub record LogOf {A : Type 0} (is : Point → Bool) (what : Point → A) (round : A → ℕ) (s : Store) (G : List A) : Type 0 where
+  pub all : (p : ℕ) → is (s .pt p) ≡ true → List·Memᴰ (what (s .pt p)) G
+  pub only : (g : A) → List·Memᴰ g G → s .bottom ≤ round g → (p : ℕ) × (is (s .pt p) ≡ true) × (what (s .pt p) ≡ g)
+
 -- the store holds what the resolutions gave, as far as the rounds are retained
-pub record Log (s : Store) (G : List Given) : Type 0 where
-  pub all : (p : ℕ) → resolved (s .pt p) ≡ true → List·Memᴰ (givenOf (s .pt p)) G
-  pub only : (g : Given) → List·Memᴰ g G → s .bottom ≤ g .who .round → (p : ℕ) × (resolved (s .pt p) ≡ true) × (givenOf (s .pt p) ≡ g)
+abbrev pub Log : Store → List Given → Type 0
+Log s G = LogOf resolved givenOf (λ g. g .who .round) s G
 
 -- ---- links of ids and of places
 
@@ -98,13 +102,31 @@ module _ (s : Store) (G : List Given) (w : Wf s) (g : Log s G) where
 
 -- ---- the calls keep the log
 
-pub numbers-log : (s : Store) (p : Progress) (m : Memory) (G : List Given) → Log s G → Log (withNumbers s p m) G
-unfolding withNumbers
-numbers-log s p m G l = record { all = l .all; only = l .only }
+drain-bottom : (s : Store) (b : ℕ) → drained s b .bottom ≡ b
+unfolding drained
+drain-bottom s b = refl
 
-pub round-log : (s : Store) (peers : ℕ) (G : List Given) → Log s G → Log (addRound s peers) G
-unfolding addRound
-round-log s peers G l = record { all = l .all; only = l .only }
+-- calls that change no point, and those that drain: of any log
+module _ {A : Type 0} (is : Point → Bool) (what : Point → A) (round : A → ℕ) (G : List A) where
+  pub numbers-log : (s : Store) (p : Progress) (m : Memory) → LogOf is what round s G → LogOf is what round (withNumbers s p m) G
+  unfolding withNumbers
+  numbers-log s p m l = record { all = l .all; only = l .only }
+
+  pub round-log : (s : Store) (peers : ℕ) → LogOf is what round s G → LogOf is what round (addRound s peers) G
+  unfolding addRound
+  round-log s peers l = record { all = l .all; only = l .only }
+
+  pub drain-log : ((p : Point) → is p ≡ true → p .named ≡ true) → ((p : Point) → round (what p) ≡ p .id .round) → (s : Store) (b : ℕ) → s .bottom ≤ b → LogOf is what round s G → LogOf is what round (drained s b) G
+  drain-log named at s b up l = record {
+    all = λ p h. let k = drain-was s b p (named _ h) .0 in subst (λ (x : Point). List·Memᴰ (what x) G) (sym k) (l .all p (subst (λ (x : Point). is x ≡ true) k h));
+    only = λ g m h. only g (subst (λ n. n ≤ round g) (drain-bottom s b) h) (l .only g m (le-trans up (subst (λ n. n ≤ round g) (drain-bottom s b) h)));
+  }
+    where
+      only : (g : A) → b ≤ round g → (p : ℕ) × (is (s .pt p) ≡ true) × (what (s .pt p) ≡ g) → (p : ℕ) × (is (drained s b .pt p) ≡ true) × (what (drained s b .pt p) ≡ g)
+      only g h (p, o, k) = (p, subst (λ (x : Point). is x ≡ true) (sym e) o, ap what e ∙ k)
+        where
+          e : drained s b .pt p ≡ s .pt p
+          e = drain-stays s b p (subst (λ n. b ≤ n) (at (s .pt p)) (subst (λ x. b ≤ round x) (sym k) h))
 
 pub cert-log : (s : Store) (q : ℕ) (G : List Given) → Log s G → Log (certifyAt s q) G
 unfolding certifyAt withPathHeights withPoints setTop resolved
@@ -114,26 +136,7 @@ pub mark-log : (G : List Given) (s : Store) (e : EnqueuedAnchor) → Log s G →
 unfolding dequeued setCommitted resolved
 mark-log G s e l = record { all = l .all; only = l .only }
 
-drain-bottom : (s : Store) (b : ℕ) → drained s b .bottom ≡ b
-unfolding drained
-drain-bottom s b = refl
-
-pub drain-log : (s : Store) (b : ℕ) → s .bottom ≤ b → (G : List Given) → Log s G → Log (drained s b) G
-drain-log s b up G l = record {
-  all = λ p h. let k = was p h in subst (λ (x : Point). List·Memᴰ (givenOf x) G) (sym k) (l .all p (subst (λ (x : Point). resolved x ≡ true) k h));
-  only = λ g m h. only g (subst (λ n. n ≤ g .who .round) (drain-bottom s b) h) (l .only g m (le-trans up (subst (λ n. n ≤ g .who .round) (drain-bottom s b) h)));
-}
-  where
-    was : (p : ℕ) → resolved (drained s b .pt p) ≡ true → drained s b .pt p ≡ s .pt p
-    was p h = drain-was s b p (resolved-named (drained s b .pt p) h) .0
-
-    only : (g : Given) → b ≤ g .who .round → (p : ℕ) × (resolved (s .pt p) ≡ true) × (givenOf (s .pt p) ≡ g) → (p : ℕ) × (resolved (drained s b .pt p) ≡ true) × (givenOf (drained s b .pt p) ≡ g)
-    only g h (p, o, k) = (p, subst (λ (x : Point). resolved x ≡ true) (sym e) o, ap givenOf e ∙ k)
-      where
-        e : drained s b .pt p ≡ s .pt p
-        e = drain-stays s b p (subst (λ (x : Given). b ≤ x .who .round) (sym k) h)
-
-name-bottom : (s : Store) (i : Id) (q : ℕ) → nameAt s i q .bottom ≡ s .bottom
+pub name-bottom : (s : Store) (i : Id) (q : ℕ) → nameAt s i q .bottom ≡ s .bottom
 unfolding nameAt withPoints
 name-bottom s i q = refl
 

@@ -23,7 +23,7 @@ use Rattle.spec.specs.WellFormed.{Wf, countsAsStarted-elim}
 use Rattle.spec.specs.Walk.{not-good, if-good, then-good, refuse-good, refuse-back, find-some}
 use Rattle.spec.specs.Accepted.{finish-store, round-way, place-good, name-way, resolve-way, certify-way}
 use Rattle.spec.specs.Demand.{after, Arrives, AllArrive, SecondHalf}
-use Rattle.spec.specs.Preservation.{anchors-rising, isResetCall, perform-kept, call-perform}
+use Rattle.spec.specs.Preservation.{anchors-rising, not-reset, perform-kept, call-perform}
 use Rattle.spec.specs.Extension.{reTop, Late, late-refl, late-trans, same-resolved, find-late, walk-late, commit-late}
 
 -- ---- what arrives
@@ -120,27 +120,13 @@ perform-late s (outlook i b) h = absurd h
 perform-late s (remove r from b) h = absurd h
 perform-late s (dropTo r) h = absurd h
 
-no-reset : (s : Store) (c : Call) → Arrives s c → isResetCall c ≡ false
-unfolding isResetCall
-no-reset s (start b) h = refl
-no-reset s resetAll h = absurd h
-no-reset s (round r peers) h = refl
-no-reset s (name i) h = refl
-no-reset s (resolve i t) h = refl
-no-reset s (certify i) h = refl
-no-reset s gapQuestion h = refl
-no-reset s (commit i ls b) h = refl
-no-reset s (outlook i b) h = refl
-no-reset s (remove r from b) h = refl
-no-reset s (dropTo r) h = refl
-
 -- so does a list of them, and the tables keep their rules
 pub after-late : (s : Store) → Wf s → (cs : List Call) → AllArrive s cs → Wf (after s cs) × Late s (after s cs)
 unfolding after
 after-late s w [] h = (w, late-refl s)
 after-late s w (c ∷ cs) (h, hs) =
     let e : call s c .store ≡ perform s c .store = ap (λ (o : Outcome). o .store) (call-perform s w c) in
-    let (x, y) = after-late (call s c .store) (subst Wf (sym e) (perform-kept s w c (no-reset s c h))) cs hs in
+    let (x, y) = after-late (call s c .store) (subst Wf (sym e) (perform-kept s w c (not-reset (Arrives s) (λ k. k) c h))) cs hs in
     (x, late-trans s _ _ (subst (Late s) (sym e) (perform-late s c h)) y)
 
 -- ---- the trigger

@@ -1,5 +1,5 @@
--- Small lists of calls and what they give: each refusal, the order of the tests, chains of several anchors, place lists, payload sums,
--- remove's bytes.
+-- Small lists of calls and what they give: each refusal, the order of the tests, chains of several anchors, place lists, payload sums, the
+-- look-up's answers, remove's bytes.
 use Prim.Native.Nat.{ℕ, suc, _+_, _*_}
 use mathlib.Core.Path.{_≡_, refl}
 use mathlib.Core.List.{List, [], _∷_, _++_, map}
@@ -10,7 +10,7 @@ use lib.ListN.{getD, take, drop, replicate}
 use Rattle.laws.specs.Lists
 use Rattle.laws.specs.Bytes.{value}
 use Rattle.spec.specs.Ids.{Id, Ref}
-use Rattle.spec.specs.Store.{Resolution, Conf, Store, word, withProgress, withMemory}
+use Rattle.spec.specs.Store.{Resolution, Conf, Store, resolvedAt, namedAt, never, look, word, withProgress, withMemory}
 use Rattle.spec.specs.Chain.{orZero}
 use Rattle.spec.specs.Inspect.{weight}
 use Rattle.spec.specs.Calls.{Answer, Outcome, StartArgs, Call, start, resetAll, round, name, resolve, certify, gapQuestion, commit, outlook, remove, drop as dropTo, call, startOk, conflictRound, done, flag, anchors, refused}
@@ -271,8 +271,8 @@ fired = refl
 
 -- ---- outlook, the walk's and the history's other refusals
 
-abbrev look : Store → ℕ → Outcome
-look s n = call s (outlook (id 17 0 170) (replicate n 0))
+abbrev glimpse : Store → ℕ → Outcome
+glimpse s n = call s (outlook (id 17 0 170) (replicate n 0))
 
 -- s with a used mark of a at round r, as made-up tables may have it
 abbrev withUsed : Store → ℕ → ℕ → Store
@@ -304,11 +304,11 @@ missing b =
 abbrev others : List Row
 others =
     -- counted from the marks now: 1 point, then 4, with the points of each round; 21 against its own buffer, nothing written; 13, 20 never
-    row 1 (ended (look (onTwo 1) 106)) (3 ∷ 2 ∷ 0 ∷ 0 ∷ [])
-    ∷ row 2 (bytes (look (onTwo 1) 107) (3 ∷ 40 ∷ 44 ∷ 48 ∷ 52 ∷ 56 ∷ 93 ∷ 97 ∷ 101 ∷ 105 ∷ 106 ∷ [])) (13 ∷ 1 ∷ 1 ∷ 0 ∷ 0 ∷ 15 ∷ 4 ∷ 1 ∷ 2 ∷ 1 ∷ 0 ∷ [])
-    ∷ row 3 (numbers (look (onTwo 1) 105 .answer) ++ bytes (look (onTwo 1) 105) (3 ∷ 40 ∷ [])) (4 ∷ 21 ∷ 0 ∷ 0 ∷ 0 ∷ [])
-    ∷ row 4 (numbers (look (onTwo 3) 106 .answer) ++ bytes (look (onTwo 3) 106) (3 ∷ 40 ∷ [])) (4 ∷ 13 ∷ 0 ∷ 0 ∷ 0 ∷ [])
-    ∷ row 5 (numbers (look (after (blank 6) (two true (some 0) (side 1) firing ++ certs)) 106 .answer)) (3 ∷ 2 ∷ [])
+    row 1 (ended (glimpse (onTwo 1) 106)) (3 ∷ 2 ∷ 0 ∷ 0 ∷ [])
+    ∷ row 2 (bytes (glimpse (onTwo 1) 107) (3 ∷ 40 ∷ 44 ∷ 48 ∷ 52 ∷ 56 ∷ 93 ∷ 97 ∷ 101 ∷ 105 ∷ 106 ∷ [])) (13 ∷ 1 ∷ 1 ∷ 0 ∷ 0 ∷ 15 ∷ 4 ∷ 1 ∷ 2 ∷ 1 ∷ 0 ∷ [])
+    ∷ row 3 (numbers (glimpse (onTwo 1) 105 .answer) ++ bytes (glimpse (onTwo 1) 105) (3 ∷ 40 ∷ [])) (4 ∷ 21 ∷ 0 ∷ 0 ∷ 0 ∷ [])
+    ∷ row 4 (numbers (glimpse (onTwo 3) 106 .answer) ++ bytes (glimpse (onTwo 3) 106) (3 ∷ 40 ∷ [])) (4 ∷ 13 ∷ 0 ∷ 0 ∷ 0 ∷ [])
+    ∷ row 5 (numbers (glimpse (after (blank 6) (two true (some 0) (side 1) firing ++ certs)) 106 .answer)) (3 ∷ 2 ∷ [])
     -- 5, no anchors below the bottom, 6
     ∷ row 6 (numbers (call (onTwo 1) (commit (id 9 32 1) [] []) .answer)) (stop 5)
     ∷ row 7 (numbers (call (onTwo 1) (commit (id 9 2 1) [] []) .answer)) (3 ∷ 0 ∷ [])
@@ -522,6 +522,31 @@ payloads =
 summed-up : agree payloads ≡ true
 unfolding computed numbers same agree Lists.all
 summed-up = refl
+
+-- ---- the look-up (02: N3)
+
+-- of i after these calls: never named, named only, resolved; the last two with the place
+abbrev sought : List Call → Id → List ℕ
+sought cs i = elim (look (after (blank 7) cs) i) [ never ↦ 0 ∷ [] | namedAt q ↦ 1 ∷ q ∷ [] | resolvedAt q ↦ 2 ∷ q ∷ [] ]
+
+abbrev lookUps : List Row
+lookUps =
+    -- beside K13's points: certified it is named only, until it is resolved
+    row 1 (sought (layers false) (id 12 1 122)) (0 ∷ [])
+    ∷ row 2 (sought (layers false ++ (name (id 12 1 122) ∷ [])) (id 12 1 122)) (1 ∷ 6 ∷ [])
+    ∷ row 3 (sought (layers false ++ (name (id 12 1 122) ∷ certify (id 12 1 122) ∷ [])) (id 12 1 122)) (1 ∷ 6 ∷ [])
+    ∷ row 4 (sought (layers false ++ both (id 12 1 122) (gave 1 [] [])) (id 12 1 122)) (2 ∷ 6 ∷ [])
+    -- neither a top proof nor a refused name names a point
+    ∷ row 5 (sought (layers false) (id 10 0 0)) (0 ∷ [])
+    ∷ row 6 (sought (layers false ++ (name (id 12 2 122) ∷ [])) (id 12 2 122)) (0 ∷ [])
+    -- a point leaves with its round; a reset forgets names
+    ∷ row 7 (sought (layers false) (id 11 0 110) ++ sought (layers false ++ (dropTo 12 ∷ [])) (id 11 0 110)) (2 ∷ 0 ∷ 0 ∷ [])
+    ∷ row 8 (sought (layers false ++ (name (id 12 1 122) ∷ resetAll ∷ layers false)) (id 12 1 122)) (0 ∷ [])
+    ∷ []
+
+answered : agree lookUps ≡ true
+unfolding computed numbers same agree Lists.all
+answered = refl
 
 -- ---- heights over witness links, flags
 

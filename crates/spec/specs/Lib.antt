@@ -30,6 +30,7 @@ pub mod Demand3First
 pub mod Demand3Paths
 pub mod Demand3Calls
 pub mod Demand3
+pub mod Named
 pub mod Scenarios
 pub mod Cases
 pub mod Examples

@@ -606,6 +606,20 @@ removing-sound s r b bytes = refuse-sound Two (beyond (s .progress .lastAnchor) 
 unfoldable pub isResetCall : Call → Bool
 isResetCall c = elim c [ start b ↦ false | resetAll ↦ true | round r peers ↦ false | name i ↦ false | resolve i t ↦ false | certify i ↦ false | gapQuestion ↦ false | commit i l b ↦ false | outlook i b ↦ false | remove r from b ↦ false | drop r ↦ false ]
 
+pub not-reset : (P : Call → Type 0) → (P resetAll → ⊥) → (c : Call) → P c → isResetCall c ≡ false
+unfolding isResetCall
+not-reset P f (start b) h = refl
+not-reset P f resetAll h = absurd (f h)
+not-reset P f (round r peers) h = refl
+not-reset P f (name i) h = refl
+not-reset P f (resolve i t) h = refl
+not-reset P f (certify i) h = refl
+not-reset P f gapQuestion h = refl
+not-reset P f (commit i ls b) h = refl
+not-reset P f (outlook i b) h = refl
+not-reset P f (remove r from b) h = refl
+not-reset P f (drop r) h = refl
+
 -- not refused with 2
 abbrev NotTwo : Answer → Type 0
 NotTwo a = (n : ℕ) → a ≢ refused (number 2) n

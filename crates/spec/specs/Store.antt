@@ -145,6 +145,20 @@ isNamed s i q = s .pt q .named && sameId (idAt s q) i
 unfoldable pub find : Store → Id → Option ℕ
 find s i = lowest (s .places) (isNamed s i)
 
+-- 02, N3: "The point look-up now answers three ways: resolved, named only, never named." The first two come with the place.
+pub data Look : Type 0 where
+  resolvedAt : ℕ → Look
+  namedAt : ℕ → Look
+  never : Look
+
+-- of a place in use
+unfoldable pub lookAt : Store → ℕ → Look
+lookAt s q = elim (resolved (s .pt q)) [ true ↦ resolvedAt q | false ↦ namedAt q ]
+
+-- of an id: 01's `now_or_never` "finds a resolved point or none", and none is now one of two
+unfoldable pub look : Store → Id → Look
+look s i = elim (find s i) [ none ↦ never | some q ↦ lookAt s q ]
+
 -- 01, parts.rs: "The *previous* point is the include under the point's own author." Its digest.
 unfoldable pub under : ℕ → List Ref → Option ℕ
 under a [] = none
