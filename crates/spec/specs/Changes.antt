@@ -102,10 +102,6 @@ module _ (s : Store) (z : Sized s) (i : ℕ) (resolution : Resolution) (late : r
   unfolding resolveAt withPathHeights withPoints resolvedAs
   res-off p n = rw (ne-eqb p i n) refl
 
-  res-sized : Sized s′
-  unfolding resolveAt withPathHeights withPoints resolvedAs
-  res-sized = z
-
   res-round : (p : ℕ) → roundAt s′ p ≡ roundAt s p
   unfolding resolveAt withPathHeights withPoints resolvedAs
   res-round p = refl

@@ -273,18 +273,6 @@ drawn-intro s a (r ∷ rs) l ok q b m h =
     (λ k. Memᴰ·append-left (roundOut s ps (take (length ps) l)) (drawn-intro s a rs (drop (length ps) l) d q b k h))
     (List·Memᴰ·cases-cons m)
 
--- one more round below: its points come out before the others
-pub drawn-more : (s : Store) (a : ℕ) (rs : List ℕ) (r : ℕ) (l : List ℕ)
-    → drawn s a (rs ++ (r ∷ [])) l ≡ roundOut s (linkedIn s a r) (take (length (linkedIn s a r)) (drop (weigh (λ n. n) (countsIn s a rs)) l)) ++ drawn s a rs l
-unfolding drawn weigh
-drawn-more s a [] r l = sym (append-nil (roundOut s (linkedIn s a r) (take (length (linkedIn s a r)) l)))
-drawn-more s a (x ∷ rs) r l =
-    let n = length (linkedIn s a x) in
-    let m = length (linkedIn s a r) in
-    let w = weigh (λ n. n) (countsIn s a rs) in
-    ap (λ z. z ++ roundOut s (linkedIn s a x) (take n l)) (drawn-more s a rs r (drop n l) ∙ ap (λ z. roundOut s (linkedIn s a r) (take m z) ++ drawn s a rs (drop n l)) (drop-drop w n l))
-    ∙ append-assoc (roundOut s (linkedIn s a r) (take m (drop (n + w) l))) (drawn s a rs (drop n l)) (roundOut s (linkedIn s a x) (take n l))
-
 -- what follows the lists is unread
 drawn-unread : (s : Store) (a : ℕ) (rs l rest : List ℕ) → weigh (λ n. n) (countsIn s a rs) ≤ length l → drawn s a rs (l ++ rest) ≡ drawn s a rs l
 unfolding drawn weigh
