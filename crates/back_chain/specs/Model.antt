@@ -16,12 +16,15 @@ use Rattle.models.specs.DagPoint.{caseOf, isValid, valid-is}
 use Rattle.models.specs.Refusal.{refusalOf, failed, conflicting, notValid}
 use Rattle.models.specs.declared.dag_point.DagPoint.{DagPoint}
 use Rattle.models.specs.declared.dag_point.DagPoint.the-variants.{Valid, TransInvalid, Invalid, IllFormed, NotFound}
-use Rattle.models.specs.declared.dag_point.Resolved.{Resolved}
+use Rattle.models.specs.declared.dag_point.Resolved as status
 use Rattle.models.specs.declared.dag_point.Resolved.the-variants.{Case, Nothing}
 use Rattle.models.specs.declared.refusal.Refusal.the-variants.{Number}
 use Rattle.models.specs.declared.refusal.Check.{Check}
 use Rattle.models.specs.declared.refusal.Check.the-variants.{Passed}
 use Rattle.models.specs.declared.parts.PointId.{PointId}
+use Rattle.dag_round_keys.specs.Look.{lookAs, lookPlace}
+use Rattle.dag_round_keys.specs.declared.look.Look.{Look}
+use Rattle.dag_round_keys.specs.declared.look.Look.the-variants.{Resolved, Named, Never}
 use Rattle.commit_state.specs.declared.state.State.{State}
 use Rattle.back_walk.specs.Words.{hasPrevious, previousId}
 use Rattle.back_chain.specs.RefinesWalk.{walked}
@@ -36,18 +39,25 @@ isBelow s i = ltb (i .author) 32 && ltb (i .round .0) (s .bottom .0)
 unfoldable pub lowOf : State → ℕ
 lowOf s = max (s .«last_committed_proof» .0 - 1) (s .bottom .0)
 
--- what a trigger is refused with, by its case, its certificate word and its round
-unfoldable pub triggerOf : Resolved → ℕ → ℕ → Check
-triggerOf Nothing c r = failed 9
-triggerOf (Case Valid) c r = Passed
-triggerOf (Case TransInvalid) c r = cond (hasProof c) (conflicting r) (cond (ltb 0 (heightOf c)) Passed (failed 15))
-triggerOf (Case Invalid) c r = notValid c r
-triggerOf (Case IllFormed) c r = notValid c r
-triggerOf (Case NotFound) c r = notValid c r
+-- what a trigger is refused with, by its look-up, its certificate word and its round; 9: "id not named; trigger unresolved"
+unfoldable pub triggerOf : Look → ℕ → ℕ → Check
+triggerOf Never c r = failed 9
+triggerOf (Named q) c r = failed 9
+triggerOf (Resolved q Valid) c r = Passed
+triggerOf (Resolved q TransInvalid) c r = cond (hasProof c) (conflicting r) (cond (ltb 0 (heightOf c)) Passed (failed 15))
+triggerOf (Resolved q Invalid) c r = notValid c r
+triggerOf (Resolved q IllFormed) c r = notValid c r
+triggerOf (Resolved q NotFound) c r = notValid c r
 
 -- what the trigger at the place q, of the round r, is refused with
 unfoldable pub triggerCode : List ℕ → List ℕ → ℕ → ℕ → Check
-triggerCode ks cs q r = triggerOf (caseOf (statusAt ks q)) (getD cs q 0) r
+triggerCode ks cs q r = triggerOf (lookPlace ks q) (getD cs q 0) r
+
+-- a valid point, by its look-up
+unfoldable pub validOf : Look → Bool
+validOf Never = false
+validOf (Named q) = false
+validOf (Resolved q p) = isValid (Case p)
 
 -- the point at the place q, of the round r, is a valid trigger with rounds to walk
 unfoldable pub walks : State → List ℕ → ℕ → ℕ → ℕ → Bool
@@ -82,33 +92,44 @@ module _ (s : State) where
   unfolding lowOf
   low-bottom l = omega arith
 
-module _ (ks cs : List ℕ) (q r : ℕ) (x : Resolved) (is : x ≡ caseOf (statusAt ks q)) where
-  pub trigger-by : (y : Resolved) → x ≡ y → (c : Check) → c ≡ triggerOf y (getD cs q 0) r → c ≡ triggerCode ks cs q r
+module _ (ks cs : List ℕ) (q r : ℕ) (x : Look) (is : x ≡ lookPlace ks q) where
+  pub trigger-by : (y : Look) → x ≡ y → (c : Check) → c ≡ triggerOf y (getD cs q 0) r → c ≡ triggerCode ks cs q r
   unfolding triggerCode
-  trigger-by y e c h = h ∙ ap (λ z. triggerOf z (getD cs q 0) r) (sym e ∙ is)
+  trigger-by y e c h = h ∙ ap (λ (z : Look). triggerOf z (getD cs q 0) r) (sym e ∙ is)
 
-  pub trigger-case : (p y : DagPoint) → x ≡ Case p → p ≡ y → (c : Check) → c ≡ triggerOf (Case y) (getD cs q 0) r → c ≡ triggerCode ks cs q r
-  trigger-case p y e f = trigger-by (Case y) (e ∙ ap Case f)
+  pub trigger-case : (i : ℕ) (p y : DagPoint) → x ≡ Resolved i p → p ≡ y → (c : Check) → c ≡ triggerOf (Resolved i y) (getD cs q 0) r → c ≡ triggerCode ks cs q r
+  trigger-case i p y e f = trigger-by (Resolved i y) (e ∙ ap (Resolved i) f)
 
 -- a trans-invalid one: proved, certified or neither
-module _ (c r : ℕ) (a : Bool) (proof : a ≡ hasProof c) where
-  pub trans-proved : a ≡ true → conflicting r ≡ triggerOf (Case TransInvalid) c r
+module _ (q c r : ℕ) (a : Bool) (proof : a ≡ hasProof c) where
+  pub trans-proved : a ≡ true → conflicting r ≡ triggerOf (Resolved q TransInvalid) c r
   unfolding triggerOf
   trans-proved h = rw (← proof, h) refl
 
   module _ (h : a ≡ false) (b : Bool) (height : b ≡ ltb 0 (heightOf c)) where
-    pub trans-flat : not b ≡ true → failed 15 ≡ triggerOf (Case TransInvalid) c r
+    pub trans-flat : not b ≡ true → failed 15 ≡ triggerOf (Resolved q TransInvalid) c r
     unfolding triggerOf
     trans-flat k = rw (← proof, h, sym height ∙ not-true b k) refl
 
-    pub trans-certified : not b ≡ false → Passed ≡ triggerOf (Case TransInvalid) c r
+    pub trans-certified : not b ≡ false → Passed ≡ triggerOf (Resolved q TransInvalid) c r
     unfolding triggerOf
     trans-certified k = rw (← proof, h, sym height ∙ not-false b k) refl
 
-module _ (s : State) (ks : List ℕ) (q r low : ℕ) (x : Resolved) (is : x ≡ caseOf (statusAt ks q)) (b : Bool) (valid : b ≡ isValid x) where
+pub valid-case : (x : Look) (q : ℕ) (p y : DagPoint) → x ≡ Resolved q p → p ≡ y → isValid (Case y) ≡ validOf x
+unfolding validOf
+valid-case x q p y e f = ap (λ (z : DagPoint). isValid (Case z)) (sym f) ∙ ap validOf (sym e)
+
+-- it is valid exactly if its case is
+valid-by : (c : status.Resolved) (q : ℕ) → validOf (lookAs c q) ≡ isValid c
+unfolding validOf lookAs isValid
+valid-by (Case p) q = refl
+valid-by Nothing q = refl
+
+module _ (s : State) (ks : List ℕ) (q r low : ℕ) (x : Look) (is : x ≡ lookPlace ks q) (b : Bool) (valid : b ≡ validOf x) where
   -- the test of the status
   status-is : b ≡ eqb (statusAt ks q) 1
-  status-is = valid ∙ (ap isValid is ∙ valid-is (statusAt ks q))
+  unfolding lookPlace
+  status-is = valid ∙ (ap validOf is ∙ (valid-by (caseOf (statusAt ks q)) q ∙ valid-is (statusAt ks q)))
 
   pub walks-invalid : not b ≡ true → false ≡ walks s ks q r low
   unfolding walks

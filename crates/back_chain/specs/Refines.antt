@@ -27,6 +27,7 @@ use Rattle.models.specs.Refusal.{refusalOf, unlessFailed, failed, conflicting, 
 use Rattle.models.specs.declared.refusal.Refusal.{Refusal}
 use Rattle.models.specs.declared.refusal.Check.{Check}
 use Rattle.models.specs.declared.refusal.Check.the-variants.{Passed, Failed}
+use Rattle.dag_round_keys.specs.Look.{lookAs, lookPlace}
 use Rattle.commit_state.specs.Numbers.{roundsHold}
 use Rattle.commit_state.specs.View.{optionOf, progressOf, confOf}
 use Rattle.commit_state.specs.declared.state.State.{State}
@@ -69,22 +70,22 @@ invalid-is c r f = by (ltb 0 (heightOf c))
     by true = refl
     by false = refl
 
--- 9, 13 and 15 of a trigger, by its status and its certificate word; o is the chain of a valid one
-status-is : (st c r : ℕ) (o : Out (List chain.EnqueuedAnchor)) → st ≤ 5
-    → refuse (not (ltb 0 st)) 9 (elim (eqb st 1) [ true ↦ o | false ↦ other (eqb st 2) (ltb 0 (heightOf c)) (bitOf 0x8000 c) r ]) ≡ unlessFailed (triggerOf (caseOf st) c r) (cond (eqb st 1) o (good []))
-unfolding refuse unlessFailed refusalOf triggerOf caseOf hasProof flagsOf notValid
-status-is zero c r o l = refl
-status-is (suc zero) c r o l = refl
-status-is (suc (suc zero)) c r o l = by (ltb 0 (heightOf c)) (bitOf 0x8000 c)
+-- 9, 13 and 15 of a trigger at the place q, by its status and its certificate word; o is the chain of a valid one
+status-is : (q st c r : ℕ) (o : Out (List chain.EnqueuedAnchor)) → st ≤ 5
+    → refuse (not (ltb 0 st)) 9 (elim (eqb st 1) [ true ↦ o | false ↦ other (eqb st 2) (ltb 0 (heightOf c)) (bitOf 0x8000 c) r ]) ≡ unlessFailed (triggerOf (lookAs (caseOf st) q) c r) (cond (eqb st 1) o (good []))
+unfolding refuse unlessFailed refusalOf triggerOf lookAs caseOf hasProof flagsOf notValid
+status-is q zero c r o l = refl
+status-is q (suc zero) c r o l = refl
+status-is q (suc (suc zero)) c r o l = by (ltb 0 (heightOf c)) (bitOf 0x8000 c)
   where
     by : (g f : Bool) → other true g f r ≡ unlessFailed (cond (g && f) (conflicting r) (cond g Passed (failed 15))) (good [])
     by true true = refl
     by true false = refl
     by false f = refl
-status-is (suc (suc (suc zero))) c r o l = invalid-is c r (bitOf 0x8000 c)
-status-is (suc (suc (suc (suc zero)))) c r o l = invalid-is c r (bitOf 0x8000 c)
-status-is (suc (suc (suc (suc (suc zero))))) c r o l = invalid-is c r (bitOf 0x8000 c)
-status-is (suc (suc (suc (suc (suc (suc n)))))) c r o l = absurd (omega arith)
+status-is q (suc (suc (suc zero))) c r o l = invalid-is c r (bitOf 0x8000 c)
+status-is q (suc (suc (suc (suc zero)))) c r o l = invalid-is c r (bitOf 0x8000 c)
+status-is q (suc (suc (suc (suc (suc zero))))) c r o l = invalid-is c r (bitOf 0x8000 c)
+status-is q (suc (suc (suc (suc (suc (suc n)))))) c r o l = absurd (omega arith)
 
 -- the tests before a walk; e: it is empty
 walk-tests : (m g e : Bool) (o p : Out (List chain.EnqueuedAnchor)) → (e ≡ false → o ≡ p) → elim (not m || (g || e)) [ true ↦ good [] | false ↦ o ] ≡ cond (m && (not g && not e)) p (good [])
@@ -178,14 +179,14 @@ module _ (s : State) (ks ls cs os : List ℕ) (fk : Fit ks) (fl : Fit ls) (h : c
 
     -- 01's trigger
     trigger-is : filtered v q ≡ triggeredAt s ks ls cs os q r
-    unfolding filtered triggerConflict proved triggeredAt triggerCode
+    unfolding filtered triggerConflict proved triggeredAt triggerCode lookPlace
     trigger-is =
         let st = statusAt ks q in
         (λ i. refuse (not (resolved-at s ks ls cs os fk fl h q u i)) 9 (elim (eqb (status-at s ks ls cs os fk fl h q u i) 1) [
           | true ↦ chain.chain v q
           | false ↦ other (eqb (status-at s ks ls cs os fk fl h q u i) 2) (certified-at s ks ls cs os fk fl h q u i) (top-at s ks ls cs os fk fl h q u i) (round-of i)
         ]))
-        ∙ (status-is st (getD cs q 0) r (chain.chain v q) (status-most s ks ls cs os fk fl h q u) ∙ ap (unlessFailed (triggerOf (caseOf st) (getD cs q 0) r)) walk-is)
+        ∙ (status-is q st (getD cs q 0) r (chain.chain v q) (status-most s ks ls cs os fk fl h q u) ∙ ap (unlessFailed (triggerOf (lookAs (caseOf st) q) (getD cs q 0) r)) walk-is)
 
   module _ (i : PointId) (fi : Fit (idWords i)) where
     -- the place of the trigger

@@ -7,14 +7,13 @@ ghost use mathlib.Core.Bool.{true};
 ghost use lib.ListN.{length};
 ghost use Rattle.spec.specs.Rules.{countsAsStarted};
 ghost use Rattle.spec.specs.Chain.{then, checkOldest, anchorsOf};
-ghost use Rattle.models.specs.DagPoint.{isValid};
 ghost use Rattle.models.specs.Parts.{idOf};
 ghost use Rattle.models.specs.Tables.{Used};
 ghost use Rattle.tables_test.specs.View.{view};
 ghost use Rattle.back_walk.specs.Model.{Walkable, Linked};
 ghost use Rattle.back_chain.specs.Chain.{noAnchors, chainOut};
 ghost use Rattle.back_chain.specs.RefinesWalk.{walked};
-ghost use Rattle.back_chain.specs.Model.{lowOf, triggerCode, walks, chainedFrom, isBelow};
+ghost use Rattle.back_chain.specs.Model.{lowOf, triggerCode, validOf, walks, chainedFrom, isBelow};
 use back_walk::EnqueuedAnchor;
 use back_walk::Step;
 use back_walk::has_previous;
@@ -22,11 +21,12 @@ use back_walk::previous;
 use back_walk::top_proof;
 use back_walk::visit;
 use commit_state::state::State;
+use dag_round_keys::look::Look;
+use dag_round_keys::look::look_place;
 use dag_round_points::Found;
 use dag_round_points::find_named;
 use models::cert::Cert;
 use models::dag_point::DagPoint;
-use models::dag_point::Resolved;
 use models::parts::PointId;
 use models::parts::Round;
 use models::refusal::BROKEN_CHAIN;
@@ -165,11 +165,12 @@ fn filter(keys: &[u64], certs: &[u64], q: usize, round: Round) -> Check
     requires { ⌜ (q * 8 + 8 ≤ length (now keys)) × (q < length (now certs)) ⌝ }
     ensures { λ r. ⌜ r ≡ triggerCode (now (keys .entry)) (now (certs .entry)) q (round .0) ⌝ }
 {
-    let case = dag_round_keys::case_at(keys, q);
+    let look = look_place(keys, q);
     let cert = Cert(certs[q]);
-    match case {
-        Resolved::Nothing => Check::Failed(Refusal::Number(NOT_NAMED)),
-        Resolved::Case(p) => match p {
+    match look {
+        Look::Never => Check::Failed(Refusal::Number(NOT_NAMED)),
+        Look::Named(_) => Check::Failed(Refusal::Number(NOT_NAMED)),
+        Look::Resolved(_, p) => match p {
             DagPoint::Valid => Check::Passed,
             DagPoint::TransInvalid => {
                 if cert.has_proof() {
@@ -188,12 +189,13 @@ fn filter(keys: &[u64], certs: &[u64], q: usize, round: Round) -> Check
 }
 
 // Whether it is a valid point.
-fn is_valid(case: Resolved) -> bool
-    ensures { λ r. ⌜ r ≡ isValid case ⌝ }
+fn is_valid(look: Look) -> bool
+    ensures { λ r. ⌜ r ≡ validOf look ⌝ }
 {
-    match case {
-        Resolved::Nothing => false,
-        Resolved::Case(p) => match p {
+    match look {
+        Look::Never => false,
+        Look::Named(_) => false,
+        Look::Resolved(_, p) => match p {
             DagPoint::Valid => true,
             DagPoint::TransInvalid => false,
             DagPoint::Invalid => false,
@@ -208,8 +210,8 @@ fn has_walk(s: State, keys: &[u64], q: usize, round: Round, low: Round) -> bool
     requires { ⌜ q * 8 + 8 ≤ length (now keys) ⌝ }
     ensures { λ r. ⌜ r ≡ walks s (now (keys .entry)) q (round .0) (low .0) ⌝ }
 {
-    let case = dag_round_keys::case_at(keys, q);
-    if !is_valid(case) {
+    let look = look_place(keys, q);
+    if !is_valid(look) {
         return false;
     }
     let marks = keys[q * 8 + 7];

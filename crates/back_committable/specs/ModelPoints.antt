@@ -9,15 +9,15 @@ use lib.ListN.{getD}
 use borrow.Author.Tests.{le-ltb, lt-ltb}
 use Rattle.laws.specs.Test.{and-no}
 use Rattle.models.specs.Cert.{hasProof}
-use Rattle.models.specs.Tables.{roundAt, statusAt, placeAt}
-use Rattle.models.specs.DagPoint.{caseOf}
+use Rattle.models.specs.Tables.{roundAt, placeAt}
 use Rattle.models.specs.Refusal.{failed, conflicting, notValid, isFailed}
 use Rattle.models.specs.declared.dag_point.DagPoint.{DagPoint}
 use Rattle.models.specs.declared.dag_point.DagPoint.the-variants.{Valid, TransInvalid, Invalid, IllFormed, NotFound}
-use Rattle.models.specs.declared.dag_point.Resolved.{Resolved}
-use Rattle.models.specs.declared.dag_point.Resolved.the-variants.{Case, Nothing}
 use Rattle.models.specs.declared.refusal.Check.{Check}
 use Rattle.models.specs.declared.refusal.Check.the-variants.{Passed}
+use Rattle.dag_round_keys.specs.Look.{lookPlace}
+use Rattle.dag_round_keys.specs.declared.look.Look.{Look}
+use Rattle.dag_round_keys.specs.declared.look.Look.the-variants.{Resolved, Named, Never}
 use Rattle.back_committable.specs.Scan.{scanned}
 
 -- what a point of a history is refused with, by its case, its certificate word and its round
@@ -28,14 +28,15 @@ committableOf Invalid c r = notValid c r
 committableOf IllFormed c r = notValid c r
 committableOf NotFound c r = notValid c r
 
--- 14 if it isn't resolved
-unfoldable pub faultOf : Resolved → ℕ → ℕ → Check
-faultOf Nothing c r = failed 14
-faultOf (Case p) c r = committableOf p c r
+-- 02, N3: "Number 14 keeps the point that is named only. It refuses with 25, just after 14, a needed point that was never named."
+unfoldable pub faultOf : Look → ℕ → ℕ → Check
+faultOf (Resolved q p) c r = committableOf p c r
+faultOf (Named q) c r = failed 14
+faultOf Never c r = failed 25
 
 -- the same of place q
 unfoldable pub faultAt : List ℕ → List ℕ → ℕ → Check
-faultAt ks cs q = faultOf (caseOf (statusAt ks q)) (getD cs q 0) (roundAt ks q)
+faultAt ks cs q = faultOf (lookPlace ks q) (getD cs q 0) (roundAt ks q)
 
 -- place q is marked, and its point isn't usable
 unfoldable pub faulty : List ℕ → List ℕ → List Bool → ℕ → Bool
@@ -64,16 +65,16 @@ Rounds ks os n = (p : ℕ) → p < n → roundAt ks (placeAt os p) ≤ 4_000_000
 -- ---- the steps of the code
 
 module _ (ks cs : List ℕ) (q : ℕ) where
-  module _ (x : Resolved) (is : x ≡ caseOf (statusAt ks q)) where
-    -- unresolved
-    pub fault-none : x ≡ Nothing → failed 14 ≡ faultAt ks cs q
-    unfolding faultAt faultOf
-    fault-none e = rw (sym is ∙ e) refl
+  module _ (x : Look) (is : x ≡ lookPlace ks q) where
+    -- not resolved
+    pub fault-none : (y : Look) → x ≡ y → (c : Check) → c ≡ faultOf y (getD cs q 0) (roundAt ks q) → c ≡ faultAt ks cs q
+    unfolding faultAt
+    fault-none y e c h = h ∙ rw (sym is ∙ e) refl
 
     -- resolved, of the case y
-    pub fault-by : (p y : DagPoint) → x ≡ Case p → p ≡ y → (r : ℕ) → r ≡ roundAt ks q → (c : Check) → c ≡ committableOf y (getD cs q 0) r → c ≡ faultAt ks cs q
+    pub fault-by : (i : ℕ) (p y : DagPoint) → x ≡ Resolved i p → p ≡ y → (r : ℕ) → r ≡ roundAt ks q → (c : Check) → c ≡ committableOf y (getD cs q 0) r → c ≡ faultAt ks cs q
     unfolding faultAt faultOf
-    fault-by p y e f r o c h = h ∙ rw (sym is ∙ (e ∙ ap Case f), o) refl
+    fault-by i p y e f r o c h = h ∙ rw (sym is ∙ (e ∙ ap (Resolved i) f), o) refl
 
   module _ (m : List Bool) where
     -- not marked

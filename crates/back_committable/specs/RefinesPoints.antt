@@ -16,10 +16,11 @@ use Rattle.spec.specs.Ids.{Id, byRound, falls}
 use Rattle.spec.specs.Store as store
 use Rattle.spec.specs.Store.{Point, Store, idAt, resolved}
 use Rattle.spec.specs.Paths.{height, certified, proved}
-use Rattle.spec.specs.Chain.{Out, bad, good, then, checkedAs, checked, isCommittable}
+use Rattle.spec.specs.Chain.{number, Out, bad, good, then, checkedAs, checked, isCommittable}
 use Rattle.spec.specs.History as history
 use Rattle.spec.specs.History.{needed, faults}
 use Rattle.spec.specs.Order.{falls-total, falls-trans}
+use Rattle.spec.specs.Walk.{checked-at}
 use Rattle.models.specs.Cert.{flagsOf, heightOf, hasProof}
 use Rattle.models.specs.Digest.{Fit}
 use Rattle.models.specs.Tables.{roundAt, statusAt, placeAt, Used}
@@ -27,6 +28,7 @@ use Rattle.models.specs.DagPoint.{caseOf}
 use Rattle.models.specs.Refusal.{refusalOf, unlessFailed, conflicting, notValid, isFailed, checkedAs-not, byCheck, failed-elim}
 use Rattle.models.specs.declared.refusal.Refusal.{Refusal}
 use Rattle.models.specs.declared.refusal.Check.the-variants.{Passed, Failed}
+use Rattle.dag_round_keys.specs.Look.{lookAs, lookPlace}
 use Rattle.dag_round_keys.specs.Sorted.{rounds-rise}
 use Rattle.commit_state.specs.View.{pointAt, resolutionAt}
 use Rattle.commit_state.specs.declared.state.State.{State}
@@ -44,20 +46,21 @@ use Rattle.back_committable.specs.ModelPoints.{committableOf, faultOf, f
 -- ---- one point
 
 -- 01's verdict by the status and the certificate word
-checkedAs-is : (st c r q : ℕ) → st ≤ 5 → checkedAs (ltb 0 st) (eqb st 1 || (eqb st 2 && not (hasProof c))) (ltb 0 (heightOf c)) r q ≡ unlessFailed (faultOf (caseOf st) c r) (good q)
-unfolding checkedAs unlessFailed refusalOf caseOf faultOf committableOf hasProof notValid
-checkedAs-is zero c r q l = refl
-checkedAs-is (suc zero) c r q l = refl
-checkedAs-is (suc (suc zero)) c r q l = by (ltb 0 (heightOf c)) (flagsOf c .top)
+checked-by : (st c r q : ℕ) → st ≤ 5
+    → elim (ltb 0 st) as (λ b. Out ℕ) [ true ↦ checkedAs (eqb st 1 || (eqb st 2 && not (hasProof c))) (ltb 0 (heightOf c)) r q | false ↦ bad (number 14) ] ≡ unlessFailed (faultOf (lookAs (caseOf st) q) c r) (good q)
+unfolding checkedAs unlessFailed refusalOf caseOf lookAs faultOf committableOf hasProof notValid
+checked-by zero c r q l = refl
+checked-by (suc zero) c r q l = refl
+checked-by (suc (suc zero)) c r q l = by (ltb 0 (heightOf c)) (flagsOf c .top)
   where
-    by : (g t : Bool) → checkedAs true (not (g && t)) g r q ≡ unlessFailed (cond (g && t) (conflicting r) Passed) (good q)
+    by : (g t : Bool) → checkedAs (not (g && t)) g r q ≡ unlessFailed (cond (g && t) (conflicting r) Passed) (good q)
     by true true = refl
     by true false = refl
     by false t = refl
-checkedAs-is (suc (suc (suc zero))) c r q l = checkedAs-not c r q
-checkedAs-is (suc (suc (suc (suc zero)))) c r q l = checkedAs-not c r q
-checkedAs-is (suc (suc (suc (suc (suc zero))))) c r q l = checkedAs-not c r q
-checkedAs-is (suc (suc (suc (suc (suc (suc n)))))) c r q l = absurd (omega arith)
+checked-by (suc (suc (suc zero))) c r q l = checkedAs-not c r q
+checked-by (suc (suc (suc (suc zero)))) c r q l = checkedAs-not c r q
+checked-by (suc (suc (suc (suc (suc zero))))) c r q l = checkedAs-not c r q
+checked-by (suc (suc (suc (suc (suc (suc n)))))) c r q l = absurd (omega arith)
 
 -- ---- the points in the order of the tests
 
@@ -108,15 +111,16 @@ module _ (s : State) (ks ls cs os : List ℕ) (fk : Fit ks) (fl : Fit ls) (t : S
 
   -- what 01 says of a used place is what the code says
   checked-is : (q : ℕ) → Used os n q → checked v isCommittable q ≡ unlessFailed (faultAt ks cs q) (good q)
-  unfolding checked isCommittable certified proved pointAt faultAt hasProof
+  unfolding isCommittable certified proved pointAt faultAt lookPlace hasProof
   checked-is q u =
       let resolution = status-is q u in
       let high : height v q ≡ heightOf (getD cs q 0) = sym (used-height s ks ls cs os fk fl t q u) in
       let top : v .pt q .flags .top ≡ flagsOf (getD cs q 0) .top = ap (λ (p : Point). p .flags .top) (used-point s ks ls cs os fk fl t q u) in
       let done : resolved (v .pt q) ≡ ltb 0 (statusAt ks q) = ap resolved (used-point s ks ls cs os fk fl t q u) ∙ resolved-is ks ls cs q in
       let round = used-round s ks ls cs os fk fl t q u in
-      (λ i. checkedAs (done i) (eqb (resolution i) 1 || (eqb (resolution i) 2 && not (ltb 0 (high i) && top i))) (ltb 0 (high i)) (round i) q)
-      ∙ checkedAs-is (statusAt ks q) (getD cs q 0) (roundAt ks q) q (t .facts .words q u .named .status)
+      checked-at v isCommittable q
+      ∙ ((λ i. elim (done i) as (λ b. Out ℕ) [ true ↦ checkedAs (eqb (resolution i) 1 || (eqb (resolution i) 2 && not (ltb 0 (high i) && top i))) (ltb 0 (high i)) (round i) q | false ↦ bad (number 14) ])
+      ∙ checked-by (statusAt ks q) (getD cs q 0) (roundAt ks q) q (t .facts .words q u .named .status))
 
   module _ (a : ℕ) (used : Used os n a) where
     -- the first position of the history

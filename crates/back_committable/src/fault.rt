@@ -7,11 +7,13 @@ ghost use Rattle.models.specs.Tables.{roundAt, Inside};
 ghost use Rattle.back_history.specs.Model.{Range};
 ghost use Rattle.back_committable.specs.Scan.{soonerOf};
 ghost use Rattle.back_committable.specs.ModelPoints.{faultAt, faulty, roundOf, firstFault, foundFault, Rounds};
+use dag_round_keys::look::Look;
+use dag_round_keys::look::look_place;
 use models::cert::Cert;
 use models::dag_point::DagPoint;
-use models::dag_point::Resolved;
 use models::parts::Round;
 use models::refusal::Check;
+use models::refusal::NEVER_NAMED;
 use models::refusal::POINT_MISSING;
 use models::refusal::Refusal;
 use models::refusal::not_valid;
@@ -24,17 +26,18 @@ pub fn round_at(keys: &[u64], q: usize) -> Round
     Round(keys[q * 8 + 0] as u32)
 }
 
-// What the point at place q of a history is refused with: 14, 13 or 15 (`committable_point`).
+// What the point at place q of a history is refused with: 14, 13 or 15 (`committable_point`). A place in use was named: no 25.
 pub fn committable_point(keys: &[u64], certs: &[u64], q: usize) -> Check
     requires { ⌜ (q * 8 + 8 ≤ length (now keys)) × (roundAt (now keys) q ≤ 4000000000) × (q < length (now certs)) ⌝ }
     ensures { λ r. ⌜ r ≡ faultAt (now (keys .entry)) (now (certs .entry)) q ⌝ }
 {
-    let case = dag_round_keys::case_at(keys, q);
+    let look = look_place(keys, q);
     let round = round_at(keys, q);
     let cert = Cert(certs[q]);
-    match case {
-        Resolved::Nothing => Check::Failed(Refusal::Number(POINT_MISSING)),
-        Resolved::Case(p) => match p {
+    match look {
+        Look::Never => Check::Failed(Refusal::Number(NEVER_NAMED)),
+        Look::Named(_) => Check::Failed(Refusal::Number(POINT_MISSING)),
+        Look::Resolved(_, p) => match p {
             DagPoint::Valid => Check::Passed,
             DagPoint::TransInvalid => {
                 if cert.has_proof() {

@@ -6,16 +6,14 @@ use mathlib.Core.Bool.{Bool, true, false, not, cond}
 use native.Mathlib.Omega.{arith}
 use lib.Dec.{eqb, leb, ltb}
 use lib.ListN.{length, getD}
-use borrow.Author.Tests.{eq-eqb, ne-eqb, le-leb, lt-leb, lt-ltb, le-ltb, ltb-true, not-true, not-false}
-use Rattle.laws.specs.Test.{byTest}
-use Rattle.models.specs.Tables.{authorAt, statusAt, marksAt, placeAt, Used}
+use borrow.Author.Tests.{eq-eqb, ne-eqb, le-leb, lt-leb, lt-ltb, le-ltb, not-true, not-false}
+use Rattle.models.specs.Tables.{authorAt, statusAt, marksAt, Used}
 use Rattle.models.specs.DagPoint.{caseOf, valid-status}
 use Rattle.models.specs.Cert.{heightOf}
 use Rattle.models.specs.Refusal.{failed, conflicting, notValid}
 use Rattle.models.specs.declared.dag_point.DagPoint.{DagPoint}
 use Rattle.models.specs.declared.dag_point.DagPoint.the-variants.{Valid, TransInvalid, Invalid, IllFormed, NotFound}
-use Rattle.models.specs.declared.dag_point.Resolved.{Resolved}
-use Rattle.models.specs.declared.dag_point.Resolved.the-variants.{Case, Nothing}
+use Rattle.models.specs.declared.dag_point.Resolved.the-variants.{Case}
 use Rattle.models.specs.declared.parts.PointId.{PointId}
 use Rattle.models.specs.declared.refusal.Refusal.{Refusal}
 use Rattle.models.specs.declared.refusal.Refusal.the-variants.{Number}
@@ -24,8 +22,10 @@ use Rattle.models.specs.declared.refusal.Check.the-variants.{Passed, Failed}
 use Rattle.tables_links.specs.Words.{proofRoundAt, proofAuthorAt}
 use Rattle.commit_state.specs.View.{recordOf}
 use Rattle.commit_state.specs.declared.state.State.{State}
+use Rattle.dag_round_keys.specs.Look.{lookFor, look-told}
+use Rattle.dag_round_keys.specs.declared.look.Look.{Look}
+use Rattle.dag_round_keys.specs.declared.look.Look.the-variants.{Resolved, Named, Never}
 use Rattle.dag_round_points.specs.Model.{Ready, idWords}
-use Rattle.dag_round_points.specs.Point.{positionFor}
 use Rattle.back_walk.specs.declared.EnqueuedAnchor.{EnqueuedAnchor}
 use Rattle.dag_round_points.specs.declared.Found.{Found}
 use Rattle.dag_round_points.specs.declared.Found.the-variants.{At, Refused}
@@ -43,29 +43,28 @@ Linked s ks ls os =
     (length ls ≡ length os * 328) × ((q : ℕ) → Used os (s .count) q → authorAt ks q < 32)
     × ((q : ℕ) → Used os (s .count) q → 0 < statusAt ks q → (proofRoundAt ls q < 4294967296) × (proofAuthorAt ls q < 32))
 
--- what a point is refused with in the walk, by its case, its certificate word and its round: nothing if it is valid
-unfoldable pub judgeOf : Resolved → ℕ → ℕ → Check
-judgeOf Nothing c r = failed 14
-judgeOf (Case Valid) c r = Passed
-judgeOf (Case TransInvalid) c r = notValid c r
-judgeOf (Case Invalid) c r = notValid c r
-judgeOf (Case IllFormed) c r = notValid c r
-judgeOf (Case NotFound) c r = notValid c r
-
--- the same of the place q, of the round r
-unfoldable pub judgeAt : List ℕ → List ℕ → ℕ → ℕ → Check
-judgeAt ks cs q r = judgeOf (caseOf (statusAt ks q)) (getD cs q 0) r
+-- what a resolved point is refused with in the walk, by its case, its certificate word and its round: nothing if it is valid
+unfoldable pub judgeOf : DagPoint → ℕ → ℕ → Check
+judgeOf Valid c r = Passed
+judgeOf TransInvalid c r = notValid c r
+judgeOf Invalid c r = notValid c r
+judgeOf IllFormed c r = notValid c r
+judgeOf NotFound c r = notValid c r
 
 -- the place q, unless it is refused
 unfoldable pub neededAt : ℕ → Check → Found
 neededAt q Passed = At q
 neededAt q (Failed r) = Refused r
 
--- the point with the id i, as the walk needs it
+-- a point of the round r, as the walk needs it, by its look-up (02, N3: 14 "named only", 25 "never named")
+unfoldable pub neededOf : Look → List ℕ → ℕ → Found
+neededOf (Resolved q p) cs r = neededAt q (judgeOf p (getD cs q 0) r)
+neededOf (Named q) cs r = Refused (Number 14)
+neededOf Never cs r = Refused (Number 25)
+
+-- the point with the id i
 unfoldable pub needed : State → List ℕ → List ℕ → List ℕ → PointId → Found
-needed s ks cs os i =
-    let at = positionFor ks os (s .count) (idWords i) in
-    cond (ltb at (s .count)) (neededAt (placeAt os at) (judgeAt ks cs (placeAt os at) (i .round .0))) (Refused (Number 14))
+needed s ks cs os i = neededOf (lookFor ks os (s .count) (idWords i)) cs (i .round .0)
 
 -- a needed point as a proof: marked as such, with a previous point
 unfoldable pub proofOf : List ℕ → List ℕ → Found → Found
@@ -113,24 +112,24 @@ stepAt s ks ls cs os low x i =
 
 -- ---- the code's steps
 
-module _ (ks cs : List ℕ) (q r : ℕ) (x : Resolved) (is : x ≡ caseOf (statusAt ks q)) where
-  pub judge-by : (y : Resolved) → x ≡ y → (c : Check) → c ≡ judgeOf y (getD cs q 0) r → c ≡ judgeAt ks cs q r
-  unfolding judgeAt
-  judge-by y e c h = h ∙ ap (λ z. judgeOf z (getD cs q 0) r) (sym e ∙ is)
+pub judge-by : (p y : DagPoint) → p ≡ y → (c r : ℕ) (k : Check) → k ≡ judgeOf y c r → k ≡ judgeOf p c r
+judge-by p y e c r k h = h ∙ ap (λ z. judgeOf z c r) (sym e)
 
-  pub judge-case : (p y : DagPoint) → x ≡ Case p → p ≡ y → (c : Check) → c ≡ judgeOf (Case y) (getD cs q 0) r → c ≡ judgeAt ks cs q r
-  judge-case p y e f = judge-by (Case y) (e ∙ ap Case f)
-
-module _ (s : State) (ks cs os : List ℕ) (i : PointId) (w : List ℕ) (words : w ≡ idWords i) (x : ℕ) (at : x ≡ positionFor ks os (s .count) w) where
-  -- no point has the id
-  pub needed-not : s .count ≤ x → Refused (Number 14) ≡ needed s ks cs os i
+module _ (s : State) (ks cs os : List ℕ) (i : PointId) (w : List ℕ) (words : w ≡ idWords i) (l : Look) (is : l ≡ lookFor ks os (s .count) w) where
+  -- by the look-up's answer
+  pub needed-by : (m : Look) → l ≡ m → (f : Found) → f ≡ neededOf m cs (i .round .0) → f ≡ needed s ks cs os i
   unfolding needed
-  needed-not l = rw (← words, ← at, le-ltb x (s .count) l) refl
+  needed-by m e f h = h ∙ ap (λ (z : Look). neededOf z cs (i .round .0)) (sym e ∙ (is ∙ ap (lookFor ks os (s .count)) words))
 
-  -- the point is judged
-  pub needed-by : x < s .count → (q : ℕ) → q ≡ placeAt os x → (c d : Check) → c ≡ judgeAt ks cs q (i .round .0) → c ≡ d → neededAt q d ≡ needed s ks cs os i
-  unfolding needed
-  needed-by l q e c d f g = rw (← words, ← at, lt-ltb x (s .count) l, ← e, sym f ∙ g) refl
+  module _ (q : ℕ) (p : DagPoint) (e : l ≡ Resolved q p) where
+    -- a resolved point's certificate word can be read
+    pub needed-inside : Walkable s ks cs os → (q < length cs) × (q < 4096)
+    needed-inside (r, k) = let (x, y, z) = look-told ks os (s .count) w (Resolved q p) (sym is ∙ e) in (omega (arith, r .3 _ x, y, k), omega (arith, r .3 _ x, y, r .1))
+
+    -- it is judged
+    pub needed-judged : (c d : Check) → c ≡ judgeOf p (getD cs q 0) (i .round .0) → c ≡ d → neededAt q d ≡ needed s ks cs os i
+    unfolding neededOf
+    needed-judged c d f g = needed-by (Resolved q p) e _ (ap (neededAt q) (sym g ∙ f))
 
 -- a used place fits in 16 bits
 pub place-fits : (s : State) (ks cs os : List ℕ) (q : ℕ) → Walkable s ks cs os → Used os (s .count) q → q < 65536
@@ -153,14 +152,13 @@ module _ (ks os : List ℕ) (n : ℕ) where
       by true = tt
       by false = tt
 
-  checked-stands : (q c r : ℕ) (x : Resolved) → caseOf (statusAt ks q) ≡ x → Used os n q → Standing ks os n (neededAt q (judgeOf x c r))
+  checked-stands : (q c r : ℕ) (p : DagPoint) → caseOf (statusAt ks q) ≡ Case p → Used os n q → Standing ks os n (neededAt q (judgeOf p c r))
   unfolding judgeOf neededAt
-  checked-stands q c r Nothing e u = tt
-  checked-stands q c r (Case Valid) e u = (u, valid-status (statusAt ks q) e)
-  checked-stands q c r (Case TransInvalid) e u = invalid-stands q c r
-  checked-stands q c r (Case Invalid) e u = invalid-stands q c r
-  checked-stands q c r (Case IllFormed) e u = invalid-stands q c r
-  checked-stands q c r (Case NotFound) e u = invalid-stands q c r
+  checked-stands q c r Valid e u = (u, valid-status (statusAt ks q) e)
+  checked-stands q c r TransInvalid e u = invalid-stands q c r
+  checked-stands q c r Invalid e u = invalid-stands q c r
+  checked-stands q c r IllFormed e u = invalid-stands q c r
+  checked-stands q c r NotFound e u = invalid-stands q c r
 
   -- nor does a proof that is none
   proof-stands : (ls : List ℕ) (f : Found) → Standing ks os n f → Standing ks os n (proofOf ks ls f)
@@ -175,12 +173,13 @@ module _ (ks os : List ℕ) (n : ℕ) where
 
 module _ (s : State) (ks cs os : List ℕ) (i : PointId) where
   needed-stands : Standing ks os (s .count) (needed s ks cs os i)
-  unfolding needed judgeAt
-  needed-stands =
-      let at = positionFor ks os (s .count) (idWords i) in
-      byTest (ltb at (s .count))
-      (λ y. rw y (checked-stands ks os (s .count) (placeAt os at) (getD cs (placeAt os at) 0) (i .round .0) _ refl (at, ltb-true _ _ y, refl)))
-      (λ y. rw y tt)
+  unfolding needed neededOf
+  needed-stands = by (lookFor ks os (s .count) (idWords i)) refl
+    where
+      by : (l : Look) → lookFor ks os (s .count) (idWords i) ≡ l → Standing ks os (s .count) (neededOf l cs (i .round .0))
+      by (Resolved q p) e = let (x, y, z) = look-told ks os (s .count) (idWords i) (Resolved q p) e in checked-stands ks os (s .count) q (getD cs q 0) (i .round .0) p z (_, x, y)
+      by (Named q) e = tt
+      by Never e = tt
 
   -- the place of a needed point
   pub needed-at : (f : Found) → f ≡ needed s ks cs os i → (q : ℕ) → f ≡ At q → Used os (s .count) q × (statusAt ks q ≡ 1)

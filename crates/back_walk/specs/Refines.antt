@@ -7,28 +7,34 @@ use mathlib.Core.Option.{none, some}
 use native.Mathlib.Omega.{arith}
 use lib.Dec.{eqb, leb, ltb}
 use lib.ListN.{getD}
-use borrow.Author.Tests.{eq-eqb, ne-eqb, leb-true, ltb-true}
+use borrow.Author.Tests.{eq-eqb, ne-eqb, leb-true}
 use Rattle.laws.specs.Test.{byTest, sameOr, and-l, and-r, cond-yes, cond-no}
 use Rattle.spec.specs.Ids.{Id, Ref}
 use Rattle.spec.specs.Store as store
-use Rattle.spec.specs.Store.{Point, Store, resolved, find, under, previous}
+use Rattle.spec.specs.Store.{Point, Store, resolved, look, under, previous}
 use Rattle.spec.specs.Paths.{certified}
 use Rattle.spec.specs.Rules.{countsAsStarted}
 use Rattle.spec.specs.WellFormed.{Wf, countsAsStarted-elim}
 use Rattle.spec.specs.Chain as chain
-use Rattle.spec.specs.Chain.{number, Out, bad, good, then, Onward, checkedAs, checked, usableInWalk, readyValidPoint, enqueue, toAnchor, toPrevious, atUsed}
+use Rattle.spec.specs.Chain.{number, Out, bad, good, then, Onward, checkedAs, checkedBy, usableInWalk, readyValidPoint, enqueue, toAnchor, toPrevious, atUsed}
 use Rattle.models.specs.Cert.{bitOf, flagsOf, heightOf}
 use Rattle.models.specs.Digest.{Fit, words, digestAt}
-use Rattle.models.specs.Tables.{roundAt, authorAt, statusAt, marksAt, placeAt, Used, targetAt, used-is}
+use Rattle.models.specs.Tables.{roundAt, authorAt, statusAt, marksAt, Used, targetAt, used-is}
 use Rattle.models.specs.Parts.{idOf}
-use Rattle.models.specs.DagPoint.{caseOf}
+use Rattle.models.specs.DagPoint.{caseOf, isValid, valid-is}
 use Rattle.models.specs.Refusal.{refusalOf, unlessFailed, checkedAs-not}
+use Rattle.models.specs.declared.dag_point.DagPoint.{DagPoint}
+use Rattle.models.specs.declared.dag_point.DagPoint.the-variants.{Valid, TransInvalid, Invalid, IllFormed, NotFound}
+use Rattle.models.specs.declared.dag_point.Resolved.the-variants.{Case}
 use Rattle.models.specs.declared.parts.PointId.{PointId}
 use Rattle.models.specs.declared.refusal.Refusal.the-variants.{Number}
 use Rattle.models.specs.declared.refusal.Check.{Check}
 use Rattle.models.specs.declared.refusal.Check.the-variants.{Passed, Failed}
 use Rattle.tables_links.specs.Words.{proofRoundAt}
 use Rattle.dag_round_keys.specs.Id as id
+use Rattle.dag_round_keys.specs.Look.{lookFor, look-told}
+use Rattle.dag_round_keys.specs.declared.look.Look.{Look}
+use Rattle.dag_round_keys.specs.declared.look.Look.the-variants.{Resolved, Named, Never}
 use Rattle.tables_ids.specs.Ids.{idHolds}
 use Rattle.commit_state.specs.View.{optionOf, pointAt, resolutionAt, givenAt, refsFrom, recordOf, roundOf}
 use Rattle.commit_state.specs.Numbers.{roundsHold}
@@ -41,15 +47,15 @@ use Rattle.tables_test.specs.Whole.{sized}
 use Rattle.tables_test.specs.Refines.{Started, counted}
 use Rattle.dag_round_points.specs.Model.{idWords}
 use Rattle.dag_round_points.specs.Tests.{ready}
-use Rattle.dag_round_points.specs.Point.{positionFor, found-round}
-use Rattle.dag_round_points.specs.RefinesPoint.{find-is, words-id}
+use Rattle.dag_round_points.specs.Point.{found-round}
+use Rattle.dag_round_points.specs.RefinesPoint.{lookOf, look-is, words-id}
 use Rattle.back_walk.specs.declared.EnqueuedAnchor.{EnqueuedAnchor}
 use Rattle.dag_round_points.specs.declared.Found.{Found}
 use Rattle.dag_round_points.specs.declared.Found.the-variants.{At, Refused}
 use Rattle.back_walk.specs.declared.Step.{Step}
 use Rattle.back_walk.specs.declared.Step.the-variants.{Pass, End, Bad, Anchor}
 use Rattle.back_walk.specs.Words.{idFrom, hasPrevious, previousId, topId}
-use Rattle.back_walk.specs.Model.{Walkable, Linked, judgeOf, judgeAt, neededAt, needed, needed-at, proofOf, proofAt, anchorOf, anchorAt, usedAt, atProof, markedStep, stepAt}
+use Rattle.back_walk.specs.Model.{Walkable, Linked, judgeOf, neededAt, neededOf, needed, needed-at, proofOf, proofAt, anchorOf, anchorAt, usedAt, atProof, markedStep, stepAt}
 
 -- the place of a needed point, or what it is refused with
 unfoldable pub placeOr : Found → Out ℕ
@@ -137,16 +143,17 @@ unfolding placeOr neededAt unlessFailed
 place-is q Passed = refl
 place-is q (Failed r) = refl
 
--- 01's verdict by the status and the certificate word
-checkedAs-is : (st c r q : ℕ) → st ≤ 5 → checkedAs (ltb 0 st) (eqb st 1) (ltb 0 (heightOf c)) r q ≡ unlessFailed (judgeOf (caseOf st) c r) (good q)
-unfolding checkedAs unlessFailed refusalOf caseOf judgeOf
-checkedAs-is zero c r q l = refl
-checkedAs-is (suc zero) c r q l = refl
-checkedAs-is (suc (suc zero)) c r q l = checkedAs-not c r q
-checkedAs-is (suc (suc (suc zero))) c r q l = checkedAs-not c r q
-checkedAs-is (suc (suc (suc (suc zero)))) c r q l = checkedAs-not c r q
-checkedAs-is (suc (suc (suc (suc (suc zero))))) c r q l = checkedAs-not c r q
-checkedAs-is (suc (suc (suc (suc (suc (suc n)))))) c r q l = absurd (omega arith)
+-- 01's verdict on a resolved point, by its case and its certificate word
+checkedAs-is : (st : ℕ) (p : DagPoint) (c r q : ℕ) → caseOf st ≡ Case p → checkedAs (eqb st 1) (ltb 0 (heightOf c)) r q ≡ unlessFailed (judgeOf p c r) (good q)
+unfolding checkedAs unlessFailed judgeOf isValid
+checkedAs-is st p c r q e = ap (λ (b : Bool). checkedAs b (ltb 0 (heightOf c)) r q) (sym (valid-is st) ∙ ap isValid e) ∙ by p
+  where
+    by : (p : DagPoint) → checkedAs (isValid (Case p)) (ltb 0 (heightOf c)) r q ≡ unlessFailed (judgeOf p c r) (good q)
+    by Valid = refl
+    by TransInvalid = checkedAs-not c r q
+    by Invalid = checkedAs-not c r q
+    by IllFormed = checkedAs-not c r q
+    by NotFound = checkedAs-not c r q
 
 -- the lowest bit of the marks
 mark-is : (m : ℕ) → bitOf 1 m ≡ not (eqb (m % 2) 0)
@@ -244,30 +251,18 @@ module _ (s : State) (ks ls cs os : List ℕ) (fk : Fit ks) (fl : Fit ls) (h : c
   -- ---- a needed point
 
   module _ (i : PointId) (fi : Fit (idWords i)) where
-    -- the position of the id's point
-    abbrev pos : ℕ
-    pos = positionFor ks os n (idWords i)
-
-    find-by : find v (idOf i) ≡ cond (ltb pos n) (some (placeAt os pos)) none
-    find-by = ap (find v) (sym (words-id i)) ∙ find-is s ks ls cs os fk fl h (idWords i) fi
-
-    -- the point is of the id's round
-    round-by : pos < n → roundAt ks (placeAt os pos) ≡ i .round .0
-    unfolding idWords
-    round-by l = found-round ks os n (idWords i) l
-
     need-is : readyValidPoint v (idOf i) ≡ placeOr (needed s ks cs os i)
-    unfolding readyValidPoint checked usableInWalk needed judgeAt placeOr refusalOf
-    need-is =
-        byTest (ltb pos n)
-        (λ y. let q = placeAt os pos in
-        let l = ltb-true pos n y in
-        let u : Used os n q = (pos, l, refl) in
-        let found : find v (idOf i) ≡ some q = find-by ∙ rw y refl in
-        rw (found, readyValidPoint, y)
-        ((λ j. checkedAs (resolved-at q u j) (eqb (status-at q u j) 1) (certified-at q u j) ((round-at q u ∙ round-by l) j) q)
-        ∙ (checkedAs-is (statusAt ks q) (getD cs q 0) (i .round .0) q (status-most q u) ∙ sym (place-is q (judgeOf (caseOf (statusAt ks q)) (getD cs q 0) (i .round .0))))))
-        (λ y. let lost : find v (idOf i) ≡ none = find-by ∙ rw y refl in rw (lost, readyValidPoint, y) refl)
+    unfolding readyValidPoint checkedBy usableInWalk needed neededOf placeOr refusalOf lookOf idWords
+    need-is = ap (checkedBy v usableInWalk) (ap (look v) (sym (words-id i)) ∙ sym (look-is s ks ls cs os fk fl h (idWords i) fi)) ∙ by (lookFor ks os n (idWords i)) refl
+      where
+        by : (l : Look) → lookFor ks os n (idWords i) ≡ l → checkedBy v usableInWalk (lookOf l) ≡ placeOr (neededOf l cs (i .round .0))
+        by (Resolved q p) e =
+            let (x, y, z) = look-told ks os n (idWords i) (Resolved q p) e in
+            let u : Used os n q = (_, x, y) in
+            (λ j. checkedAs (eqb (status-at q u j) 1) (certified-at q u j) ((round-at q u ∙ (ap (roundAt ks) (sym y) ∙ found-round ks os n (idWords i) x)) j) q)
+            ∙ (checkedAs-is (statusAt ks q) p (getD cs q 0) (i .round .0) q z ∙ sym (place-is q (judgeOf p (getD cs q 0) (i .round .0))))
+        by (Named q) e = refl
+        by Never e = refl
 
   -- ---- a round
 

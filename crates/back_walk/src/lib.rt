@@ -5,17 +5,19 @@ ghost use Prim.Native.Nat.{_+_, _*_, _<_, _≤_};
 ghost use lib.ListN.{length};
 ghost use Rattle.models.specs.Tables.{Used};
 ghost use Rattle.back_walk.specs.Words.{idFrom, hasPrevious, previousId, topId, Placed, Topped};
-ghost use Rattle.back_walk.specs.Model.{judgeAt, needed, proofAt, anchorAt, usedAt, stepAt, Walkable, Linked};
+ghost use Rattle.back_walk.specs.Model.{judgeOf, needed, proofAt, anchorAt, usedAt, stepAt, Walkable, Linked};
 use commit_state::state::State;
+use dag_round_keys::look::Look;
+use dag_round_keys::look::look_up;
 use dag_round_points::Found;
 use models::cert::Cert;
 use models::dag_point::DagPoint;
-use models::dag_point::Resolved;
 use models::parts::Digest;
 use models::parts::PointId;
 use models::parts::Round;
 use models::refusal::BROKEN_CHAIN;
 use models::refusal::Check;
+use models::refusal::NEVER_NAMED;
 use models::refusal::POINT_MISSING;
 use models::refusal::Refusal;
 use models::refusal::not_valid;
@@ -81,42 +83,36 @@ pub fn top_proof(links: &[u64], q: usize) -> PointId
     id_from(links, q * 328 + 3, Round(round), author)
 }
 
-// What the point at place q, of this round, is refused with in the walk, which needs a valid one: 14, 13 or 15.
-fn judge(keys: &[u64], certs: &[u64], q: usize, round: Round) -> Check
-    requires { ⌜ (q * 8 + 8 ≤ length (now keys)) × (q < length (now certs)) ⌝ }
-    ensures { λ r. ⌜ r ≡ judgeAt (now (keys .entry)) (now (certs .entry)) q (round .0) ⌝ }
+// What a resolved point of this round is refused with in the walk, which needs a valid one: 13 or 15.
+fn judge(cert: Cert, point: DagPoint, round: Round) -> Check
+    ensures { λ r. ⌜ r ≡ judgeOf point (cert .0) (round .0) ⌝ }
 {
-    let case = dag_round_keys::case_at(keys, q);
-    let cert = Cert(certs[q]);
-    match case {
-        Resolved::Nothing => Check::Failed(Refusal::Number(POINT_MISSING)),
-        Resolved::Case(p) => match p {
-            DagPoint::Valid => Check::Passed,
-            DagPoint::TransInvalid => not_valid(cert, round),
-            DagPoint::Invalid => not_valid(cert, round),
-            DagPoint::IllFormed => not_valid(cert, round),
-            DagPoint::NotFound => not_valid(cert, round),
-        },
+    match point {
+        DagPoint::Valid => Check::Passed,
+        DagPoint::TransInvalid => not_valid(cert, round),
+        DagPoint::Invalid => not_valid(cert, round),
+        DagPoint::IllFormed => not_valid(cert, round),
+        DagPoint::NotFound => not_valid(cert, round),
     }
 }
 
-// The point with this id, as the walk needs it (`ready_valid_point`).
+// The point with this id, as the walk needs it (`ready_valid_point`): 14 if it is named only, 25 if it was never named.
 fn ready_valid_point(s: State, keys: &[u64], certs: &[u64], order: &[u64], id: PointId) -> Found
     requires { ⌜ Walkable s (now keys) (now certs) (now order) ⌝ }
     ensures { λ r. ⌜ r ≡ needed s (now (keys .entry)) (now (certs .entry)) (now (order .entry)) id ⌝ }
 {
-    let n = s.count;
     let words = dag_round_points::id_words(id);
-    let at = dag_round_keys::find_point(keys, order, n, &words);
-    if n <= at {
-        return Found::Refused(Refusal::Number(POINT_MISSING));
-    }
-    let q = dag_round_keys::place(order, n, at);
-    let round = id.round;
-    let check = judge(keys, certs, q, round);
-    match check {
-        Check::Passed => Found::At(q),
-        Check::Failed(r) => Found::Refused(r),
+    let look = look_up(keys, order, s.count, &words);
+    match look {
+        Look::Never => Found::Refused(Refusal::Number(NEVER_NAMED)),
+        Look::Named(_) => Found::Refused(Refusal::Number(POINT_MISSING)),
+        Look::Resolved(q, point) => {
+            let check = judge(Cert(certs[q]), point, id.round);
+            match check {
+                Check::Passed => Found::At(q),
+                Check::Failed(r) => Found::Refused(r),
+            }
+        }
     }
 }
 

@@ -4,3 +4,4 @@ pub mod Key
 pub mod Sorted
 pub mod Digest
 pub mod Id
+pub mod Look

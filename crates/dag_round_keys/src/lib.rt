@@ -16,6 +16,8 @@ ghost use Rattle.models.specs.DagPoint.{caseOf};
 use models::dag_point::Resolved;
 use models::dag_point::of_status;
 
+pub mod look;
+
 // The used place at position i of the order.
 pub fn place(order: &[u64], n: usize, i: usize) -> usize
     requires { ⌜ (i < n) × (n ≤ length (now order)) ⌝ }

@@ -1,5 +1,5 @@
 -- The place that is found for an id is the one of document 01.
-use Prim.Native.Nat.{ℕ, _<_}
+use Prim.Native.Nat.{ℕ, zero, suc, _<_, _≤_}
 use mathlib.Core.Path.{_≡_, refl, sym, _∙_, ap}
 use mathlib.Core.List.{List}
 use mathlib.Core.Bool.{Bool, true, false, _&&_, cond}
@@ -11,20 +11,26 @@ use borrow.Author.Tests.{ltb-true, ltb-false}
 use Rattle.laws.specs.Test.{byTest, clash, and-l}
 use Rattle.laws.specs.Scan.{first-hit, first-miss, lowest, lowest-some, lowest-none}
 use Rattle.spec.specs.Ids.{Id, sameId}
-use Rattle.spec.specs.Store.{Point, Store, isNamed, find}
+use Rattle.spec.specs.Store.{Point, Store, Look, resolvedAt, namedAt, never, resolved, isNamed, find, lookAt, look}
 use Rattle.spec.specs.Rules.{countsAsStarted}
 use Rattle.spec.specs.Chain.{Out, then, placeOf}
 use Rattle.spec.specs.Calls.{atId}
+use Rattle.spec.specs.Walk.{place-at}
 use Rattle.models.specs.Parts.{idOf}
 use Rattle.models.specs.Digest.{Fit, words, digestAt}
-use Rattle.models.specs.Tables.{roundAt, authorAt, digestOf, placeAt, Used}
+use Rattle.models.specs.Tables.{roundAt, authorAt, digestOf, statusAt, placeAt, Used}
+use Rattle.models.specs.DagPoint.{caseOf}
 use Rattle.models.specs.declared.parts.PointId.{PointId}
 use Rattle.dag_round_keys.specs.Key.{key, same, same-eq}
 use Rattle.dag_round_keys.specs.Sorted.{pointAt, sorted-key}
 use Rattle.dag_round_keys.specs.Digest.{same-is}
+use Rattle.dag_round_keys.specs.Look.{lookAs, lookPlace, lookFor}
+use Rattle.dag_round_keys.specs.declared.look.Look as keys
+use Rattle.dag_round_keys.specs.declared.look.Look.the-variants.{Resolved, Named, Never}
 use Rattle.commit_state.specs.View as state
 use Rattle.commit_state.specs.declared.state.State.{State}
 use Rattle.tables_test.specs.View.{view, seen-used, seen-named}
+use Rattle.tables_test.specs.Edges.{resolved-is}
 use Rattle.tables_test.specs.Whole.{places-is}
 use Rattle.tables_test.specs.Refines.{Started, counted}
 use Rattle.dag_round_points.specs.Model.{idWords, idCode}
@@ -42,9 +48,26 @@ turned false b c = refl
 
 -- what follows the search of a place
 then-is : {A : Type 0} (v : Store) (i : Id) (b : Bool) (q : ℕ) (f : ℕ → Out A) → find v i ≡ cond b (some q) none → then (placeOf v i) f ≡ unless (cond b 0 9) (f q)
-unfolding placeOf unless
-then-is v i true q f e = rw (e, placeOf, then) refl
-then-is v i false q f e = rw (e, placeOf, then) refl
+unfolding unless
+then-is v i true q f e = ap (λ (o : Out ℕ). then o f) (place-at v i) ∙ rw e refl
+then-is v i false q f e = ap (λ (o : Out ℕ). then o f) (place-at v i) ∙ rw e refl
+
+-- the answer of the code's look-up as the definitions'
+unfoldable pub lookOf : keys.Look → Look
+lookOf (Resolved q p) = resolvedAt q
+lookOf (Named q) = namedAt q
+lookOf Never = never
+
+-- of a place, by its status
+look-status : (q st : ℕ) → st ≤ 5 → lookOf (lookAs (caseOf st) q) ≡ elim (ltb 0 st) [ true ↦ resolvedAt q | false ↦ namedAt q ]
+unfolding lookOf lookAs caseOf
+look-status q zero l = refl
+look-status q (suc zero) l = refl
+look-status q (suc (suc zero)) l = refl
+look-status q (suc (suc (suc zero))) l = refl
+look-status q (suc (suc (suc (suc zero)))) l = refl
+look-status q (suc (suc (suc (suc (suc zero))))) l = refl
+look-status q (suc (suc (suc (suc (suc (suc n)))))) l = absurd (omega arith)
 
 -- the id whose words are w
 abbrev pub idFor : List ℕ → Id
@@ -62,6 +85,13 @@ module _ (s : State) (ks ls cs os : List ℕ) (fk : Fit ks) (fl : Fit ls) (h : c
   -- what the tables hold
   t : Started s ks ls cs os
   t = counted s ks ls cs os fk fl h
+
+  -- what the look-up says of a used place
+  pub look-at-is : (q : ℕ) → Used os n q → lookOf (lookPlace ks q) ≡ lookAt v q
+  unfolding view lookAt lookPlace
+  look-at-is q u =
+      look-status q (statusAt ks q) (t .facts .words q u .named .status)
+      ∙ ap (λ (b : Bool). elim b [ true ↦ resolvedAt q | false ↦ namedAt q ]) (sym (ap resolved (seen-used ks ls cs os n q u) ∙ resolved-is ks ls cs q))
 
   module _ (w : List ℕ) (fw : Fit w) where
     -- the place q has the id's key and author
@@ -103,6 +133,14 @@ module _ (s : State) (ks ls cs os : List ℕ) (fk : Fit ks) (fl : Fit ls) (h : c
             let w = first-hit (λ p. matches (placeAt os p)) n k in
             rw y (ap some (sym d ∙ ap (placeAt os) (sorted-key ks os n x at (t .facts .sorted) l k (ap (key ks) d ∙ (same-eq _ _ (and-l _ _ m) ∙ sym (same-eq _ _ (and-l _ _ w))))))))
             (λ y. absurd (clash (ap matches d ∙ m) (first-miss (λ p. matches (placeAt os p)) n x (omega (arith, l, ltb-false at n y)))))
+
+    -- the look-up is 01's
+    pub look-is : lookOf (lookFor ks os n w) ≡ look v (idFor w)
+    unfolding lookFor look lookOf
+    look-is =
+        byTest (ltb at n)
+        (λ y. rw (y, find-is, look, y) (look-at-is (placeAt os at) (at, ltb-true at n y, refl)))
+        (λ y. rw (y, find-is, look, y) refl)
 
 -- an id's words are its own
 pub words-id : (i : PointId) → idFor (idWords i) ≡ idOf i

@@ -7,11 +7,14 @@ ghost use Rattle.laws.specs.Scan.{those};
 ghost use Rattle.models.specs.Refusal.{numbered};
 ghost use Rattle.models.specs.Tables.{Inside};
 ghost use Rattle.dag_round_keys.specs.Sorted.{Sorted};
+ghost use Rattle.dag_round_keys.specs.Look.{lookFor};
 ghost use Rattle.dag_round_order.specs.Free.{firstFree};
 ghost use Rattle.dag_round_points.specs.Model.{Ready, idWords, isVersion, versionAt, idCode, tableCode, nameCode, taken, namedState, namedKeys, namedCerts, namedOrder};
 ghost use Rattle.dag_round_points.specs.Codes.{found};
-ghost use Rattle.dag_round_points.specs.Point.{pointCode, placeFor};
+ghost use Rattle.dag_round_points.specs.Point.{pointCode, placeFor, foundBy};
 use commit_state::state::State;
+use dag_round_keys::look::Look;
+use dag_round_keys::look::look_up;
 use models::parts::PointId;
 use models::parts::Round;
 use models::refusal::Check;
@@ -166,20 +169,30 @@ pub fn name_point(
     named(s)
 }
 
-// The place of the point that an id names, unless a call that names it is refused: the tests of the id, then whether it is named.
+// The place of the point with this id, resolved or not.
+fn find_id(keys: &[u64], order: &[u64], n: usize, id: PointId) -> Found
+    requires { ⌜ (length (now keys) ≡ length (now order) * 8) × (n ≤ length (now order)) × Inside (now order) n (length (now order)) ⌝ }
+    requires { ⌜ Sorted (now keys) (now order) n ⌝ }
+    ensures { λ r. ⌜ r ≡ foundBy (lookFor (now (keys .entry)) (now (order .entry)) n (idWords id)) ⌝ }
+{
+    let words = id_words(id);
+    let look = look_up(keys, order, n, &words);
+    match look {
+        Look::Resolved(q, _) => Found::At(q),
+        Look::Named(q) => Found::At(q),
+        Look::Never => Found::Refused(Refusal::Number(NOT_NAMED)),
+    }
+}
+
+// The place of the point that an id names, unless a call that names it is refused: the tests of the id, then whether it is named. Only the
+// tests take the state, so that no copy of it is handed on.
 pub fn find_named(s: State, keys: &[u64], order: &[u64], id: PointId) -> Found
     requires { ⌜ Ready s (now keys) (now order) ⌝ }
     ensures { λ r. ⌜ r ≡ found (pointCode s (now (keys .entry)) (now (order .entry)) id) (placeFor s (now (keys .entry)) (now (order .entry)) id) ⌝ }
 {
     let check = check_id(s, id);
-    if let Check::Failed(why) = check {
-        return Found::Refused(why);
+    match check {
+        Check::Failed(why) => Found::Refused(why),
+        Check::Passed => find_id(keys, order, s.count, id),
     }
-    let words = id_words(id);
-    let n = s.count;
-    let at = dag_round_keys::find_point(keys, order, n, &words);
-    if at < n {
-        return Found::At(dag_round_keys::place(order, n, at));
-    }
-    Found::Refused(Refusal::Number(NOT_NAMED))
 }

@@ -12,14 +12,16 @@ use Rattle.spec.specs.Store as store
 use Rattle.spec.specs.Store.{Point, Store, resolved}
 use Rattle.spec.specs.Paths.{height, certified, proved}
 use Rattle.spec.specs.Inspect.{of, isFound, isValid, isProved, isTransInvalid, isInvalid, isIllFormed, isTrusted}
+use Rattle.spec.specs.Inspection.{found-at, proved-at}
 use Rattle.models.specs.Cert.{bitOf, flagsOf, heightOf, hasProof}
 use Rattle.models.specs.DagPoint.{caseOf}
 use Rattle.models.specs.Digest.{Fit}
 use Rattle.models.specs.Tables.{authorAt, statusAt, marksAt, Used}
 use Rattle.models.specs.declared.dag_point.DagPoint.{DagPoint}
 use Rattle.models.specs.declared.dag_point.DagPoint.the-variants.{Valid, TransInvalid, Invalid, IllFormed, NotFound}
-use Rattle.models.specs.declared.dag_point.Resolved.{Resolved}
-use Rattle.models.specs.declared.dag_point.Resolved.the-variants.{Case, Nothing}
+use Rattle.dag_round_keys.specs.Look.{lookAs, lookPlace}
+use Rattle.dag_round_keys.specs.declared.look.Look.{Look}
+use Rattle.dag_round_keys.specs.declared.look.Look.the-variants.{Resolved, Named, Never}
 use Rattle.commit_state.specs.View.{pointAt, resolutionAt}
 use Rattle.commit_state.specs.declared.state.State.{State}
 use Rattle.tables_test.specs.View.{view}
@@ -34,7 +36,7 @@ use Rattle.inspector_counters.specs.declared.tests.Passed.{Passed}
 unfoldable pub versionAt : List ℕ → List ℕ → ℕ → Version
 versionAt ks cs q =
     let c = getD cs q 0 in
-    record { case = caseOf (statusAt ks q); certified = ltb 0 (heightOf c); proved = hasProof c; cause = bitOf 4 (marksAt ks q) }
+    record { look = lookPlace ks q; certified = ltb 0 (heightOf c); proved = hasProof c; cause = bitOf 4 (marksAt ks q) }
 
 -- no test passed
 abbrev pub nothing : Passed
@@ -48,12 +50,14 @@ inspectCase Invalid g p m = record { found = true; valid = false; proved = p; «
 inspectCase IllFormed g p m = record { found = true; valid = false; proved = p; «trans_invalid» = false; invalid = false; «ill_formed» = not g; trusted = false }
 inspectCase NotFound g p m = record { found = false; valid = false; proved = p; «trans_invalid» = false; invalid = false; «ill_formed» = false; trusted = false }
 
-unfoldable pub inspectBy : Resolved → Bool → Bool → Bool → Passed
-inspectBy (Case x) g p m = inspectCase x g p m
-inspectBy Nothing g p m = nothing
+-- by what the look-up says of it
+unfoldable pub inspectBy : Look → Bool → Bool → Bool → Passed
+inspectBy (Resolved q x) g p m = inspectCase x g p m
+inspectBy (Named q) g p m = nothing
+inspectBy Never g p m = nothing
 
 unfoldable pub inspected : Version → Passed
-inspected x = inspectBy (x .case) (x .certified) (x .proved) (x .cause)
+inspected x = inspectBy (x .look) (x .certified) (x .proved) (x .cause)
 
 -- one of them
 unfoldable pub chosen : PointTest → Passed → Bool
@@ -72,10 +76,10 @@ passes ks cs a w q = eqb (authorAt ks q) a && chosen w (inspected (versionAt ks 
 -- ---- the steps of the code
 
 -- what is read, from its parts
-pub version-is : (ks cs : List ℕ) (q : ℕ) (x : Resolved) (g p : Bool) → x ≡ caseOf (statusAt ks q) → g ≡ ltb 0 (heightOf (getD cs q 0)) → p ≡ hasProof (getD cs q 0)
-    → record { case = x; certified = g; proved = p; cause = bitOf 4 (marksAt ks q) } ≡ versionAt ks cs q
+pub version-is : (ks cs : List ℕ) (q : ℕ) (x : Look) (g p : Bool) → x ≡ lookPlace ks q → g ≡ ltb 0 (heightOf (getD cs q 0)) → p ≡ hasProof (getD cs q 0)
+    → record { look = x; certified = g; proved = p; cause = bitOf 4 (marksAt ks q) } ≡ versionAt ks cs q
 unfolding versionAt
-version-is ks cs q x g p d e h = λ i. record { case = d i; certified = e i; proved = h i; cause = bitOf 4 (marksAt ks q) }
+version-is ks cs q x g p d e h = λ i. record { look = d i; certified = e i; proved = h i; cause = bitOf 4 (marksAt ks q) }
 
 -- the tests of each case, from what none passes
 module _ (n : Passed) (x : DagPoint) (g p m : Bool) (e : n ≡ nothing) where
@@ -99,15 +103,10 @@ module _ (n : Passed) (x : DagPoint) (g p m : Bool) (e : n ≡ nothing) where
   unfolding inspectCase
   case-not-found d = rw (e, d) refl
 
-module _ (x : Version) (c : Resolved) (e : c ≡ x .case) where
-  -- a resolved point, and one that is only named
-  pub inspect-case : (p : DagPoint) (r : Passed) → c ≡ Case p → r ≡ inspectCase p (x .certified) (x .proved) (x .cause) → r ≡ inspected x
-  unfolding inspected inspectBy
-  inspect-case p r d h = h ∙ ap (λ (y : Resolved). inspectBy y (x .certified) (x .proved) (x .cause)) (sym d ∙ e)
-
-  pub inspect-none : (r : Passed) → c ≡ Nothing → r ≡ nothing → r ≡ inspected x
-  unfolding inspected inspectBy
-  inspect-none r d h = h ∙ ap (λ (y : Resolved). inspectBy y (x .certified) (x .proved) (x .cause)) (sym d ∙ e)
+-- each answer of the look-up
+pub inspect-by : (x : Version) (l y : Look) → l ≡ x .look → l ≡ y → (r : Passed) → r ≡ inspectBy y (x .certified) (x .proved) (x .cause) → r ≡ inspected x
+unfolding inspected
+inspect-by x l y e d r h = h ∙ ap (λ (z : Look). inspectBy z (x .certified) (x .proved) (x .cause)) (sym d ∙ e)
 
 -- ---- the same tests of 01's store
 
@@ -133,16 +132,16 @@ byStatus st g p m = record {
   trusted = eqb st 1 || ((eqb st 2 || eqb st 3) && g);
 }
 
--- they are those by the case
-status-case : (st : ℕ) (g p m : Bool) → st ≤ 5 → inspectBy (caseOf st) g p m ≡ byStatus st g p m
-unfolding inspectBy inspectCase caseOf
-status-case zero g p m l = refl
-status-case (suc zero) g p m l = refl
-status-case (suc (suc zero)) g p m l = refl
-status-case (suc (suc (suc zero))) g p m l = refl
-status-case (suc (suc (suc (suc zero)))) g p m l = refl
-status-case (suc (suc (suc (suc (suc zero))))) g p m l = refl
-status-case (suc (suc (suc (suc (suc (suc st)))))) g p m l = absurd (omega (arith, l))
+-- they are those by the look-up
+status-case : (st q : ℕ) (g p m : Bool) → st ≤ 5 → inspectBy (lookAs (caseOf st) q) g p m ≡ byStatus st g p m
+unfolding inspectBy inspectCase caseOf lookAs
+status-case zero q g p m l = refl
+status-case (suc zero) q g p m l = refl
+status-case (suc (suc zero)) q g p m l = refl
+status-case (suc (suc (suc zero))) q g p m l = refl
+status-case (suc (suc (suc (suc zero)))) q g p m l = refl
+status-case (suc (suc (suc (suc (suc zero))))) q g p m l = refl
+status-case (suc (suc (suc (suc (suc (suc st)))))) q g p m l = absurd (omega (arith, l))
 
 -- what the tests read of a point of the store
 abbrev passedIn : Store → ℕ → Passed
@@ -150,10 +149,10 @@ passedIn v q = byStatus (store.statusAt v q) (certified v q) (proved v q) (v .pt
 
 -- they test that
 test-passed : (w : PointTest) (v : Store) (q : ℕ) → v .pt q .named ≡ true → testOf w v q ≡ chosen w (passedIn v q)
-unfolding testOf chosen isFound isValid isProved isTransInvalid isInvalid isIllFormed isTrusted resolved
-test-passed test.Found v q h = refl
+unfolding testOf chosen isValid isTransInvalid isInvalid isIllFormed isTrusted resolved
+test-passed test.Found v q h = found-at v q ∙ rw h refl
 test-passed test.Valid v q h = refl
-test-passed test.Proved v q h = rw h refl
+test-passed test.Proved v q h = proved-at v q ∙ rw h refl
 test-passed test.TransInvalid v q h = refl
 test-passed test.Invalid v q h = refl
 test-passed test.IllFormed v q h = refl
@@ -184,12 +183,12 @@ module _ (s : State) (ks ls cs os : List ℕ) (fk : Fit ks) (fl : Fit ls) (t : S
 
   -- the tests of its words are those of 01
   pub test-is : (w : PointTest) → chosen w (inspected (versionAt ks cs q)) ≡ testOf w v q
-  unfolding inspected versionAt
+  unfolding inspected versionAt lookPlace
   test-is w =
       let g = versionAt ks cs q .certified in
       let p = versionAt ks cs q .proved in
       let m = bitOf 4 (marksAt ks q) in
-      ap (chosen w) (status-case (statusAt ks q) g p m (t .facts .words q u .named .status) ∙ (sym (cause-free (statusAt ks q) g p m) ∙ sym passed-used)) ∙ sym (test-passed w v q (used-named s ks ls cs os fk fl t q u))
+      ap (chosen w) (status-case (statusAt ks q) q g p m (t .facts .words q u .named .status) ∙ (sym (cause-free (statusAt ks q) g p m) ∙ sym passed-used)) ∙ sym (test-passed w v q (used-named s ks ls cs os fk fl t q u))
 
   -- and so for one author
   pub passes-is : (a : ℕ) (w : PointTest) → passes ks cs a w q ≡ of (testOf w v) v a q

@@ -4,10 +4,11 @@ ghost use mathlib.Core.Path.{_≡_};
 ghost use Prim.Native.Nat.{_+_, _*_, _<_, _≤_};
 ghost use lib.ListN.{length};
 ghost use Rattle.inspector_counters.specs.Tests.{nothing, versionAt, inspectCase, inspected, chosen};
+use dag_round_keys::look::Look;
+use dag_round_keys::look::look_place;
 use laws::and;
 use models::cert::Cert;
 use models::dag_point::DagPoint;
-use models::dag_point::Resolved;
 
 // The inspector's tests of a point.
 pub enum PointTest {
@@ -22,7 +23,7 @@ pub enum PointTest {
 
 // A version of a peer's point at a round: what the tests read of it.
 pub struct Version {
-    pub case: Resolved,
+    pub look: Look,
     pub certified: bool,
     pub proved: bool,
     pub cause: bool,
@@ -77,11 +78,11 @@ pub fn version_at(keys: &[u64], certs: &[u64], q: usize) -> Version
 {
     let marks = keys[q * 8 + 7];
     let cert = Cert(certs[q]);
-    let case = dag_round_keys::case_at(keys, q);
+    let look = look_place(keys, q);
     let certified = cert.is_certified();
     let proved = cert.has_proof();
     Version {
-        case,
+        look,
         certified,
         proved,
         cause: marks / 4 % 2 == 1,
@@ -123,14 +124,15 @@ impl Version {
         }
     }
 
-    // The tests that it passes: none if it is only named.
+    // The tests that it passes: none if it isn't resolved.
     pub fn inspect(self) -> Passed
         ensures { λ r. ⌜ r ≡ inspected self ⌝ }
     {
-        let case = self.case;
-        match case {
-            Resolved::Case(point) => self.inspect_case(point),
-            Resolved::Nothing => Passed::new(),
+        let look = self.look;
+        match look {
+            Look::Resolved(_, point) => self.inspect_case(point),
+            Look::Named(_) => Passed::new(),
+            Look::Never => Passed::new(),
         }
     }
 }

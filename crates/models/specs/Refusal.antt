@@ -73,11 +73,11 @@ isFailed Passed = false
 isFailed (Failed r) = true
 
 -- 01's verdict on a resolved point that isn't usable
-pub checkedAs-not : (c r q : ℕ) → checkedAs true false (ltb 0 (heightOf c)) r q ≡ unlessFailed (notValid c r) (good q)
+pub checkedAs-not : (c r q : ℕ) → checkedAs false (ltb 0 (heightOf c)) r q ≡ unlessFailed (notValid c r) (good q)
 unfolding checkedAs unlessFailed refusalOf notValid
 checkedAs-not c r q = by (ltb 0 (heightOf c))
   where
-    by : (g : Bool) → checkedAs true false g r q ≡ unlessFailed (cond g (conflicting r) (failed 15)) (good q)
+    by : (g : Bool) → checkedAs false g r q ≡ unlessFailed (cond g (conflicting r) (failed 15)) (good q)
     by true = refl
     by false = refl
 

@@ -42,8 +42,11 @@ pub const LINK_NOT_NAMED: u32 = 12;
 
 pub const CONFLICT: u32 = 13;
 
-// A needed point isn't named or isn't resolved.
+// A needed point is named and isn't resolved.
 pub const POINT_MISSING: u32 = 14;
+
+// A needed point was never named.
+pub const NEVER_NAMED: u32 = 25;
 
 // A needed point is neither usable nor certified.
 pub const UNUSABLE: u32 = 15;

@@ -1,6 +1,6 @@
 -- What an accepted call did, and under what tests.
 use Prim.Native.Nat.{ℕ, suc, _-_, _≤_, _<_}
-use mathlib.Core.Path.{_≡_, refl, _∙_, ap}
+use mathlib.Core.Path.{_≡_, refl, sym, _∙_, ap}
 use mathlib.Core.Logic.{_⊎_, inl, inr, ⊎-elim}
 use mathlib.Core.Bool.{true, false, not, _||_}
 use mathlib.Core.List.{List}
@@ -19,7 +19,7 @@ use Rattle.spec.specs.Chain.{number, Out, bad, good, refuse, placeOf}
 use Rattle.spec.specs.History.{gapPending}
 use Rattle.spec.specs.Inspect.{inspected, memoryAfter, removeBytes}
 use Rattle.spec.specs.Calls.{done, refused, Outcome, finish, doGapQuestion, drained, newBottom, removing, doRemove, doDrop, addRound, doRound, atId, nameAt, intoFree, doName, resolvedAs, resolveAt, resolving, doResolve, certifyAt, doCertify}
-use Rattle.spec.specs.Walk.{not-good, if-good, then-good, refuse-good}
+use Rattle.spec.specs.Walk.{not-good, if-good, then-good, refuse-good, place-at}
 
 -- a call without a buffer leaves the store as it was, or what it gave
 pub finish-store : (P : Store → Type 0) (s : Store) (o : Out Store) → P s → ((t : Store) → o ≡ good t → P t) → P (finish s o .store)
@@ -55,8 +55,7 @@ at-id s i o l h =
     (record { low = leb-true _ _ (and-l _ _ (not-false _ b)); high = leb-true _ _ (and-r (leb (s .bottom) (i .round)) _ (not-false _ b)); peer = not-false _ c }, k)
 
 pub place-good : (s : Store) (i : Id) (q : ℕ) → placeOf s i ≡ good q → find s i ≡ some q
-unfolding placeOf
-place-good s i q h = go (find s i) refl h
+place-good s i q h = go (find s i) refl (sym (place-at s i) ∙ h)
   where
     go : (o : Option ℕ) → find s i ≡ o → _≡_ {A = Out ℕ} (elim o [ none ↦ bad (number 9) | some x ↦ good x ]) (good q) → find s i ≡ some q
     go none e k = absurd (not-good (number 9) q k)

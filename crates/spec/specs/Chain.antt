@@ -5,7 +5,7 @@ use mathlib.Core.Bool.{Bool, true, false, not, _&&_, _||_}
 use mathlib.Core.Option.{Option, none, some}
 use lib.Dec.{eqb, leb, ltb}
 use Rattle.spec.specs.Ids.{Id, prev}
-use Rattle.spec.specs.Store.{Store, idAt, roundAt, statusAt, resolved, find, previous}
+use Rattle.spec.specs.Store.{Store, Look, resolvedAt, namedAt, never, idAt, roundAt, statusAt, resolved, lookAt, look, previous}
 use Rattle.spec.specs.Paths.{certified, proved}
 use Rattle.spec.specs.Rules.{isPeer}
 
@@ -34,20 +34,26 @@ usableInWalk s q = eqb (statusAt s q) 1
 unfoldable pub isCommittable : Store → ℕ → Bool
 isCommittable s q = eqb (statusAt s q) 1 || (eqb (statusAt s q) 2 && not (proved s q))
 
--- 14: "point needed, not named or unresolved"; 13: "a needed point that isn't usable and is certified .. its round is that point's";
--- 15: "status neither usable nor certified"
-unfoldable pub checkedAs : (isResolved isUsable isCertified : Bool) → ℕ → ℕ → Out ℕ
-checkedAs false u c r q = bad (number 14)
-checkedAs true true c r q = good q
-checkedAs true false true r q = bad (conflict r)
-checkedAs true false false r q = bad (number 15)
+-- of a resolved point. 13: "a needed point that isn't usable and is certified .. its round is that point's"; 15: "status neither usable
+-- nor certified"
+unfoldable pub checkedAs : (isUsable isCertified : Bool) → ℕ → ℕ → Out ℕ
+checkedAs true c r q = good q
+checkedAs false true r q = bad (conflict r)
+checkedAs false false r q = bad (number 15)
 
+-- 02, N3: "Number 14 keeps the point that is named only. It refuses with 25, just after 14, a needed point that was never named."
+unfoldable pub checkedBy : Store → (Store → ℕ → Bool) → Look → Out ℕ
+checkedBy s usable (resolvedAt q) = checkedAs (usable s q) (certified s q) (roundAt s q) q
+checkedBy s usable (namedAt q) = bad (number 14)
+checkedBy s usable never = bad (number 25)
+
+-- a needed point of a history, whose place is known
 unfoldable pub checked : Store → (Store → ℕ → Bool) → ℕ → Out ℕ
-checked s usable q = checkedAs (resolved (s .pt q)) (usable s q) (certified s q) (roundAt s q) q
+checked s usable q = checkedBy s usable (lookAt s q)
 
 -- the place of a point that the walk needs
 unfoldable pub readyValidPoint : Store → Id → Out ℕ
-readyValidPoint s i = elim (find s i) [ none ↦ bad (number 14) | some q ↦ checked s usableInWalk q ]
+readyValidPoint s i = checkedBy s usableInWalk (look s i)
 
 -- an anchor of the chain: its place, its proof's, and the round of the anchor's top proof (`EnqueuedAnchor`)
 pub record EnqueuedAnchor : Type 0 where
@@ -146,7 +152,7 @@ filtered s t =
 
 -- 9: "id not named"
 unfoldable pub placeOf : Store → Id → Out ℕ
-placeOf s i = elim (find s i) [ none ↦ bad (number 9) | some q ↦ good q ]
+placeOf s i = elim (look s i) [ resolvedAt q ↦ good q | namedAt q ↦ good q | never ↦ bad (number 9) ]
 
 -- the anchors that a trigger yields. 5: "author above 31"; 6: "a trigger below the bottom yields no anchors instead"; 5: "not a peer of
 -- its round"

@@ -20,7 +20,7 @@ use Rattle.spec.specs.History.{Finished, commitAll}
 use Rattle.spec.specs.Calls.{Answer, anchors, refused, Outcome, addRound, doRound, nameAt, doName, withPathHeights, resolvedAs, resolveAt, doResolve, setTop, certifyAt, doCertify, commitEnd, doCommit, Call, start, resetAll, round, name, resolve, certify, gapQuestion, commit, outlook, remove, drop as dropTo, perform, call}
 use Rattle.spec.specs.Links.{resolved-named}
 use Rattle.spec.specs.WellFormed.{Wf, countsAsStarted-elim}
-use Rattle.spec.specs.Walk.{not-good, if-good, then-good, refuse-good, refuse-back, find-some}
+use Rattle.spec.specs.Walk.{not-good, if-good, then-good, refuse-good, refuse-back, find-some, place-at}
 use Rattle.spec.specs.Accepted.{finish-store, round-way, place-good, name-way, resolve-way, certify-way}
 use Rattle.spec.specs.Demand.{after, Arrives, AllArrive, SecondHalf}
 use Rattle.spec.specs.Preservation.{anchors-rising, not-reset, perform-kept, call-perform}
@@ -152,8 +152,7 @@ pub record Fires (s : Store) (i : Id) (es : List EnqueuedAnchor) : Type 0 where
   pub chained : Chained s place es
 
 place-back : (s : Store) (i : Id) (q : ℕ) → find s i ≡ some q → placeOf s i ≡ good q
-unfolding placeOf
-place-back s i q h = rw (h, placeOf) refl
+place-back s i q h = place-at s i ∙ rw h refl
 
 chain-back : (s : Store) (q : ℕ) (es : List EnqueuedAnchor) → Chained s q es → chain s q ≡ good es
 unfolding chain chainFrom checkOldest

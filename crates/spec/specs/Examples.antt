@@ -10,7 +10,7 @@ use lib.ListN.{getD, take, drop, replicate}
 use Rattle.laws.specs.Lists
 use Rattle.laws.specs.Bytes.{value}
 use Rattle.spec.specs.Ids.{Id, Ref}
-use Rattle.spec.specs.Store.{Resolution, Conf, Store, resolvedAt, namedAt, never, look, word, withProgress, withMemory}
+use Rattle.spec.specs.Store.{Resolution, Conf, Store, noId, resolvedAt, namedAt, never, look, word, withProgress, withMemory}
 use Rattle.spec.specs.Chain.{orZero}
 use Rattle.spec.specs.Inspect.{weight}
 use Rattle.spec.specs.Calls.{Answer, Outcome, StartArgs, Call, start, resetAll, round, name, resolve, certify, gapQuestion, commit, outlook, remove, drop as dropTo, call, startOk, conflictRound, done, flag, anchors, refused}
@@ -332,17 +332,21 @@ looked = refl
 
 -- ---- place lists (02: N1)
 
--- K13's points: 11.0.110, 12.0.120 and 12.1.121, anchor 13.0.130, trigger 15.0.150; started after a gap or not; p is done to the
--- resolution of each, by its number from 0
-abbrev layersAs : (ℕ → Resolution → Resolution) → Bool → List Call
-layersAs p gap =
-    (from 2 10 gap (some 0) ∷ rounds 11 5)
+-- K13's points: 11.0.110, 12.0.120 and 12.1.121, anchor 13.0.130, trigger 15.0.150, after a start of round 10; p is done to the resolution
+-- of each, by its number from 0
+abbrev layersOn : Call → (ℕ → Resolution → Resolution) → List Call
+layersOn begins p =
+    (begins ∷ rounds 11 5)
     ++ (both (id 11 0 110) (p 0 (gave 1 [] []))
     ++ (both (id 12 0 120) (p 1 (gave 1 (ref 0 110 ∷ []) []))
     ++ (both (id 12 1 121) (p 2 (gave 1 (ref 0 110 ∷ []) []))
     ++ (both (id 13 0 130) (p 3 (gave 1 (ref 0 120 ∷ ref 1 121 ∷ []) []))
     ++ (both (id 14 0 140) (p 4 (point 1 true false (id 10 0 0) (ref 0 130 ∷ [])))
     ++ (both (id 15 0 150) (p 5 (point 1 false true (id 10 0 0) (ref 0 140 ∷ []))) ++ (certify (id 13 0 130) ∷ [])))))))
+
+-- started after a gap or not
+abbrev layersAs : (ℕ → Resolution → Resolution) → Bool → List Call
+layersAs p gap = layersOn (from 2 10 gap (some 0)) p
 
 abbrev layers : Bool → List Call
 layers gap = layersAs (λ k t. t) gap
@@ -373,15 +377,18 @@ triple l = call (after (blank 6) (
     ++ (both (id 14 0 140) (point 1 false true (id 10 0 0) (ref 0 130 ∷ [])) ++ (certify (id 12 0 120) ∷ []))))))))) (commit (id 14 0 140) l (replicate 247 0))
 
 -- two anchors 12.0.120 and 14.0.140 in one line of includes from 16.0.160 down to 11.0.110; p is done to each resolution
-abbrev ladderAs : (Resolution → Resolution) → Store
-ladderAs p = after (blank 6) (
+abbrev ladderCalls : (Resolution → Resolution) → List Call
+ladderCalls p =
     (from 2 10 false (some 0) ∷ rounds 11 6)
     ++ (both (id 11 0 110) (p (gave 1 [] []))
     ++ (both (id 12 0 120) (p (point 1 false false (id 10 0 0) (ref 0 110 ∷ [])))
     ++ (both (id 13 0 130) (p (point 1 true false (id 10 0 0) (ref 0 120 ∷ [])))
     ++ (both (id 14 0 140) (p (point 1 false false (id 13 0 130) (ref 0 130 ∷ [])))
     ++ (both (id 15 0 150) (p (point 1 true false (id 10 0 0) (ref 0 140 ∷ [])))
-    ++ (both (id 16 0 160) (p (point 1 false true (id 10 0 0) (ref 0 150 ∷ []))) ++ (certify (id 12 0 120) ∷ certify (id 14 0 140) ∷ []))))))))
+    ++ (both (id 16 0 160) (p (point 1 false true (id 10 0 0) (ref 0 150 ∷ []))) ++ (certify (id 12 0 120) ∷ certify (id 14 0 140) ∷ [])))))))
+
+abbrev ladderAs : (Resolution → Resolution) → Store
+ladderAs p = after (blank 6) (ladderCalls p)
 
 abbrev ladder : Store
 ladder = ladderAs (λ t. t)
@@ -548,6 +555,78 @@ answered : agree lookUps ≡ true
 unfolding computed numbers same agree Lists.all
 answered = refl
 
+abbrev provenBy : Id → Resolution → Resolution
+provenBy i t = record {
+  status = t .status;
+  proof = t .proof;
+  trigger = t .trigger;
+  cause = t .cause;
+  topProof = i;
+  evidence = t .evidence;
+  includes = t .includes;
+  witness = t .witness;
+  payloadLen = t .payloadLen;
+  payloadBytes = t .payloadBytes;
+}
+
+-- K13 with another top proof of its anchor, with or without a used mark at 10
+abbrev seeking : Option ℕ → Id → List Call
+seeking used i = layersOn (from 2 10 false used) (λ k t. cond (eqb k 3) (provenBy i t) t)
+
+-- all calls but the one of this number from 0
+abbrev without : ℕ → List Call → List Call
+without k cs = take k cs ++ drop (suc k) cs
+
+-- the answers of the outlook and of the commit
+abbrev both-say : List Call → List ℕ
+both-say cs = numbers (call (after (blank 7) cs) (outlook (id 15 0 150) (replicate 53 0)) .answer) ++ numbers (commitOn cs (0 ∷ 0 ∷ 1 ∷ 0 ∷ []) 247 .answer)
+
+abbrev twice : ℕ → List ℕ
+twice n = stop n ++ stop n
+
+-- the sought proofs
+abbrev ten : Id
+ten = id 10 0 0
+
+abbrev eleven : Id
+eleven = id 11 0 111
+
+abbrev neededPoints : List Row
+neededPoints =
+    -- no used mark at 10: the anchor's top proof is looked up there. Never named; named only, certified too; resolved, without a previous point
+    row 1 (both-say (seeking none ten)) (twice 25)
+    ∷ row 2 (both-say (seeking none ten ++ (name ten ∷ []))) (twice 14)
+    ∷ row 3 (both-say (seeking none ten ++ (name ten ∷ certify ten ∷ []))) (twice 14)
+    ∷ row 4 (both-say (seeking none ten ++ both ten (point 1 true false noId []))) (twice 16)
+    -- with a used mark it isn't looked up
+    ∷ row 5 (both-say (seeking (some 0) ten)) (3 ∷ 1 ∷ 3 ∷ 1 ∷ [])
+    -- in a round above the used one: never named, named only, not marked as proof
+    ∷ row 6 (both-say (seeking (some 0) eleven)) (twice 25)
+    ∷ row 7 (both-say (seeking (some 0) eleven ++ (name eleven ∷ []))) (twice 14)
+    ∷ row 8 (both-say (seeking (some 0) eleven ++ both eleven (gave 1 [] []))) (twice 16)
+    -- the anchor's proof, and a point of the history, named only
+    ∷ row 9 (both-say (without 15 (layers false))) (twice 14)
+    ∷ row 10 (both-say (without 7 (layers false))) (twice 14)
+    -- below the bottom nothing is looked up
+    ∷ row 11 (both-say (seeking none (id 9 0 9))) (3 ∷ 1 ∷ 3 ∷ 1 ∷ [])
+    -- nor in a drained round (the drop leaves a gap: 20); in the new bottom it is; names below it are refused by 6
+    ∷ row 12 (both-say (seeking (some 0) ten ++ (dropTo 12 ∷ []))) (3 ∷ 1 ∷ 4 ∷ 20 ∷ 0 ∷ [])
+    ∷ row 13 (both-say (seeking (some 0) (id 12 0 129) ++ (dropTo 12 ∷ []))) (twice 25)
+    ∷ row 14 (answer 7 (layers false ++ (dropTo 12 ∷ [])) (name eleven)) (stop 6)
+    -- a reset forgets names
+    ∷ row 15 (both-say (seeking (some 0) eleven ++ (name eleven ∷ resetAll ∷ seeking (some 0) eleven))) (twice 25)
+    -- 9: a trigger that isn't named or isn't resolved; resolve and certify of an id that isn't named
+    ∷ row 16 (answer 7 (layers false) (commit (id 15 1 151) [] [])) (stop 9)
+    ∷ row 17 (answer 7 (layers false ++ (name (id 15 1 151) ∷ [])) (commit (id 15 1 151) [] [])) (stop 9)
+    ∷ row 18 (answer 7 (layers false) (certify (id 12 1 122)) ++ answer 7 (layers false) (resolve (id 12 1 122) (gave 1 [] []))) (twice 9)
+    -- the walk comes first: no anchor is finished
+    ∷ row 19 (ended (climb (after (blank 6) (without 12 (ladderCalls (λ t. t)))) (replicate 5 0))) (4 ∷ 14 ∷ 0 ∷ 0 ∷ 0 ∷ [])
+    ∷ []
+
+needed-points : agree neededPoints ≡ true
+unfolding computed numbers same agree Lists.all
+needed-points = refl
+
 -- ---- heights over witness links, flags
 
 -- the certificate words of a store's first places
@@ -589,6 +668,10 @@ withLast s r = withProgress s (record {
 abbrev paid : Store
 paid = fire (onTwo 1) 346 .store
 
+-- with a seventh place and further calls before the commit
+abbrev paidWith : List Call → Store
+paidWith more = fire (after (blank 7) (two false (some 0) (side 1) firing ++ (certs ++ more))) 346 .store
+
 abbrev wipe : Store → ℕ → Option ℕ → ℕ → Outcome
 wipe s r since n = call s (remove r since (replicate n 99))
 
@@ -604,6 +687,8 @@ removes =
     ∷ row 7 (bytes (wipe paid 15 (some 0) 68) (0 ∷ 1 ∷ 5 ∷ 9 ∷ 13 ∷ 31 ∷ 32 ∷ 62 ∷ 66 ∷ 67 ∷ [])) (2 ∷ 0 ∷ 11 ∷ 12 ∷ 2 ∷ 4 ∷ 1 ∷ 4 ∷ 0 ∷ 99 ∷ [])
     -- counted from round 12 on
     ∷ row 8 (bytes (wipe paid 15 (some 12) 68) (0 ∷ 5 ∷ 9 ∷ 13 ∷ 31 ∷ [])) (2 ∷ 12 ∷ 12 ∷ 1 ∷ 2 ∷ [])
+    -- a point that is named only, certified too, counts for nothing
+    ∷ row 9 (wipe (paidWith (name (id 12 1 122) ∷ certify (id 12 1 122) ∷ [])) 15 (some 0) 67 .buffer) (wipe paid 15 (some 0) 67 .buffer)
     ∷ row 5 (wipe paid 15 none 5 .store .bottom ∷ bytes (wipe paid 15 none 6) (0 ∷ 1 ∷ 4 ∷ 5 ∷ [])) (13 ∷ 0 ∷ 0 ∷ 0 ∷ 99 ∷ [])
     ∷ []
 

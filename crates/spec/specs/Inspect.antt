@@ -11,7 +11,7 @@ use Rattle.laws.specs.Sort.{sort}
 use Rattle.laws.specs.Peers.{member}
 use Rattle.laws.specs.Bytes.{be}
 use Rattle.spec.specs.Ids.{Id, Ref, idBytes, prev}
-use Rattle.spec.specs.Store.{Entry, Memory, Store, idAt, roundAt, statusAt, resolved, previous}
+use Rattle.spec.specs.Store.{Entry, Memory, Store, resolvedAt, namedAt, never, idAt, roundAt, statusAt, lookAt, previous}
 use Rattle.spec.specs.Paths.{certified, proved}
 
 -- ---- a drained round
@@ -26,13 +26,13 @@ of f s a q = eqb (idAt s q .author) a && f q
 
 -- a version that counts: resolved, and not of status 5
 unfoldable pub isFound : Store → ℕ → Bool
-isFound s q = ltb 0 (statusAt s q) && ltb (statusAt s q) 5
+isFound s q = elim (lookAt s q) [ resolvedAt p ↦ ltb (statusAt s p) 5 | namedAt p ↦ false | never ↦ false ]
 
 unfoldable pub isValid : Store → ℕ → Bool
 isValid s q = eqb (statusAt s q) 1
 
 unfoldable pub isProved : Store → ℕ → Bool
-isProved s q = resolved (s .pt q) && proved s q
+isProved s q = elim (lookAt s q) [ resolvedAt p ↦ proved s p | namedAt p ↦ false | never ↦ false ]
 
 -- kind 1: trans-invalid, not proved, its cause has a DAG round
 unfoldable pub isTransInvalid : Store → ℕ → Bool

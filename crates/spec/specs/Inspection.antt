@@ -17,7 +17,8 @@ use Rattle.laws.specs.Sort.{sort-mem, sort-once, sort-rises, sort-count}
 use Rattle.laws.specs.Peers.{member}
 use Rattle.laws.specs.Bytes.{written}
 use Rattle.spec.specs.Ids.{Id, prev}
-use Rattle.spec.specs.Store.{Entry, Memory, Store, idAt, roundAt, withNumbers, withMemory}
+use Rattle.spec.specs.Store.{Entry, Memory, Store, Look, resolvedAt, namedAt, never, idAt, roundAt, statusAt, resolved, lookAt, withNumbers, withMemory}
+use Rattle.spec.specs.Paths.{proved}
 use Rattle.spec.specs.Inspect.{placesIn, of, isTrusted, entryOf, roundData, holds, larger, greatest, witnessedBy, due, reported, InspectedRound, upFrom, lastNonExecutable, inspected, inspectedRounds, memoryAfter, shown, isFound, isTransInvalid, isInvalid, isIllFormed, proofs, authoredThen, authoredNow, isValid, isProved, notReferenced, Counters, one, counted, add, Stats, merge, since, total, statsOf, idsOf, Event, single, equivocation, noInclusion, onlyIf, singles, equivocations, noInclusions, over, events, removeBytes}
 use Rattle.spec.specs.Chain.{Out, bad, good}
 use Rattle.spec.specs.Rules.{isPeer, version, versions}
@@ -25,6 +26,25 @@ use Rattle.spec.specs.Calls.{Outcome, refused, done, newBottom, drained,
 use Rattle.spec.specs.WellFormed.{Wf}
 use Rattle.spec.specs.Order.{Before, strict}
 use Rattle.spec.specs.Preservation.{new-bottom}
+
+-- ---- what the look-up says of a version
+
+-- a test of resolved points holds of those that are resolved
+look-test : (s : Store) (f : ℕ → Bool) (q : ℕ) → elim (lookAt s q) as (λ l. Bool) [ resolvedAt p ↦ f p | namedAt p ↦ false | never ↦ false ] ≡ (resolved (s .pt q) && f q)
+unfolding lookAt
+look-test s f q = go (resolved (s .pt q))
+  where
+    go : (b : Bool) → elim (elim b as (λ b. Look) [ true ↦ resolvedAt q | false ↦ namedAt q ]) as (λ l. Bool) [ resolvedAt p ↦ f p | namedAt p ↦ false | never ↦ false ] ≡ (b && f q)
+    go true = refl
+    go false = refl
+
+pub found-at : (s : Store) (q : ℕ) → isFound s q ≡ (resolved (s .pt q) && ltb (statusAt s q) 5)
+unfolding isFound
+found-at s q = look-test s (λ p. ltb (statusAt s p) 5) q
+
+pub proved-at : (s : Store) (q : ℕ) → isProved s q ≡ (resolved (s .pt q) && proved s q)
+unfolding isProved
+proved-at s q = look-test s (proved s) q
 
 -- ---- the rounds that a remove looks at
 

@@ -1,7 +1,7 @@
 -- The look-up (02: N3): its laws, and that its answer 'never named' is true of lists of calls.
-use Prim.Native.Nat.{ℕ, _≤_, _<_}
+use Prim.Native.Nat.{ℕ, _+_, _≤_, _<_}
 use mathlib.Core.Path.{_≡_, refl, sym, _∙_, subst, ap}
-use mathlib.Core.Logic.{_⊎_, inl, inr, _≢_, _↔_}
+use mathlib.Core.Logic.{_⊎_, inl, inr, ⊎-elim, _≢_, _↔_}
 use mathlib.Core.Bool.{Bool, true, false, cond, false≢true}
 use mathlib.Core.List.{List, [], _∷_, _++_, append-assoc, append-nil, List·Memᴰ, List·Memᴰ·head, List·Memᴰ·not-nil, List·Memᴰ·append-cases, List·Memᴰ·eq-of-singleton, Memᴰ·cast, Memᴰ·append-left, Memᴰ·append-right}
 use mathlib.Core.Option.{Option, none, some}
@@ -10,17 +10,20 @@ use native.Mathlib.Omega.{arith}
 use native.Mathlib.Decide.{ℕ-discrete}
 use Rattle.laws.specs.Test.{byTest, clash, both, and-l, and-r}
 use Rattle.laws.specs.Scan.{lowest-none}
-use Rattle.spec.specs.Ids.{Id, sameId}
-use Rattle.spec.specs.Store.{Resolution, Point, Memory, Store, Look, resolvedAt, namedAt, never, idAt, resolved, retained, isNamed, find, lookAt, look, withPoints}
-use Rattle.spec.specs.Chain.{Out, bad, good, EnqueuedAnchor}
-use Rattle.spec.specs.History.{dequeued, setCommitted}
-use Rattle.spec.specs.Calls.{Answer, done, Outcome, finish, StartArgs, memoryKept, begun, newPoint, nameAt, doName, withPathHeights, resolvedAs, resolveAt, setTop, certifyAt, Call, start, resetAll, round, name, resolve, certify, gapQuestion, commit, outlook, remove, drop as dropTo, perform, call}
+use Rattle.laws.specs.Lists.{has-intro}
+use Rattle.spec.specs.Ids.{Id, Link, sameId, fits}
+use Rattle.spec.specs.Store.{Resolution, Point, Memory, Store, Look, resolvedAt, namedAt, never, idAt, roundAt, resolved, links, linksTo, retained, isNamed, find, lookAt, look, withPoints}
+use Rattle.spec.specs.Chain.{Refusal, number, conflict, Out, bad, good, EnqueuedAnchor, anchorsOf}
+use Rattle.spec.specs.History.{Need, hand, lowest, tested, dequeued, setCommitted}
+use Rattle.spec.specs.Calls.{Answer, refused, done, numberOf, Outcome, doCommit, finish, StartArgs, memoryKept, begun, newPoint, nameAt, doName, withPathHeights, resolvedAs, resolveAt, setTop, certifyAt, Call, start, resetAll, round, name, resolve, certify, gapQuestion, commit, outlook, remove, drop as dropTo, perform, call}
 use Rattle.spec.specs.HeightEquations.{inside}
 use Rattle.spec.specs.WellFormed.{Wf}
 use Rattle.spec.specs.Walk.{same-id, id-same, find-some}
+use Rattle.spec.specs.Refusals.{Sound, isOther, other-is, tested-sound}
+use Rattle.spec.specs.Outlook.{commit-was}
 use Rattle.spec.specs.Accepted.{finish-store, Naming, name-way, resolve-way, certify-way}
 use Rattle.spec.specs.Demand.{InList, AllInList, after, isDone}
-use Rattle.spec.specs.Preservation.{not-reset, name-at, name-off, begun-kept, perform-kept, call-perform, start-begun}
+use Rattle.spec.specs.Preservation.{FineStop, commit-sound, not-reset, name-at, name-off, begun-kept, perform-kept, call-perform, start-begun}
 use Rattle.spec.specs.Demand3Calls.{changesPoint, steady}
 use Rattle.spec.specs.Demand3Paths.{LogOf, numbers-log, round-log, drain-log, name-bottom}
 
@@ -82,6 +85,49 @@ look-own s w q n = go (find s (idAt s q)) refl
     go : (o : Option ℕ) → find s (idAt s q) ≡ o → elim o as (λ z. Look) [ none ↦ never | some x ↦ lookAt s x ] ≡ lookAt s q
     go none e = absurd (clash (named-is s (idAt s q) q n refl) (lowest-none (s .places) (isNamed s (idAt s q)) e q (inside s (w .sized) q n)))
     go (some x) e = let y = find-some s (idAt s q) x e in ap (lookAt s) (w .apart x q (y .named) n (ap (λ (i : Id). i .round) (y .is)) (ap (λ (i : Id). i .digest) (y .is)))
+
+-- ---- where 25 comes from
+
+-- a number other than 25
+abbrev Late : Refusal → Type 0
+Late r = numberOf r ≢ 25
+
+late : (n : ℕ) → isOther n ≡ true → Late (number n)
+unfolding numberOf
+late n o = other-is n o .3
+
+late-number : (n : ℕ) → n ≢ 25 → Late (number n)
+unfolding numberOf
+late-number n h = h
+
+late-conflict : (r : ℕ) → Late (conflict r)
+unfolding numberOf
+late-conflict r = omega arith
+
+-- the tests of an anchor, its history among them, never refuse with 25 ..
+pub history-25 : (s : Store) (a : ℕ) (r : Refusal) → tested s a ≡ bad r → numberOf r ≢ 25
+history-25 s a r e = subst (Sound Late) e (tested-sound Late late late-conflict s a)
+
+-- .. so a commit so refused was refused by the walk, with no anchor finished
+pub commit-25 : (s : Store) (i : Id) (ls b : List ℕ) (r : Refusal) (n : ℕ) → doCommit s i ls b .answer ≡ refused r n → numberOf r ≡ 25 → (anchorsOf s i ≡ bad r) × (n ≡ 0)
+unfolding doCommit
+commit-25 s i ls b r n h k =
+    ⊎-elim (λ u. (u, none-done u)) (λ (es, u, v). absurd (subst (FineStop Late) v (commit-sound Late late late-conflict (late-number 20 (omega arith)) (late-number 24 (omega arith)) s ls b 0 0 es) k)) (commit-was s i ls b r n h)
+  where
+    at-once : anchorsOf s i ≡ bad r → refused r 0 ≡ refused r n
+    at-once u = (rw (u, doCommit) refl) ∙ h
+
+    none-done : anchorsOf s i ≡ bad r → n ≡ 0
+    none-done u = let e = at-once u in cc
+
+-- and nothing is lost by it: a link of a needed point that hands on its links, into a round from the lowest on, leads to a named point,
+-- which is needed
+pub history-links : (s : Store) → Wf s → (a q : ℕ) → Need s a q → s .pt q .flags .committed ≡ false → resolved (s .pt q) ≡ true → (l : Link) → List·Memᴰ l (links (s .pt q)) → lowest s a + l .dist ≤ roundAt s q
+    → (p : ℕ) × (s .pt p .named ≡ true) × (fits (roundAt s q) (idAt s p) l ≡ true) × Need s a p
+unfolding linksTo
+history-links s w a q n c h l m low =
+    let (p, k, f) = w .leads q h l m (omega (arith, low)) in
+    (p, k, f, hand q p n c (both h (both k (has-intro (fits (roundAt s q) (idAt s p)) (links (s .pt q)) l m f))))
 
 -- ---- 'never named' of lists of calls
 

@@ -29,8 +29,8 @@ use Rattle.spec.specs.WellFormed.{Wf}
 use Rattle.spec.specs.Order.{need-named, falls-total, falls-trans}
 use Rattle.spec.specs.OrderInRound.{down-length, falling, falling-ok, falling-rest}
 use Rattle.spec.specs.Records.{id-length}
-use Rattle.spec.specs.Refusals.{Sound, anchors-sound, outlook-sound}
-use Rattle.spec.specs.Walk.{not-good, then-good, refuse-back, Anchored, Rising, Tested, tested-good}
+use Rattle.spec.specs.Refusals.{Sound, isOther, other-is, anchors-sound, outlook-sound}
+use Rattle.spec.specs.Walk.{not-good, then-good, refuse-back, checked-at, checked-back, Anchored, Rising, Tested, tested-good}
 use Rattle.spec.specs.Preservation.{mark-kept, rising-mark, anchors-rising, call-perform}
 use Rattle.spec.specs.Demand3Second.{commit-is}
 use Rattle.spec.specs.Extension.{fits-in, test-back, commit-step}
@@ -89,8 +89,11 @@ module _ (s : Store) (w : Wf s) (e : EnqueuedAnchor) where
   certified-mark q = ap (ltb 0) (mark-height s (w .sized) e q)
 
   checked-mark : (q : ℕ) → checked (dequeued s e) isCommittable q ≡ checked s isCommittable q
-  unfolding checked isCommittable proved dequeued setCommitted resolved
-  checked-mark q = ap (λ c. checkedAs (resolved (s .pt q)) (eqb (statusAt s q) 1 || (eqb (statusAt s q) 2 && not (c && s .pt q .flags .top))) c (roundAt s q) q) (certified-mark q)
+  unfolding isCommittable proved dequeued setCommitted resolved
+  checked-mark q =
+      checked-at (dequeued s e) isCommittable q
+      ∙ (ap (λ c. elim (resolved (s .pt q)) as (λ b. Out ℕ) [ true ↦ checkedAs (eqb (statusAt s q) 1 || (eqb (statusAt s q) 2 && not (c && s .pt q .flags .top))) c (roundAt s q) q | false ↦ bad (number 14) ]) (certified-mark q)
+      ∙ sym (checked-at s isCommittable q))
 
   first-mark : (l : List ℕ) → firstFault (dequeued s e) l ≡ firstFault s l
   unfolding firstFault
@@ -173,8 +176,7 @@ module _ (s : Store) (w : Wf s) (e : EnqueuedAnchor) where
         (need-split b q n)
 
     checked-good : (q : ℕ) → needed s (e .anchor) q ≡ true → checked s isCommittable q ≡ good q
-    unfolding checked checkedAs
-    checked-good q h = let (u, v) = c .ready q (inside s (w .sized) q (need-named s (e .anchor) q old-named (needed-is s (w .sized) (e .anchor) q (fits-in s w (e .anchor) old-named) .0 h .0))) h in rw (u, v) refl
+    checked-good q h = let (u, v) = c .ready q (inside s (w .sized) q (need-named s (e .anchor) q old-named (needed-is s (w .sized) (e .anchor) q (fits-in s w (e .anchor) old-named) .0 h .0))) h in checked-back s isCommittable q u v
 
     mark-faults : faults (dequeued s e) b ≡ firstFault (dequeued s e) (sort (λ p q. falls (idAt s p) (idAt s q)) (those (s .places) (needed (dequeued s e) b)))
     unfolding faults dequeued setCommitted
@@ -463,7 +465,7 @@ refused-end f r n h = go (f .stopped) refl h
     go (some q) e k = e ∙ ap some (same-refused q r _ n k)
 
 -- a commit that is refused
-commit-was : (s : Store) (i : Id) (ls b : List ℕ) (r : Refusal) (n : ℕ) → doCommit s i ls b .answer ≡ refused r n → Refuses s i (λ es. commitAll s ls b 0 0 es .stopped ≡ some r) r
+pub commit-was : (s : Store) (i : Id) (ls b : List ℕ) (r : Refusal) (n : ℕ) → doCommit s i ls b .answer ≡ refused r n → Refuses s i (λ es. commitAll s ls b 0 0 es .stopped ≡ some r) r
 unfolding doCommit
 commit-was s i ls b r n h = go (anchorsOf s i) refl h
   where
@@ -532,9 +534,13 @@ outlook-exact s w i b ls c shows g lists holds r = (there, back)
 abbrev Never : Refusal → Type 0
 Never r = (numberOf r ≢ 20) × (numberOf r ≢ 24)
 
-never : (n : ℕ) → n ≢ 2 → n ≢ 20 → n ≢ 24 → Never (number n)
+never : (n : ℕ) → isOther n ≡ true → Never (number n)
 unfolding numberOf
-never n a b c = (b, c)
+never n o = let (a, b, c, d) = other-is n o in (b, c)
+
+never-late : Never (number 25)
+unfolding numberOf
+never-late = ((omega arith), omega arith)
 
 never-conflict : (r : ℕ) → Never (conflict r)
 unfolding numberOf
@@ -545,7 +551,7 @@ sound-bad o r h e = subst (Sound Never) e h
 
 outlook-never : (s : Store) → Wf s → (i : Id) (b : List ℕ) (r : Refusal) (n : ℕ) → call s (outlook i b) .answer ≡ refused r n → Never r
 outlook-never s w i b r n h =
-    ⊎-elim (sound-bad (anchorsOf s i) r (anchors-sound Never never never-conflict s i)) (λ (es, u, v). sound-bad (outlookAll s (length b) es) r (outlook-sound Never never never-conflict s (length b) es) v)
+    ⊎-elim (sound-bad (anchorsOf s i) r (anchors-sound Never never never-conflict never-late s i)) (λ (es, u, v). sound-bad (outlookAll s (length b) es) r (outlook-sound Never never never-conflict s (length b) es) v)
     (outlook-was s i b r n (ap (λ (o : Outcome). o .answer) (sym (outlook-call s w i b)) ∙ h))
 
 -- no outlook is refused by 20

@@ -28,7 +28,7 @@ use Rattle.spec.specs.Links.{linked, Linked, fits-elim, resolved-named, 
 use Rattle.spec.specs.HeightEquations.{Sized, inside, height-is}
 use Rattle.spec.specs.Changes.{link-res, settled-height, drain-stays, drain-was, drain-sized, drain-height, mark-height}
 use Rattle.spec.specs.WellFormed.{Leads, Wf, tame, countsAsStarted-elim, countsAsStarted-intro}
-use Rattle.spec.specs.Refusals.{Ends, refuse-ends, if-ends, then-ends, Sound, refuse-sound, then-sound, place-ends, anchors-sound, tested-sound, outlook-sound}
+use Rattle.spec.specs.Refusals.{Ends, refuse-ends, if-ends, then-ends, Sound, refuse-sound, then-sound, isOther, other-is, place-ends, anchors-sound, tested-sound, outlook-sound}
 use Rattle.spec.specs.Walk.{not-good, if-good, then-good, refuse-good, Anchored, Tested, Rising, rising-less, walk-rising, test-good}
 
 -- ---- progress, memory and rounds
@@ -536,8 +536,8 @@ two : (n : ℕ) → n ≢ 2 → Two (number n)
 unfolding numberOf
 two n h = h
 
-fine : (n : ℕ) → n ≢ 2 → n ≢ 20 → n ≢ 24 → Two (number n)
-fine n a b c = two n a
+fine : (n : ℕ) → isOther n ≡ true → Two (number n)
+fine n o = two n (other-is n o .0)
 
 fine-conflict : (r : ℕ) → Two (conflict r)
 unfolding numberOf
@@ -575,26 +575,28 @@ certify-ends : (s : Store) → Wf s → (i : Id) → Ends Two Wf (doCertify s i)
 unfolding doCertify
 certify-ends s w i = id-ends Wf s i _ (λ a b c. then-ends Two (λ q. s .pt q .named ≡ true) Wf (placeOf s i) (λ q. good (certifyAt s q)) (place-ends Two fine fine-conflict s i) (λ q n. cert-kept s w q n))
 
-test-sound : (s : Store) (ls : List ℕ) (left size a : ℕ) → Sound Two (testAnchor s ls left size a)
-unfolding testAnchor
-test-sound s ls left size a =
-    then-sound Two (tested s a) _ (tested-sound Two fine fine-conflict s a) (λ x. refuse-sound Two (gapPending (s .progress .gap)) 20 _ (two 20 (omega arith))
-    (refuse-sound Two (not (listsOk (linkedCounts s a) ls)) 24 _ (two 24 (omega arith)) (refuse-sound Two (ltb left size) 21 (good a) (two 21 (omega arith)) tt)))
+-- what stopped a commit is of the kind F
+abbrev pub FineStop : (Refusal → Type 0) → Option Refusal → Type 0
+FineStop F none = Unit {0}
+FineStop F (some r) = F r
 
--- what stopped a commit
-abbrev FineStop : Option Refusal → Type 0
-FineStop none = Unit {0}
-FineStop (some r) = Two r
+-- a kind that holds all numbers but 2 and 25
+module _ (F : Refusal → Type 0) (fine : (n : ℕ) → isOther n ≡ true → F (number n)) (fine-conflict : (r : ℕ) → F (conflict r)) (gap : F (number 20)) (lists : F (number 24)) where
+  test-sound : (s : Store) (ls : List ℕ) (left size a : ℕ) → Sound F (testAnchor s ls left size a)
+  unfolding testAnchor
+  test-sound s ls left size a =
+      then-sound F (tested s a) _ (tested-sound F fine fine-conflict s a) (λ x. refuse-sound F (gapPending (s .progress .gap)) 20 _ gap
+      (refuse-sound F (not (listsOk (linkedCounts s a) ls)) 24 _ lists (refuse-sound F (ltb left size) 21 (good a) (fine 21 refl) tt)))
 
-commit-sound : (s : Store) (ls b : List ℕ) (at n : ℕ) (es : List EnqueuedAnchor) → FineStop (commitAll s ls b at n es .stopped)
-unfolding commitAll
-commit-sound s ls b at n [] = tt
-commit-sound s ls b at n (e ∷ es) = go (testAnchor s ls (length b - at) (length (recordBytes s ls e)) (e .anchor)) (test-sound s ls _ _ (e .anchor)) (commit-sound (dequeued s e) _ _ _ _ es)
-  where
-    go : (o : Out ℕ) → Sound Two o → FineStop (commitAll (dequeued s e) (afterLists s (e .anchor) ls) (written b at (recordBytes s ls e)) (at + length (recordBytes s ls e)) (suc n) es .stopped)
-        → FineStop ((elim o as (λ x. Finished) [ bad r ↦ record { store = s; buffer = b; anchors = n; stopped = some r } | good a ↦ commitAll (dequeued s e) (afterLists s (e .anchor) ls) (written b at (recordBytes s ls e)) (at + length (recordBytes s ls e)) (suc n) es ]) .stopped)
-    go (bad y) h f = h
-    go (good y) h f = f
+  pub commit-sound : (s : Store) (ls b : List ℕ) (at n : ℕ) (es : List EnqueuedAnchor) → FineStop F (commitAll s ls b at n es .stopped)
+  unfolding commitAll
+  commit-sound s ls b at n [] = tt
+  commit-sound s ls b at n (e ∷ es) = go (testAnchor s ls (length b - at) (length (recordBytes s ls e)) (e .anchor)) (test-sound s ls _ _ (e .anchor)) (commit-sound (dequeued s e) _ _ _ _ es)
+    where
+      go : (o : Out ℕ) → Sound F o → FineStop F (commitAll (dequeued s e) (afterLists s (e .anchor) ls) (written b at (recordBytes s ls e)) (at + length (recordBytes s ls e)) (suc n) es .stopped)
+          → FineStop F ((elim o as (λ x. Finished) [ bad r ↦ record { store = s; buffer = b; anchors = n; stopped = some r } | good a ↦ commitAll (dequeued s e) (afterLists s (e .anchor) ls) (written b at (recordBytes s ls e)) (at + length (recordBytes s ls e)) (suc n) es ]) .stopped)
+      go (bad y) h f = h
+      go (good y) h f = f
 
 removing-sound : (s : Store) (r : ℕ) (b bytes : List ℕ) → Sound Two (removing s r b bytes)
 unfolding removing
@@ -660,22 +662,22 @@ gapQuestion-goes s w = go (gapPending (s .progress .gap))
     go true = record { rules = numbers-kept s _ _ w; answered = said-answer true }
     go false = record { rules = w; answered = said-answer false }
 
-end-goes : (s : Store) (b : List ℕ) (k : ℕ) (o : Option Refusal) → Wf s → FineStop o → Goes (commitEnd (record { store = s; buffer = b; anchors = k; stopped = o }))
+end-goes : (s : Store) (b : List ℕ) (k : ℕ) (o : Option Refusal) → Wf s → FineStop Two o → Goes (commitEnd (record { store = s; buffer = b; anchors = k; stopped = o }))
 unfolding commitEnd
 end-goes s b k none w f = record { rules = w; answered = handed-answer k }
 end-goes s b k (some r) w f = record { rules = w; answered = fine-answer r k f }
 
 commit-goes : (s : Store) → Wf s → (i : Id) (ls b : List ℕ) → Goes (doCommit s i ls b)
 unfolding doCommit
-commit-goes s w i ls b = go (anchorsOf s i) refl (anchors-sound Two fine fine-conflict s i)
+commit-goes s w i ls b = go (anchorsOf s i) refl (anchors-sound Two fine fine-conflict (two 25 (omega arith)) s i)
   where
     go : (o : Out (List EnqueuedAnchor)) → anchorsOf s i ≡ o → Sound Two o → Goes (elim o [ bad r ↦ record { answer = refused r 0; store = s; buffer = b } | good es ↦ commitEnd (commitAll s ls b 0 0 es) ])
     go (bad r) e h = record { rules = w; answered = fine-answer r 0 h }
-    go (good es) e h = end-goes _ _ _ _ (commit-kept s ls b 0 0 es w (rising-less s (s .bottom) (lowestWalked s) es (omega arith) (anchors-rising s w i es e))) (commit-sound s ls b 0 0 es)
+    go (good es) e h = end-goes _ _ _ _ (commit-kept s ls b 0 0 es w (rising-less s (s .bottom) (lowestWalked s) es (omega arith) (anchors-rising s w i es e))) (commit-sound Two fine fine-conflict (two 20 (omega arith)) (two 24 (omega arith)) s ls b 0 0 es)
 
 outlook-goes : (s : Store) → Wf s → (i : Id) (b : List ℕ) → Goes (doOutlook s i b)
 unfolding doOutlook
-outlook-goes s w i b = go (anchorsOf s i) (anchors-sound Two fine fine-conflict s i)
+outlook-goes s w i b = go (anchorsOf s i) (anchors-sound Two fine fine-conflict (two 25 (omega arith)) s i)
   where
     shown : (es : List EnqueuedAnchor) (o : Out (List ℕ)) → Sound Two o → Goes (elim o [ bad r ↦ record { answer = refused r 0; store = s; buffer = b } | good bytes ↦ record { answer = anchors (length es); store = s; buffer = written b 0 bytes } ])
     shown es (bad r) h = record { rules = w; answered = fine-answer r 0 h }

@@ -12,9 +12,9 @@ use Rattle.laws.specs.Test.{byTest, both, and-l, and-r}
 use Rattle.laws.specs.Scan.{any, any-elim, any-none, lowest-some, those-intro, those-elim}
 use Rattle.laws.specs.Sort.{sort-mem}
 use Rattle.spec.specs.Ids.{Id, sameId, falls, prev}
-use Rattle.spec.specs.Store.{Store, idAt, roundAt, statusAt, resolved, isNamed, find, previous}
-use Rattle.spec.specs.Paths.{height}
-use Rattle.spec.specs.Chain.{Refusal, number, conflict, Out, bad, good, then, refuse, usableInWalk, isCommittable, checkedAs, checked, readyValidPoint, EnqueuedAnchor, Onward, enqueue, toAnchor, toPrevious, atProof, atUsed, visit, walk}
+use Rattle.spec.specs.Store.{Store, Look, resolvedAt, namedAt, never, idAt, roundAt, statusAt, resolved, isNamed, find, lookAt, look, previous}
+use Rattle.spec.specs.Paths.{height, certified}
+use Rattle.spec.specs.Chain.{Refusal, number, conflict, Out, bad, good, then, refuse, usableInWalk, isCommittable, checkedAs, checkedBy, checked, readyValidPoint, placeOf, EnqueuedAnchor, Onward, enqueue, toAnchor, toPrevious, atProof, atUsed, visit, walk}
 use Rattle.spec.specs.History.{needed, inHistory, firstFault, faults, roundsMissing, anyUncertified, tested, gapPending, listsOk, linkedCounts, testAnchor}
 
 -- ---- tests that came out well
@@ -63,31 +63,74 @@ pub find-some : (s : Store) (i : Id) (q : ℕ) → find s i ≡ some q → Found
 unfolding find isNamed
 find-some s i q h = let (l, t) = lowest-some (s .places) (isNamed s i) q h in record { inside = l; named = and-l _ _ t; is = same-id _ _ (and-r (s .pt q .named) _ t) }
 
+-- ---- what the look-up says of a needed point, and of an id, by the place
+
+-- of a place in use
+pub checked-at : (s : Store) (usable : Store → ℕ → Bool) (q : ℕ) → checked s usable q ≡ elim (resolved (s .pt q)) as (λ b. Out ℕ) [ true ↦ checkedAs (usable s q) (certified s q) (roundAt s q) q | false ↦ bad (number 14) ]
+unfolding checked checkedBy lookAt
+checked-at s usable q = go (resolved (s .pt q))
+  where
+    go : (b : Bool) → checkedBy s usable (elim b [ true ↦ resolvedAt q | false ↦ namedAt q ]) ≡ elim b as (λ b. Out ℕ) [ true ↦ checkedAs (usable s q) (certified s q) (roundAt s q) q | false ↦ bad (number 14) ]
+    go true = refl
+    go false = refl
+
+-- of a point that the walk needs
+pub ready-at : (s : Store) (i : Id) → readyValidPoint s i ≡ elim (find s i) as (λ o. Out ℕ) [ none ↦ bad (number 25) | some q ↦ checked s usableInWalk q ]
+unfolding readyValidPoint checked checkedBy look
+ready-at s i = go (find s i)
+  where
+    go : (o : Option ℕ) → checkedBy s usableInWalk (elim o [ none ↦ never | some q ↦ lookAt s q ]) ≡ elim o as (λ o. Out ℕ) [ none ↦ bad (number 25) | some q ↦ checked s usableInWalk q ]
+    go none = refl
+    go (some q) = refl
+
+-- of an id that a call names
+pub place-at : (s : Store) (i : Id) → placeOf s i ≡ elim (find s i) as (λ o. Out ℕ) [ none ↦ bad (number 9) | some q ↦ good q ]
+unfolding placeOf look lookAt
+place-at s i = go (find s i)
+  where
+    by : (q : ℕ) (b : Bool) → _≡_ {A = Out ℕ} (elim (elim b as (λ b. Look) [ true ↦ resolvedAt q | false ↦ namedAt q ]) [ resolvedAt p ↦ good p | namedAt p ↦ good p | never ↦ bad (number 9) ]) (good q)
+    by q true = refl
+    by q false = refl
+
+    go : (o : Option ℕ) → _≡_ {A = Out ℕ} (elim (elim o as (λ o. Look) [ none ↦ never | some q ↦ lookAt s q ]) [ resolvedAt p ↦ good p | namedAt p ↦ good p | never ↦ bad (number 9) ]) (elim o [ none ↦ bad (number 9) | some q ↦ good q ])
+    go none = refl
+    go (some q) = by q (resolved (s .pt q))
+
 -- found, resolved and valid
 pub record Valid (s : Store) (i : Id) (q : ℕ) : Type 0 where
   pub found : find s i ≡ some q
   pub done : resolved (s .pt q) ≡ true
   pub is-valid : statusAt s q ≡ 1
 
-pub checkedAs-good : (a u c : Bool) (r q x : ℕ) → checkedAs a u c r q ≡ good x → (a ≡ true) × (u ≡ true) × (q ≡ x)
+checkedAs-good : (u c : Bool) (r q x : ℕ) → checkedAs u c r q ≡ good x → (u ≡ true) × (q ≡ x)
 unfolding checkedAs
-checkedAs-good false u c r q x h = absurd (not-good (number 14) x h)
-checkedAs-good true true c r q x h = (refl, refl, cc)
-checkedAs-good true false true r q x h = absurd (not-good (conflict r) x h)
-checkedAs-good true false false r q x h = absurd (not-good (number 15) x h)
+checkedAs-good true c r q x h = (refl, cc)
+checkedAs-good false true r q x h = absurd (not-good (conflict r) x h)
+checkedAs-good false false r q x h = absurd (not-good (number 15) x h)
+
+checked-good : (s : Store) (usable : Store → ℕ → Bool) (q x : ℕ) → checked s usable q ≡ good x → (resolved (s .pt q) ≡ true) × (usable s q ≡ true) × (q ≡ x)
+checked-good s usable q x h = go (if-good (resolved (s .pt q)) (checkedAs (usable s q) (certified s q) (roundAt s q) q) (bad (number 14)) x (sym (checked-at s usable q) ∙ h))
+  where
+    go : ((resolved (s .pt q) ≡ true) × (checkedAs (usable s q) (certified s q) (roundAt s q) q ≡ good x)) ⊎ ((resolved (s .pt q) ≡ false) × (bad (number 14) ≡ good x)) → (resolved (s .pt q) ≡ true) × (usable s q ≡ true) × (q ≡ x)
+    go (inl (a, f)) = let (u, m) = checkedAs-good _ _ _ q x f in (a, u, m)
+    go (inr (a, f)) = absurd (not-good (number 14) x f)
+
+pub checked-back : (s : Store) (usable : Store → ℕ → Bool) (q : ℕ) → resolved (s .pt q) ≡ true → usable s q ≡ true → checked s usable q ≡ good q
+unfolding checkedAs
+checked-back s usable q a u = checked-at s usable q ∙ rw (a, u) refl
 
 pub need-good : (s : Store) (i : Id) (q : ℕ) → readyValidPoint s i ≡ good q → Valid s i q
-unfolding readyValidPoint checked usableInWalk
-need-good s i q h = go (find s i) refl h
+unfolding usableInWalk
+need-good s i q h = go (find s i) refl (sym (ready-at s i) ∙ h)
   where
-    go : (o : Option ℕ) → find s i ≡ o → _≡_ {A = Out ℕ} (elim o [ none ↦ bad (number 14) | some x ↦ checked s usableInWalk x ]) (good q) → Valid s i q
-    go none e k = absurd (not-good (number 14) q k)
-    go (some x) e k = let (a, u, m) = checkedAs-good _ _ _ _ x q k in
+    go : (o : Option ℕ) → find s i ≡ o → _≡_ {A = Out ℕ} (elim o [ none ↦ bad (number 25) | some x ↦ checked s usableInWalk x ]) (good q) → Valid s i q
+    go none e k = absurd (not-good (number 25) q k)
+    go (some x) e k = let (a, u, m) = checked-good s usableInWalk x q k in
         record { found = e ∙ ap some m; done = subst (λ z. resolved (s .pt z) ≡ true) m a; is-valid = subst (λ z. statusAt s z ≡ 1) m (eqb-true _ _ u) }
 
 pub need-back : (s : Store) (i : Id) (q : ℕ) → Valid s i q → readyValidPoint s i ≡ good q
-unfolding readyValidPoint checked usableInWalk checkedAs
-need-back s i q v = rw (v .found, readyValidPoint) (rw (v .done, v .is-valid) refl)
+unfolding usableInWalk
+need-back s i q v = ready-at s i ∙ rw (v .found) (checked-back s usableInWalk q (v .done) (eq-eqb _ _ (v .is-valid)))
 
 -- ---- the walk
 
@@ -218,19 +261,19 @@ pub record Tested (s : Store) (a : ℕ) : Type 0 where
   pub heightsAre : (q : ℕ) → q < s .places → inHistory s a q ≡ true → 0 < height s q
 
 first-good : (s : Store) (l : List ℕ) (x : ℕ) → firstFault s l ≡ good x → (q : ℕ) → List·Memᴰ q l → (resolved (s .pt q) ≡ true) × (isCommittable s q ≡ true)
-unfolding firstFault checked
+unfolding firstFault
 first-good s [] x h q m = absurd (List·Memᴰ·not-nil m)
 first-good s (p ∷ ps) x h q m = go (then-good (checked s isCommittable p) (λ x. firstFault s ps) x h) (List·Memᴰ·cases-cons m) (first-good s ps x)
   where
     go : (y : ℕ) × (checked s isCommittable p ≡ good y) × (firstFault s ps ≡ good x) → (q ≡ p) ⊎ List·Memᴰ q ps
         → (firstFault s ps ≡ good x → (q : ℕ) → List·Memᴰ q ps → (resolved (s .pt q) ≡ true) × (isCommittable s q ≡ true)) → (resolved (s .pt q) ≡ true) × (isCommittable s q ≡ true)
-    go (y, e, f) (inl k) r = let (a, u, n) = checkedAs-good _ _ _ _ p y e in (subst (λ z. resolved (s .pt z) ≡ true) (sym k) a, subst (λ z. isCommittable s z ≡ true) (sym k) u)
+    go (y, e, f) (inl k) r = let (a, u, n) = checked-good s isCommittable p y e in (subst (λ z. resolved (s .pt z) ≡ true) (sym k) a, subst (λ z. isCommittable s z ≡ true) (sym k) u)
     go (y, e, f) (inr k) r = r f q k
 
 first-back : (s : Store) (l : List ℕ) → ((q : ℕ) → List·Memᴰ q l → (resolved (s .pt q) ≡ true) × (isCommittable s q ≡ true)) → firstFault s l ≡ good 0
-unfolding firstFault checked checkedAs
+unfolding firstFault
 first-back s [] h = refl
-first-back s (p ∷ ps) h = let (a, u) = h p (List·Memᴰ·head refl) in rw (a, u) (first-back s ps (λ q m. h q (List·Memᴰ·tail m)))
+first-back s (p ∷ ps) h = let (a, u) = h p (List·Memᴰ·head refl) in rw (checked-back s isCommittable p a u) (first-back s ps (λ q m. h q (List·Memᴰ·tail m)))
 
 pub faults-good : (s : Store) (a x : ℕ) → faults s a ≡ good x → (q : ℕ) → q < s .places → needed s a q ≡ true → (resolved (s .pt q) ≡ true) × (isCommittable s q ≡ true)
 unfolding faults

@@ -4,16 +4,16 @@ use Rattle.back_chain.proofs.has_walk.Statement.{statement}
 use Rattle.back_chain.proofs.has_walk.Tie as tie
 
 returns : tie.Need-returns
-returns c = walks-invalid _ _ _ _ _ _ (c .before .before .case-at .ensures) _ (c .before .is-valid .ensures) (c .if1 .taken)
+returns c = walks-invalid _ _ _ _ _ _ (c .before .before .look-place .ensures) _ (c .before .is-valid .ensures) (c .if1 .taken)
 
 returns-2 : tie.Need-returns-2
-returns-2 c = walks-unmarked _ _ _ _ _ _ (c .before .before .before .before .case-at .ensures) _ (c .before .before .before .is-valid .ensures) (c .before .before .if1 .left) (c .if2 .taken)
+returns-2 c = walks-unmarked _ _ _ _ _ _ (c .before .before .before .before .look-place .ensures) _ (c .before .before .before .is-valid .ensures) (c .before .before .if1 .left) (c .if2 .taken)
 
 returns-3 : tie.Need-returns-3
-returns-3 c = walks-genesis _ _ _ _ _ _ (c .before .before .before .before .before .before .before .before .case-at .ensures) _ (c .before .before .before .before .before .before .before .is-valid .ensures) (c .before .before .before .before .before .before .if1 .left) (c .before .before .before .before .if2 .left) (c .if3 .taken)
+returns-3 c = walks-genesis _ _ _ _ _ _ (c .before .before .before .before .before .before .before .before .look-place .ensures) _ (c .before .before .before .before .before .before .before .is-valid .ensures) (c .before .before .before .before .before .before .if1 .left) (c .before .before .before .before .if2 .left) (c .if3 .taken)
 
 returns-4 : tie.Need-returns-4
-returns-4 c = walks-by _ _ _ _ _ _ (c .before .before .before .before .before .before .before .before .before .before .case-at .ensures) _ (c .before .before .before .before .before .before .before .before .before .is-valid .ensures) (c .before .before .before .before .before .before .before .before .if1 .left) (c .before .before .before .before .before .before .if2 .left) (c .before .before .if3 .left)
+returns-4 c = walks-by _ _ _ _ _ _ (c .before .before .before .before .before .before .before .before .before .before .look-place .ensures) _ (c .before .before .before .before .before .before .before .before .before .is-valid .ensures) (c .before .before .before .before .before .before .before .before .if1 .left) (c .before .before .before .before .before .before .if2 .left) (c .before .before .if3 .left)
 
 pub has-walk-spec : {M : Type 1} → statement M
 has-walk-spec =

@@ -4,7 +4,7 @@ use Rattle.inspector_counters.proofs.tests.version_at.Statement.{statem
 use Rattle.inspector_counters.proofs.tests.version_at.Tie as tie
 
 returns : tie.Need-returns
-returns c = version-is _ _ _ _ _ _ (c .before .before .case-at .ensures) (c .before .is-certified .ensures) (c .has-proof .ensures)
+returns c = version-is _ _ _ _ _ _ (c .before .before .look-place .ensures) (c .before .is-certified .ensures) (c .has-proof .ensures)
 
 pub version-at-spec : {M : Type 1} → statement M
 version-at-spec =
