@@ -217,7 +217,7 @@ enum committer_refusal {
     COMMITTER_BAD_INFO = 11, /* what a resolution gives has a wrong form */
     COMMITTER_LINK_NOT_NAMED = 12, /* link into a retained round, not named */
     COMMITTER_CONFLICT = 13, /* history conflict, at the round in `conflict` */
-    COMMITTER_POINT_MISSING = 14, /* point needed, not named or unresolved */
+    COMMITTER_POINT_MISSING = 14, /* point needed, named and not resolved */
     COMMITTER_UNUSABLE = 15, /* status neither usable nor certified */
     COMMITTER_BROKEN_CHAIN = 16, /* no previous point, or the sought proof isn't where and what it must be */
     COMMITTER_ROUNDS_MISSING = 17, /* limit at or above the full-history bottom, rounds missing */
@@ -228,6 +228,7 @@ enum committer_refusal {
     COMMITTER_AT_GENESIS = 22, /* anchor at genesis */
     COMMITTER_REMOVE_AHEAD = 23, /* remove above the last anchor handed out since the start, or none */
     COMMITTER_BAD_LISTS = 24, /* place list that isn't each place from 0 once */
+    COMMITTER_NEVER_NAMED = 25, /* point needed, never named */
     COMMITTER_BAD_GAME = 31 /* numbers or sets of a game of keepers and spoilers out of range; no call's */
 };
 
@@ -480,8 +481,8 @@ committer_reach committer_reach_of(
 #define COMMITTER_STACK_ROUND 52000u
 #define COMMITTER_STACK_GAP 52000u
 #define COMMITTER_STACK_NAME 52000u
-#define COMMITTER_STACK_RESOLVE 68000u
-#define COMMITTER_STACK_CERTIFY 37000u
+#define COMMITTER_STACK_RESOLVE 83000u
+#define COMMITTER_STACK_CERTIFY 52000u
 #define COMMITTER_STACK_DROP 37000u
 #define COMMITTER_STACK_COMMIT 185000u
 #define COMMITTER_STACK_OUTLOOK 107000u
@@ -577,9 +578,9 @@ committer_reply committer_drop(committer_state state,
  * bottom, at genesis, or not above the last proof. `lists` holds the place lists of these anchors (see 'place lists'); bytes beyond them
  * aren't read, and without anchors none are. Lists and buffer may have any length, and may be null with the length 0.
  * Refused by its walk, with 0 anchors: 2 not started; 5 author above 31; 6 round above the top; 5 author not a peer of its round; 9 not
- * named or not resolved; 13 history conflict, its round in `conflict`; 14 point needed, not named or unresolved; 15 status neither usable
- * nor certified; 16 no previous point, or the sought proof above the round walked, of another author than the used mark, or not marked as
- * proof; 19 oldest link above the walk's lowest round.
+ * named or not resolved; 13 history conflict, its round in `conflict`; 14 point needed, named and not resolved; 25 point needed, never
+ * named: an anchor's top proof; 15 status neither usable nor certified; 16 no previous point, or the sought proof above the round walked,
+ * of another author than the used mark, or not marked as proof; 19 oldest link above the walk's lowest round.
  * Refused by an anchor, with those before it finished: 22 anchor at genesis; 13, 14, 15 as above, of its history; 17 rounds of its history
  * missing; 18 point of its history not certified; 20 gap question not put; 24 one of its place lists isn't each place from 0 once, or too few
  * bytes are left for them; 21 record larger than the buffer left. The records, marks and state of the finished anchors stay, and nothing
@@ -596,8 +597,8 @@ committer_reply committer_commit(committer_state state,
  * beyond them stay as they are. All numbers of points are counted from the committed marks now: a point that the histories of two anchors
  * reach is counted for both, and handed out with the first. Tables and state stay as they are, and the gap question needn't be put. The
  * buffer may have any length, and may be null with the length 0.
- * Refused as the commit would be, in the same order of tests, but never with 20 or 24: 2; 5, 6, 5, 9; 13 to 16; 19; then for each anchor 22;
- * 13 to 15; 17; 18; 21 no COMMITTER_LOOK_BYTES(rounds) bytes left for it. A refused outlook writes no byte, and `anchors` is 0.
+ * Refused as the commit would be, in the same order of tests, but never with 20 or 24: 2; 5, 6, 5, 9; 13, 14, 25, 15, 16; 19; then for each
+ * anchor 22; 13 to 15; 17; 18; 21 no COMMITTER_LOOK_BYTES(rounds) bytes left for it. A refused outlook writes no byte, and `anchors` is 0.
  */
 committer_reply committer_outlook(committer_state state,
     const uint64_t *keys, size_t keys_len, const uint64_t *links, size_t links_len,

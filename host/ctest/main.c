@@ -192,7 +192,8 @@ static answer outlook(board *b, committer_point_id id, uint8_t *buffer, size_t l
 {
     committer_reply reply = committer_outlook(b->state, TABLES(b), id, buffer, length);
     answer a = {reply.refused, reply.said};
-    CHECK(reply.said == 0 && reply.refused <= COMMITTER_AT_GENESIS && reply.refused != COMMITTER_GAP_QUESTION);
+    CHECK(reply.said == 0 && reply.refused != COMMITTER_GAP_QUESTION);
+    CHECK(reply.refused <= COMMITTER_AT_GENESIS || reply.refused == COMMITTER_NEVER_NAMED);
     CHECK(reply.refused == COMMITTER_CONFLICT || reply.conflict == 0);
     CHECK(reply.refused == 0 || reply.anchors == 0);
     CHECK(same_state(&reply.state, &b->state));
@@ -212,7 +213,7 @@ static answer commit(board *b, committer_point_id id, const uint8_t *lists, size
     uint32_t told = outlook(b, id, large, sizeof large).refused;
     committer_reply reply = committer_commit(b->state, TABLES(b), id, lists, lists_len, buffer, length);
     answer a = {reply.refused, reply.said};
-    CHECK(reply.said == 0 && reply.refused <= COMMITTER_BAD_LISTS && reply.refused != COMMITTER_REMOVE_AHEAD);
+    CHECK(reply.said == 0 && reply.refused <= COMMITTER_NEVER_NAMED && reply.refused != COMMITTER_REMOVE_AHEAD);
     CHECK(reply.refused == COMMITTER_CONFLICT || reply.conflict == 0);
     CHECK(told != COMMITTER_NO_ROOM);
     if (reply.refused != COMMITTER_GAP_QUESTION && reply.refused != COMMITTER_BAD_LISTS && reply.refused != COMMITTER_NO_ROOM) {
@@ -1497,6 +1498,45 @@ static void check_walk_refusals(void)
     free_board(&spare);
 }
 
+/* Anchor 11.0, certified, whose top proof 10.0 isn't named; the trigger is 13.0. */
+static board seeking(void)
+{
+    board b = started(8, beginning(10), 13);
+    committer_point_id sought = point(10, 0);
+    put(&b, point(11, 0), COMMITTER_VALID, 0, sought, 0, sought, sought);
+    put_one(&b, point(12, 0), COMMITTER_PROOF, point(12, 0), point(11, 0));
+    put_one(&b, point(13, 0), COMMITTER_TRIGGER, sought, point(12, 0));
+    DONE(certify(&b, point(11, 0)));
+    return b;
+}
+
+/* A needed point that was never named, one that is named only, one that is resolved (document 02, N3). */
+static void check_needed(void)
+{
+    board b = seeking(), spare = new_board(8);
+    committer_point_id sought = point(10, 0), other = point(10, 0), trigger = point(13, 0);
+    uint8_t bytes[4] = {0xa5, 0xa5, 0xa5, 0xa5};
+    REFUSED(&b, &spare, COMMITTER_NEVER_NAMED, commit(&b, trigger, LISTS(0), bytes, sizeof bytes));
+    /* another author's point of the same digest isn't the one sought */
+    other.author = 1;
+    DONE(name(&b, other));
+    REFUSED(&b, &spare, COMMITTER_NEVER_NAMED, commit(&b, trigger, LISTS(0), bytes, sizeof bytes));
+    free_board(&b);
+
+    b = seeking();
+    DONE(name(&b, sought));
+    REFUSED(&b, &spare, COMMITTER_POINT_MISSING, commit(&b, trigger, LISTS(0), bytes, sizeof bytes));
+    DONE(certify(&b, sought));
+    REFUSED(&b, &spare, COMMITTER_POINT_MISSING, commit(&b, trigger, LISTS(0), bytes, sizeof bytes));
+    committer_resolution resolution = valid(0, 0);
+    resolution.marks = COMMITTER_PROOF;
+    DONE(resolve(&b, sought, resolution, NULL, 0));
+    REFUSED(&b, &spare, COMMITTER_BROKEN_CHAIN, commit(&b, trigger, LISTS(0), bytes, sizeof bytes));
+    CHECK(last_commit.anchors == 0 && bytes[0] == 0xa5);
+    free_board(&b);
+    free_board(&spare);
+}
+
 /* ---- noise */
 
 static uint64_t next_word(uint64_t *seed)
@@ -1598,6 +1638,7 @@ int main(void)
     check_removes();
     check_merge();
     check_walk_refusals();
+    check_needed();
     for (size_t places = 1; places <= 9; places++) {
         check_noise(places, 500);
     }

@@ -224,8 +224,8 @@ impl Committer {
 
     /// Commits what a trigger yields: the records of the anchors, oldest first, stand at the beginning of the buffer
     /// ([`anchors`] reads them), and their number is returned. `lists` are the place lists of these anchors
-    /// (`include/committer.h` tells what they are); bytes beyond them aren't read. Refused with 2, 5, 6, 5, 9, 13 to 16,
-    /// 19, then for each anchor 22, 13 to 15, 17, 18, 20, 24, 21. The records of the finished anchors
+    /// (`include/committer.h` tells what they are); bytes beyond them aren't read. Refused with 2, 5, 6, 5, 9, 13, 14, 25,
+    /// 15, 16, 19, then for each anchor 22, 13 to 15, 17, 18, 20, 24, 21. The records of the finished anchors
     /// ([`Refused::finished`]) then stand in the buffer, and what these anchors changed stays.
     ///
     /// An outlook tells the lengths of the first anchor's lists ([`Look::linked`]). With these lists and more anchors it

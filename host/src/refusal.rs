@@ -2,8 +2,8 @@
 
 use std::fmt;
 
-/// One case for each number of document 01's table, and for those of document 02. 13 to 22 are of commits and, but for
-/// 20, of outlooks; 21 and 23 of remove.
+/// One case for each number of document 01's table, and for those of document 02. 13 to 22 and 25 are of commits and, but
+/// for 20, of outlooks; 21 and 23 of remove.
 #[derive(Clone, Copy, Debug, PartialEq, Eq, Hash)]
 pub enum Refusal {
     BadStart,
@@ -33,6 +33,8 @@ pub enum Refusal {
     RemoveAhead,
     /// of a commit, document 02's
     BadLists,
+    /// of a commit or an outlook, document 02's
+    NeverNamed,
     /// of a game of keepers and spoilers, document 02's
     BadGame,
 }
@@ -65,6 +67,7 @@ impl Refusal {
             22 => Refusal::AtGenesis,
             23 => Refusal::RemoveAhead,
             24 => Refusal::BadLists,
+            25 => Refusal::NeverNamed,
             31 => Refusal::BadGame,
             _ => return None,
         })
@@ -97,6 +100,7 @@ impl Refusal {
             Refusal::AtGenesis => 22,
             Refusal::RemoveAhead => 23,
             Refusal::BadLists => 24,
+            Refusal::NeverNamed => 25,
             Refusal::BadGame => 31,
         }
     }
@@ -116,7 +120,7 @@ impl Refusal {
             Refusal::BadInfo => "what the resolution gives has a wrong form",
             Refusal::LinkNotNamed => "link into a retained round, not named",
             Refusal::Conflict { .. } => "history conflict",
-            Refusal::PointMissing => "point needed, not named or unresolved",
+            Refusal::PointMissing => "point needed, named and not resolved",
             Refusal::Unusable => "status neither usable nor certified",
             Refusal::BrokenChain => "no previous point, or the sought proof isn't where and what it must be",
             Refusal::RoundsMissing => "limit at or above the full-history bottom, rounds missing",
@@ -127,6 +131,7 @@ impl Refusal {
             Refusal::AtGenesis => "anchor at genesis",
             Refusal::RemoveAhead => "remove above the last anchor handed out since the start, or none",
             Refusal::BadLists => "place list that isn't each place from 0 once",
+            Refusal::NeverNamed => "point needed, never named",
             Refusal::BadGame => "numbers or sets of the game out of range",
         }
     }

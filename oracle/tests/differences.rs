@@ -311,3 +311,18 @@ fn row_22() {
     add(&mut oracle, p(12, 0, 'c'), trigger(&[(0, 'b')]));
     panics(oracle.commit(&p(12, 0, 'c')), "range start is greater than range end");
 }
+
+/// 10.0.a is the anchor and 10.0.z its top proof: one message, named or not.
+#[test]
+fn row_25() {
+    for named in [false, true] {
+        let mut oracle = started(&small(None), 12);
+        if named {
+            oracle.name(&p(10, 0, 'z')).done();
+        }
+        add(&mut oracle, p(10, 0, 'a'), anchor(p(10, 0, 'z'), &[]));
+        add(&mut oracle, p(11, 0, 'b'), proof(&[(0, 'a')]));
+        add(&mut oracle, p(12, 0, 'c'), trigger(&[(0, 'b')]));
+        panics(oracle.commit(&p(12, 0, 'c')), "point to commit must be resolved");
+    }
+}

@@ -328,13 +328,14 @@ impl<'a, S: Side> Pair<'a, S> {
     }
 
     /// What is known of a refused call, but for what the Rust holds after it.
-    fn at<'b>(&self, refused: &'b Refused, call: &'b Call, before: &'b View, told: &'b Told) -> Tried<'b> {
+    fn at<'b>(&'b self, refused: &'b Refused, call: &'b Call, before: &'b View, told: &'b Told) -> Tried<'b> {
         let start = self.taken.iter().rev().find_map(|call| match call {
             Call::Start(with) => Some(*with),
             _ => None,
         });
         let start = start.unwrap_or(Start::default());
-        Tried { refused, call, before, told, start, added: 0, bottom: None, places: self.places }
+        let (taken, places) = (&self.taken[..], self.places);
+        Tried { refused, call, before, told, taken, start, added: 0, bottom: None, places }
     }
 
     /// Entry 5: a commit refused with 13 to 15, by an oracle that tests the points of a round by rising digest, and what it says. In the

@@ -5,6 +5,7 @@ use std::fmt;
 
 use committer::{Call, PointId, PointInfo, ROUND_MAX, Start};
 
+use crate::needed;
 use crate::view::{Answer, Refused, Told, View};
 
 /// An entry of DIFFERENCES.md, or a row of its table of refusals.
@@ -34,7 +35,7 @@ pub const ENTRIES: [&str; 15] = [
 ];
 
 /// The rows are numbered from 1.
-pub const ROWS: u32 = 24;
+pub const ROWS: u32 = 25;
 
 /// The entry that a row of the table only points to.
 pub fn row_is_entry(row: u32) -> Option<u32> {
@@ -87,6 +88,8 @@ pub struct Tried<'a> {
     /// both sides before the call
     pub before: &'a View,
     pub told: &'a Told,
+    /// the calls that both took
+    pub taken: &'a [&'a Call],
     /// the last start
     pub start: Start,
     /// how many more points the Rust holds after it, and its bottom then, if it holds a round
@@ -265,10 +268,18 @@ impl Tried<'_> {
         self.when(drained, Known::Entry(9))
     }
 
+    /// Which of 14 and 25 is due.
+    fn needed(&self) -> Option<u32> {
+        match self.call {
+            Call::Commit(trigger, _) => needed::number(trigger, self.taken, self.before),
+            _ => None,
+        }
+    }
+
     /// 14 and up, of a commit.
     fn commit_refused(&self, number: u32) -> Option<Known> {
         let parts: &[&str] = match number {
-            14 => &["point to commit must be resolved"],
+            14 | 25 if self.needed() == Some(number) => &["point to commit must be resolved"],
             15 if no_anchors(self.told) => return Some(Known::Entry(1)),
             15 => &["chained anchor proof", "anchor candidate", "not committable"],
             16 => &[

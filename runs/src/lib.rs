@@ -6,6 +6,7 @@ pub mod counts;
 pub mod known;
 pub mod library;
 pub mod lists;
+pub mod needed;
 pub mod notation;
 pub mod outlook;
 pub mod random;

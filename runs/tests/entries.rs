@@ -273,6 +273,25 @@ fn rows_14_to_16() {
     meets(calls, (16, 0, 0), Known::Row(16));
 }
 
+/// 10.0.a is the anchor. Its top proof is never named; named; named by another author; named and then lost with a reset.
+#[test]
+fn row_25() {
+    let list = |named: &[PointId]| {
+        let mut calls = begun(start(10, 1, 3, None), 12);
+        calls.extend(named.iter().copied().map(Call::Name));
+        three(&mut calls, 10, id(10, 0, 'z'));
+        calls.push(commit(id(12, 0, 'c')));
+        calls
+    };
+    meets(list(&[]), (25, 0, 0), Known::Row(25));
+    meets(list(&[id(10, 0, 'z')]), (14, 0, 0), Known::Row(14));
+    meets(list(&[id(10, 1, 'z')]), (25, 0, 0), Known::Row(25));
+    let mut calls = list(&[id(10, 0, 'z')]);
+    calls.push(Call::Reset);
+    calls.extend(list(&[]));
+    meets(calls, (25, 0, 0), Known::Row(25));
+}
+
 #[test]
 fn rows_17_18_20_22() {
     let with = Start { deduplicate_rounds: 5, bottom: 20, ..start(10, 2, 1, Some(0)) };

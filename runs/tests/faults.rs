@@ -319,6 +319,24 @@ impl Fault for Number {
     }
 }
 
+/// 14 for a needed point that was never named.
+struct NeverNamed;
+
+impl Fault for NeverNamed {
+    fn answer(_: &Call, _: &View, answer: Answer) -> Answer {
+        if answer == refused(25) { refused(14) } else { answer }
+    }
+}
+
+/// 25 for one that is named.
+struct NamedOnly;
+
+impl Fault for NamedOnly {
+    fn answer(_: &Call, _: &View, answer: Answer) -> Answer {
+        if answer == refused(14) { refused(25) } else { answer }
+    }
+}
+
 /// An outlook counts one point too many for its second anchor.
 struct Points;
 
@@ -379,6 +397,8 @@ fn faults_of_commits_are_caught() {
     assert_eq!(found_in_chains::<History>(), Kind::Records);
     assert_eq!(found_in_chains::<ConflictRound>(), Kind::Refused(13));
     assert_eq!(found_in_chains::<Number>(), Kind::Refused(14));
+    assert_eq!(found_in_chains::<NeverNamed>(), Kind::Refused(14));
+    assert_eq!(found_in_chains::<NamedOnly>(), Kind::Refused(25));
 }
 
 /// Changes the records of a commit that is refused after some, or of one that isn't.

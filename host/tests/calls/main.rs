@@ -8,6 +8,7 @@ mod full_size;
 mod games;
 mod lists;
 mod model;
+mod needed;
 mod noise;
 mod outlooks;
 mod payloads;

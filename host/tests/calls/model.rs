@@ -361,9 +361,9 @@ impl Store {
 
 /// Commits and outlooks. Buffers are large.
 impl Store {
-    /// Resolved, or 14; usable, or 13 if it is certified, else 15.
+    /// Of a named point: resolved, or 14; usable, or 13 if it is certified, else 15.
     fn checked(&self, key: &Key, heights: &Heights, usable: impl Fn(&Held, u32) -> bool) -> Result<&PointInfo, Stop> {
-        let held = self.points.get(key).ok_or((14, 0))?;
+        let held = &self.points[key];
         let info = held.info.as_ref().ok_or((14, 0))?;
         let height = heights.of(key);
         match (usable(held, info.status), height > 0) {
@@ -373,10 +373,10 @@ impl Store {
         }
     }
 
-    /// A point that the walk needs.
+    /// A point that the walk needs: named, or 25.
     fn ready(&self, id: &PointId, heights: &Heights) -> Result<&PointInfo, Stop> {
         if !self.named(id) {
-            return Err((14, 0));
+            return Err((25, 0));
         }
         self.checked(&(id.round, id.digest), heights, |_, status| status == 1)
     }

@@ -275,7 +275,7 @@ fn one_changed_bit() {
 #[test]
 fn one_changed_bit_before_an_outlook() {
     let board = two_anchors(true);
-    let mut refused = [0; 25];
+    let mut refused = [0; 26];
     for seed in 0..3000 {
         let mut committer = board.clone();
         flip(&mut committer, &mut Noise::new(seed));

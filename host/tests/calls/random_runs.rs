@@ -14,6 +14,8 @@ struct Run {
     lists: Noise,
     /// of payload numbers alone
     payloads: Noise,
+    /// of top proofs that aren't named alone
+    top_proofs: Noise,
     committer: Committer,
     model: Model,
     /// how many calls of a name were answered with a number, 0 if not refused
@@ -41,6 +43,7 @@ impl Run {
             noise: Noise::new(seed),
             lists: Noise::new(seed + 2_000_000),
             payloads: Noise::new(seed + 3_000_000),
+            top_proofs: Noise::new(seed + 4_000_000),
             committer: Committer::new(places),
             model: Model::new(places),
             answers: BTreeMap::new(),
@@ -251,12 +254,13 @@ impl Run {
             self.make(&Call::Name(id));
             let status = if self.noise.one_in(self.fault_in) { 1 + self.noise.below(5) } else { 1 };
             let linked = status <= 3 && !self.noise.one_in(self.fault_in);
+            let sought = !self.top_proofs.one_in(2 * self.fault_in);
             let evidence = if linked && self.noise.one_in(2) { self.noise.below(8) } else { 0 };
             let info = PointInfo {
                 status,
                 proof: round % 2 == 0,
                 trigger: round % 2 == 1 && (author == 0 || self.noise.one_in(10)),
-                top_proof: version(round.saturating_sub(1), author, 0),
+                top_proof: version(round.saturating_sub(1), author, if sought { 0 } else { 9 }),
                 cause: self.noise.one_in(2),
                 evidence,
                 includes: if linked { self.most(author, &links) } else { Vec::new() },
@@ -487,7 +491,8 @@ fn boards_that_commit() {
         stopped += run.stopped;
         sums = [sums[0] + run.sums[0], sums[1] + run.sums[1]];
     }
-    assert_met(&answers, 10, &[("commit", &[0, 13, 14, 16, 18, 20, 24]), ("outlook", &[0, 13, 14, 15, 16, 17, 18])]);
+    assert_met(&answers, 10, &[("commit", &[0, 13, 14, 16, 18, 20, 24, 25])]);
+    assert_met(&answers, 10, &[("outlook", &[0, 13, 14, 15, 16, 17, 18, 25])]);
     assert_met(&answers, 10, &[("remove", &[0, 23])]);
     assert!(!answers.contains_key(&("outlook", 20)) && !answers.contains_key(&("outlook", 24)));
     assert!(mixed >= 20 && stopped >= 10, "records of three in a round, 24 after an anchor: {mixed}, {stopped}");

@@ -27,7 +27,7 @@ const TWICE: u64 = 4;
 /// Of each number that the calls at hand are refused with, the Rust is given at least so many.
 const TRIED_LEAST: u64 = 200;
 const CALLS_LEAST: u64 = 100_000;
-/// Anchor records that both handed out, and commits refused with 13, 14, 15, 16, 18, 20 that the Rust was given.
+/// Anchor records that both handed out, and commits refused with 13, 14, 15, 16, 18, 20, 25 that the Rust was given.
 const ANCHORS_LEAST: u64 = 5_000;
 const COMMITS_LEAST: u64 = 100;
 /// Of the records those with sums that aren't 0, and with one of more than 32 bits.
@@ -160,7 +160,7 @@ fn report((task, found): &Failure) -> ExitCode {
 /// Fails a run that compared too little.
 fn enough(counts: &Counts) -> ExitCode {
     let mut good = counts.calls() >= CALLS_LEAST;
-    let commits = [13, 14, 15, 16, 18, 20].map(|number| (number, COMMITS_LEAST));
+    let commits = [13, 14, 15, 16, 18, 20, 25].map(|number| (number, COMMITS_LEAST));
     for (number, least) in (1..=12).chain([23]).map(|number| (number, TRIED_LEAST)).chain(commits) {
         let tried = counts.tried_of(number);
         if tried < least {

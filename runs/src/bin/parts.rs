@@ -1,6 +1,6 @@
 //! Writes the recorded runs of `crates/recorded` anew: parts 0 to 102 as they stand in CRATES/recorded/stdin, their commits with the Rust's place
-//! lists, the parts of remove, of place lists and of payloads, the sample that `record` wrote into SAMPLE, and the part that is cut short. Texts are what
-//! the library answers, those of the sample the Rust's. What `crates/replay` plays, K13, is part 67 without its last commit.
+//! lists, the parts of remove, of place lists, of payloads and of needed points, the sample that `record` wrote into SAMPLE, and the part that is cut
+//! short. Texts are what the library answers, those of the sample the Rust's. What `crates/replay` plays, K13, is part 67 without its last commit.
 //!
 //!     cargo run --release --offline --bin parts -- CRATES SAMPLE
 
@@ -229,6 +229,35 @@ fn summed() -> Vec<Vec<Call>> {
     lists
 }
 
+// ---- needed points (02, N3)
+
+/// Commit and outlook of K13 before its anchor's top proof is named, after it, and after it is resolved so.
+fn sought(with: Start, top_proof: PointId, resolved: PointInfo, between: &[Call]) -> Vec<Call> {
+    let [commit, look] = [Call::Commit(id(15, 0, 'f'), vec![0, 0, 1, 0]), Call::Outlook(id(15, 0, 'f'))];
+    let mut calls = four(with);
+    for call in &mut calls {
+        if let Call::Resolve(PointId { round: 13, .. }, info) = call {
+            info.top_proof = top_proof;
+        }
+    }
+    calls.extend([look.clone(), commit.clone(), Call::Name(top_proof), look, commit.clone()]);
+    calls.extend(between.iter().cloned());
+    calls.extend([Call::Resolve(top_proof, resolved), commit]);
+    calls
+}
+fn needed() -> Vec<Vec<Call>> {
+    let (z, q) = (id(10, 0, 'z'), id(11, 0, 'q'));
+    let proof = PointInfo { proof: true, top_proof: z, ..valid() };
+    let again = [Call::Certify(z), Call::Commit(id(15, 0, 'f'), vec![0, 0, 1, 0])];
+    let above = sought(from_10(2, 3), q, valid(), &[]);
+    vec![
+        // 143: in the lowest round; certified before it is resolved
+        sought(Start { used: None, ..from_10(2, 3) }, z, proof, &again),
+        // 144: above it, and once more after a reset
+        with(above.clone(), std::iter::once(Call::Reset).chain(above)),
+    ]
+}
+
 fn parts() -> Vec<Vec<u8>> {
     let mut lists: Vec<Vec<Call>> = Vec::new();
     // 103: 23 before the anchor and above it, nothing to drain
@@ -291,6 +320,7 @@ fn parts() -> Vec<Vec<u8>> {
     broken.truncate(broken.len() - 8);
     broken[3] -= 8;
     parts.push([record::encode(&Call::Start(start(0b11))), broken].concat());
+    parts.extend(needed().iter().map(|calls| encoded(calls)));
     parts
 }
 
