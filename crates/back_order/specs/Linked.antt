@@ -1,12 +1,10 @@
--- The marked places of a round: how many they are, and each by its rank (01: back.rs; 02: N1).
-use Prim.Native.Nat.{ℕ, _+_, _<_, _≤_}
+-- The marked places of a round, and how many they are (01: back.rs; 02: N1).
+use Prim.Native.Nat.{ℕ, _+_, _≤_}
 use mathlib.Core.Path.{_≡_, refl, sym, ap, _∙_}
 use mathlib.Core.List.{List, [], _∷_, _++_, append-nil}
 use mathlib.Core.Bool.{Bool, true, false}
-use native.Mathlib.Omega.{arith}
 use native.Mathlib.Numerals.{add-one}
-use lib.ListN.{length, getD, set, take, replicate, length-set, length-take, length-replicate, length-append}
-use lib.Seq.{take-suc-set}
+use lib.ListN.{length, getD, length-append}
 use Rattle.laws.specs.Lists.{upTo}
 use Rattle.models.specs.Tables.{placeAt, Inside}
 use Rattle.back_history.specs.Refines.{one, picked}
@@ -19,12 +17,6 @@ Run os low high = (low ≤ high) × (high ≤ length os) × (length os ≤ 4096)
 unfoldable pub linkedBy : List ℕ → List Bool → ℕ → ℕ → List ℕ
 linkedBy os m low k = picked os (λ q. getD m q false) low k
 
--- the first n of 256 cells hold the places qs
-pub record Ranked (l : List ℕ) (n : ℕ) (qs : List ℕ) : Type 0 where
-  pub size : length l ≡ 256
-  pub few : n ≤ 256
-  pub are : take n l ≡ qs
-
 -- ---- the steps of the code
 
 module _ (os : List ℕ) (m : List Bool) (low : ℕ) where
@@ -32,10 +24,6 @@ module _ (os : List ℕ) (m : List Bool) (low : ℕ) where
   pub count-none : 0 ≡ length (linkedBy os m low 0)
   unfolding linkedBy picked upTo
   count-none = refl
-
-  pub rank-none : Ranked (replicate 256 0) 0 (linkedBy os m low 0)
-  unfolding linkedBy picked upTo
-  rank-none = record { size = length-replicate {A = ℕ} 256 0; few = omega arith; are = refl }
 
   module _ (k q : ℕ) (at : q ≡ placeAt os (low + k)) where
     -- one position more
@@ -59,26 +47,6 @@ module _ (os : List ℕ) (m : List Bool) (low : ℕ) where
     pub count-no : (c r : ℕ) → c ≡ length (linkedBy os m low k) → getD m q false ≡ false → r ≡ c → r ≡ length (linkedBy os m low (k + 1))
     count-no c r h f d = d ∙ (h ∙ sym (ap length (linked-no f)))
 
-    module _ (l : List ℕ) (n : ℕ) (h : Ranked l n (linkedBy os m low k)) (r : List ℕ) (c : ℕ) where
-      pub rank-yes : getD m q false ≡ true → n < 256 → r ≡ set l n q → c ≡ n + 1 → Ranked r c (linkedBy os m low (k + 1))
-      rank-yes t b e d = record {
-        size = ap length e ∙ (length-set l n q ∙ h .size);
-        few = omega arith;
-        are = rw (d, add-one n, e) (take-suc-set l n q (omega (arith, b, h .size)) ∙ (ap (λ x. x ++ (q ∷ [])) (h .are) ∙ sym (linked-yes t)));
-      }
-
-      pub rank-no : getD m q false ≡ false → r ≡ l → c ≡ n → Ranked r c (linkedBy os m low (k + 1))
-      rank-no f e d = record { size = ap length e ∙ h .size; few = omega (arith, d, h .few); are = rw (d, e) (h .are ∙ sym (linked-no f)) }
-
   -- all positions
   pub count-end : (c k n : ℕ) → c ≡ length (linkedBy os m low k) → k ≡ n → c ≡ length (linkedBy os m low n)
   count-end c k n h e = rw e at h
-
-  pub rank-end : (l : List ℕ) (c k n : ℕ) → Ranked l c (linkedBy os m low k) → k ≡ n → take (length (linkedBy os m low n)) l ≡ linkedBy os m low n
-  rank-end l c k n h e = ap (λ x. take x l) (sym long) ∙ is
-    where
-      is : take c l ≡ linkedBy os m low n
-      is = h .are ∙ ap (linkedBy os m low) e
-
-      long : c ≡ length (linkedBy os m low n)
-      long = omega (arith, ap length is, length-take c l, h .few, h .size)

@@ -7,18 +7,14 @@ use mathlib.Core.Bool.{Bool, true, false, not}
 use mathlib.Core.Logic.{⊎-elim}
 use native.Mathlib.Omega.{arith}
 use native.Mathlib.Numerals.{add-one}
-use lib.Dec.{leb}
 use lib.ListN.{length, getD, take, drop}
 use lib.Seq.{drop-drop}
-use borrow.Author.Tests.{leb-true, leb-false, le-leb}
-use Rattle.laws.specs.Test.{sameOr, leOr, and-l}
+use Rattle.laws.specs.Test.{leOr, and-l}
 use Rattle.laws.specs.Lists.{Pairs, weigh, keep-same, mem-map, getD-in}
-use Rattle.laws.specs.Sort.{sort-rises}
 use Rattle.spec.specs.History.{needed, inHistory, linkedIn, downFrom, roundsOf, countsIn, linkedCounts, eachOnce, listsOk, roundOut, drawn, inOrder, afterLists, lowest}
-use Rattle.spec.specs.OrderInRound.{linked-elim, linked-intro, linked-once, each-below, lists-head, drawn-elim}
+use Rattle.spec.specs.OrderInRound.{linked-elim, linked-intro, linked-rises as needed-rise, each-below, lists-head, drawn-elim}
 use Rattle.spec.specs.Store as store
 use Rattle.spec.specs.Store.{Store, idAt}
-use Rattle.spec.specs.Order.{strict}
 use Rattle.models.specs.Digest.{Fit}
 use Rattle.models.specs.Tables.{roundAt, placeAt, Used}
 use Rattle.commit_state.specs.declared.state.State.{State}
@@ -28,14 +24,10 @@ use Rattle.tables_test.specs.Refines.{Started}
 use Rattle.back_drain.specs.Model.{below, below-le, below-low, below-high}
 use Rattle.back_history.specs.RefinesNeeded.{lowestOf, marksOf, used-named, used-round, used-done, lowest-is, low-is, high-is, needed-elim, needed-intro}
 use Rattle.back_history.specs.Refines.{ordered-one, picked-elim, picked-intro, picked-pairs, well, ids-rise}
-use Rattle.inspector_counters.specs.Places.{high-le, round-at, round-used, span-few}
+use Rattle.inspector_counters.specs.Places.{high-le, round-at, round-used}
 use Rattle.back_order.specs.Linked.{linkedBy}
 use Rattle.back_order.specs.Counts.{countBy, countsBy}
 use Rattle.back_order.specs.Drawn.{outBy, ranksBy, drawnBy}
-
--- a round's ranks fit 256 cells
-pub runs-few : (s : State) (ks ls cs os : List ℕ) → Fit ks → Fit ls → Started s ks ls cs os → (r : ℕ) → below ks os (s .count) (r + 1) - below ks os (s .count) r ≤ 256
-runs-few s ks ls cs os fk fl t r = omega (arith, span-few s ks ls cs os fk fl t r)
 
 module _ (s : State) (ks ls cs os : List ℕ) (fk : Fit ks) (fl : Fit ls) (t : Started s ks ls cs os) (a : ℕ) (used : Used os (s .count) a) where
   -- the store
@@ -99,27 +91,6 @@ module _ (s : State) (ks ls cs os : List ℕ) (fk : Fit ks) (fl : Fit ls) (t : S
         (λ h. absurd (omega (arith, h, round-is (low + i) (omega arith) (omega arith), round-is (low + j) (omega arith) (omega arith))))
         (λ h. h .1) (ids-rise s ks ls cs os fk fl t (low + i) (low + j) (omega arith) (omega (arith, k, high-le s ks ls cs os fk fl t r))))
 
-    -- the needed points are sorted
-    sorted : Pairs (λ p q. leb (idAt v p .digest) (idAt v q .digest) ≡ true) (linkedIn v a r)
-    unfolding linkedIn
-    sorted =
-        sort-rises (λ p q. leb (idAt v p .digest) (idAt v q .digest)) (λ p q f. le-leb (idAt v q .digest) (idAt v p .digest) (omega (arith, leb-false (idAt v p .digest) (idAt v q .digest) f)))
-        (λ p q x a b. le-leb (idAt v p .digest) (idAt v x .digest) (omega (arith, leb-true (idAt v p .digest) (idAt v q .digest) a, leb-true (idAt v q .digest) (idAt v x .digest) b))) _
-
-    -- so do the needed points: a round has no digest twice
-    list-rises : Pairs upward (linkedIn v a r)
-    list-rises =
-        strict (λ p q. leb (idAt v p .digest) (idAt v q .digest) ≡ true) upward (linkedIn v a r) sorted (linked-once v a r)
-        (λ p q x y l d. sameOr (idAt v p .digest) (idAt v q .digest)
-        (λ e. absurd (d (apart p q x y e)))
-        (λ e. omega (arith, e, leb-true (idAt v p .digest) (idAt v q .digest) l)))
-      where
-        named : (q : ℕ) → List·Memᴰ q (linkedIn v a r) → v .pt q .named ≡ true
-        named q k = let (i, l, e, o, d) = at-elim q k in used-named s ks ls cs os fk fl t q (i, l, e)
-
-        apart : (p q : ℕ) → List·Memᴰ p (linkedIn v a r) → List·Memᴰ q (linkedIn v a r) → idAt v p .digest ≡ idAt v q .digest → p ≡ q
-        apart p q x y e = well s ks ls cs os fk fl t .apart p q (named p x) (named q y) (linked-elim v a r p x .2 ∙ sym (linked-elim v a r q y .2)) e
-
     module _ (lo : lowestOf s (roundAt ks a) ≤ r) (hi : r ≤ roundAt ks a) where
       -- a marked place of the round is needed
       list-intro : (q : ℕ) → List·Memᴰ q (linkedBy os m low (high - low)) → List·Memᴰ q (linkedIn v a r)
@@ -137,7 +108,7 @@ module _ (s : State) (ks ls cs os : List ℕ) (fk : Fit ks) (fl : Fit ls) (t : S
 
       -- the needed points of the round
       pub linked-is : linkedIn v a r ≡ linkedBy os m low (high - low)
-      linked-is = ordered-one upward (λ p q x y. omega (arith, x, y)) (linkedIn v a r) (linkedBy os m low (high - low)) list-rises linked-rises list-elim list-intro
+      linked-is = ordered-one upward (λ p q x y. omega (arith, x, y)) (linkedIn v a r) (linkedBy os m low (high - low)) (needed-rise v (well s ks ls cs os fk fl t) a (used-named s ks ls cs os fk fl t a used) r) linked-rises list-elim list-intro
 
       -- how many they are
       pub count-is : countBy ks os n m r ≡ length (linkedIn v a r)

@@ -10,6 +10,7 @@ ghost use Rattle.spec.specs.History.{downFrom, eachOnce, listsOk};
 ghost use Rattle.models.specs.Tables.{Inside};
 ghost use Rattle.dag_round_keys.specs.Sorted.{Sorted};
 ghost use Rattle.back_order.specs.Linked.{Run, linkedBy};
+ghost use Rattle.back_order.specs.Picks.{pickFrom};
 ghost use Rattle.back_order.specs.Counts.{countBy, countsBy};
 use inspector_counters::round::span_at;
 use models::parts::Round;
@@ -31,24 +32,37 @@ pub fn count_linked(marks: &[bool; 4096], order: &[u64], low: usize, high: usize
     n
 }
 
-// The marked places of a round, by rising digest.
-pub fn rank_round(marks: &[bool; 4096], order: &[u64], low: usize, high: usize) -> [u16; 256]
-    requires { ⌜ Run (now order) low high ⌝ }
-    requires { ⌜ high - low ≤ 256 ⌝ }
-    ensures { λ r. ⌜ take (length (linkedBy (now (order .entry)) (now (marks .entry)) low (high - low))) r ≡ linkedBy (now (order .entry)) (now (marks .entry)) low (high - low) ⌝ }
+// The first marked position from `at` on, or `high`: positions of a round rise by digest, so it is "the needed point of least digest
+// not yet picked", those below `at` being picked.
+pub fn pick(marks: &[bool; 4096], order: &[u64], at: usize, high: usize) -> usize
+    requires { ⌜ Run (now order) at high ⌝ }
+    ensures { λ r. ⌜ r ≡ pickFrom (now (order .entry)) (now (marks .entry)) at high ⌝ }
 {
-    let mut ranks: [u16; 256] = [0; 256];
-    let mut n: usize = 0;
-    let mut k: usize = 0;
-    while k < high - low {
-        let q = dag_round_keys::place(order, high, low + k);
+    let mut passed: usize = 0;
+    while passed < high - at {
+        let q = dag_round_keys::place(order, high, at + passed);
         if marks[q] {
-            ranks[n] = q as u16;
-            n += 1;
+            return at + passed;
         }
+        passed += 1;
+    }
+    high
+}
+
+// The place of rank v among the marked ones of a round: "without a buffer of points", by v + 1 picks.
+pub fn ranked(marks: &[bool; 4096], order: &[u64], low: usize, high: usize, v: usize) -> usize
+    requires { ⌜ Run (now order) low high ⌝ }
+    requires { ⌜ v < length (linkedBy (now order) (now marks) low (high - low)) ⌝ }
+    ensures { λ r. ⌜ r ≡ getD (linkedBy (now (order .entry)) (now (marks .entry)) low (high - low)) v 0 ⌝ }
+    ensures { λ r. ⌜ r < length (now (order .entry)) ⌝ }
+{
+    let mut p = pick(marks, order, low, high);
+    let mut k: usize = 0;
+    while k < v {
+        p = pick(marks, order, p + 1, high);
         k += 1;
     }
-    ranks
+    dag_round_keys::place(order, high, p)
 }
 
 // One byte of the lists.

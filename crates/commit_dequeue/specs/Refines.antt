@@ -38,7 +38,7 @@ use Rattle.back_committable.specs.declared.anchor.Tested as code
 use Rattle.back_committable.specs.Model.{spanOf, testedIn, testedOf}
 use Rattle.back_committable.specs.Refines.{tested-is, tested-count}
 use Rattle.back_order.specs.Drawn.{drawnBy}
-use Rattle.back_order.specs.Refines.{runs-few, counts-are, rest-is}
+use Rattle.back_order.specs.Refines.{counts-are, rest-is}
 use Rattle.answer_bytes.specs.Bytes.{placeId}
 use Rattle.back_history.specs.Refines.{picked}
 use Rattle.output_record.specs.Listed.{roundsBy, Ranking}
@@ -160,7 +160,7 @@ module _ (s : State) (ks ls cs os : List ℕ) (fk : Fit ks) (fl : Fit ls) (h : c
   ranking : Ranking ks os (s .count) cs
   ranking =
       let (k, l, c) = shape-says ks ls cs os (held .shaped) in
-      record { keys = k; used = held .count-ok; places = places-says _ (held .places-ok); inside = held .facts .inside; sorted = held .facts .sorted; words = c; few = runs-few s ks ls cs os fk fl held }
+      record { keys = k; used = held .count-ok; places = places-says _ (held .places-ok); inside = held .facts .inside; sorted = held .facts .sorted; words = c }
 
   -- for the test of its lists
   pub listing : Listing s ks os e

@@ -7,16 +7,14 @@ use native.Mathlib.Omega.{arith}
 use native.Mathlib.Numerals.{add-one}
 use native.Mathlib.Nat.{zero-add, suc-add, sub-zero}
 use lib.ListN.{length, getD, take, drop, length-append}
-use lib.Seq.{getD-take, drop-drop}
+use lib.Seq.{drop-drop}
 use Rattle.laws.specs.Test.{cond-yes, cond-no, leOr}
 use Rattle.laws.specs.Lists.{weigh, weigh-append, getD-in}
 use Rattle.spec.specs.History.{downFrom, eachOnce, listsOk}
 use Rattle.spec.specs.OrderInRound.{each-length, each-below, lists-head}
 use Rattle.models.specs.Tables.{Inside}
 use Rattle.dag_round_keys.specs.Sorted.{Sorted}
-use Rattle.back_drain.specs.Model.{below}
 use Rattle.back_history.specs.Model.{isDone}
-use Rattle.back_history.specs.Refines.{picked-elim}
 use Rattle.inspector_counters.specs.Count.{spanOf}
 use Rattle.inspector_counters.specs.declared.round.Span.{Span}
 use Rattle.back_order.specs.Linked.{Run, linkedBy}
@@ -37,7 +35,7 @@ sizeBy ks os n m rs = weigh (λ x. x) (countsBy ks os n m rs)
 abbrev pub historyBy : List ℕ → List ℕ → ℕ → List ℕ → List Bool → List ℕ → ℕ → ℕ → ℕ → List ℕ
 historyBy ks os n cs m l end r lo = drawnBy ks os n cs m (roundsBy r lo) (drop (end - sizeBy ks os n m (roundsBy r lo)) l)
 
--- the tables of n used places, a word each; a round's places have ranks that fit a byte
+-- the tables of n used places, a word each
 pub record Ranking (ks os : List ℕ) (n : ℕ) (cs : List ℕ) : Type 0 where
   pub keys : length ks ≡ length os * 8
   pub used : n ≤ length os
@@ -45,7 +43,6 @@ pub record Ranking (ks os : List ℕ) (n : ℕ) (cs : List ℕ) : Type 0 where
   pub inside : Inside os n (length os)
   pub sorted : Sorted ks os n
   pub words : length cs ≡ length os
-  pub few : (x : ℕ) → below ks os n (x + 1) - below ks os n x ≤ 256
 
 -- and the lists of the rounds from r down to lo, which end at `end`, are right
 pub record Listable (ks os : List ℕ) (n : ℕ) (cs : List ℕ) (m : List Bool) (l : List ℕ) (end r lo : ℕ) : Type 0 where
@@ -82,59 +79,59 @@ pub new-yes : (cs : List ℕ) (q : ℕ) (b : Bool) → b ≡ isDone cs q → b �
 unfolding newOf
 new-yes cs q b e f = cond-yes _ _ _ (ap not (sym e ∙ f)) refl
 
--- what the last j bytes give, of a list of n bytes from `from` on
+-- what the last j bytes give, of a list of n bytes from `from` on, in ranks of the places ps
 abbrev pub lastBy : List ℕ → List ℕ → List ℕ → ℕ → ℕ → ℕ → List ℕ
-lastBy cs ranks l from n j = outBy cs (take n ranks) (drop (n - j) (take n (drop from l)))
+lastBy cs ps l from n j = outBy cs ps (drop (n - j) (take n (drop from l)))
 
-module _ (cs ranks l : List ℕ) (from n : ℕ) (ok : eachOnce n (take n (drop from l)) ≡ true) where
+module _ (l : List ℕ) (from n : ℕ) (ok : eachOnce n (take n (drop from l)) ≡ true) where
   -- the list
   abbrev list : List ℕ
   list = take n (drop from l)
-
-  abbrev lastOut : ℕ → List ℕ
-  lastOut = lastBy cs ranks l from n
 
   -- it has n bytes
   list-length : length list ≡ n
   list-length = each-length n list ok
 
-  -- each names one of the ranks
-  pub byte-small : (i : ℕ) → i < n → getD l (from + i) 0 < n
-  byte-small i h = subst (λ x. x < n) (part-at l from n i h) (each-below n list ok (getD list i 0) (getD-in list i 0 (omega (arith, h, list-length))))
+  -- each is a rank
+  pub byte-small : (i v : ℕ) → i < n → v ≡ getD l (from + i) 0 → v < n
+  byte-small i v h is = subst (λ x. x < n) (part-at l from n i h ∙ sym is) (each-below n list ok (getD list i 0) (getD-in list i 0 (omega (arith, h, list-length))))
 
-  -- none at first
-  pub last-none : lastOut 0 ≡ []
-  last-none = ap (λ x. outBy cs (take n ranks) (drop x list)) (sub-zero n ∙ sym list-length) ∙ out-none cs (take n ranks) list
+  module _ (cs ps : List ℕ) where
+    abbrev lastOut : ℕ → List ℕ
+    lastOut = lastBy cs ps l from n
 
-  -- all bytes
-  pub last-all : (j : ℕ) → n ≤ j → lastOut j ≡ outBy cs (take n ranks) list
-  last-all j h = ap (λ x. outBy cs (take n ranks) (drop x list)) (none n j h)
-    where
-      none : (n j : ℕ) → n ≤ j → n - j ≡ 0
-      none n j h = omega arith
+    -- none at first
+    pub last-none : lastOut 0 ≡ []
+    last-none = ap (λ x. outBy cs ps (drop x list)) (sub-zero n ∙ sym list-length) ∙ out-none cs ps list
 
-  module _ (j q : ℕ) (h : j < n) (is : q ≡ getD ranks (getD l (from + (n - 1 - j)) 0) 0) where
-    -- one byte more
-    pub last-more : lastOut (j + 1) ≡ lastOut j ++ newOf cs q
-    last-more =
-        ap (λ x. outBy cs (take n ranks) (drop x list)) (here n j)
-        ∙ (out-step cs (take n ranks) list (n - 1 - j) (omega (arith, h, list-length))
-        ∙ (ap (λ x. outBy cs (take n ranks) (drop x list) ++ newOf cs (getD (take n ranks) (getD list (n - 1 - j) 0) 0)) (next n j h)
-        ∙ ap (λ x. lastOut j ++ newOf cs x) place))
+    -- all bytes
+    pub last-all : (j : ℕ) → n ≤ j → lastOut j ≡ outBy cs ps list
+    last-all j h = ap (λ x. outBy cs ps (drop x list)) (none n j h)
       where
-        here : (n j : ℕ) → n - (j + 1) ≡ n - 1 - j
-        here n j = omega arith
+        none : (n j : ℕ) → n ≤ j → n - j ≡ 0
+        none n j h = omega arith
 
-        next : (n j : ℕ) → j < n → suc (n - 1 - j) ≡ n - j
-        next n j h = omega arith
+    module _ (j v q : ℕ) (h : j < n) (byte : v ≡ getD l (from + (n - 1 - j)) 0) (is : q ≡ getD ps v 0) where
+      -- one byte more
+      pub last-more : lastOut (j + 1) ≡ lastOut j ++ newOf cs q
+      last-more =
+          ap (λ x. outBy cs ps (drop x list)) (here n j)
+          ∙ (out-step cs ps list (n - 1 - j) (omega (arith, h, list-length))
+          ∙ (ap (λ x. outBy cs ps (drop x list) ++ newOf cs (getD ps (getD list (n - 1 - j) 0) 0)) (next n j h)
+          ∙ ap (λ x. lastOut j ++ newOf cs x) place))
+        where
+          here : (n j : ℕ) → n - (j + 1) ≡ n - 1 - j
+          here n j = omega arith
 
-        place : getD (take n ranks) (getD list (n - 1 - j) 0) 0 ≡ q
-        place = ap (λ x. getD (take n ranks) x 0) (part-at l from n (n - 1 - j) (omega arith)) ∙ (getD-take n ranks _ 0 (byte-small (n - 1 - j) (omega arith)) ∙ sym is)
+          next : (n j : ℕ) → j < n → suc (n - 1 - j) ≡ n - j
+          next n j h = omega arith
 
-    -- there is room for it
-    pub last-room : (ks : List ℕ) (at : ℕ) (b₀ b : List ℕ) (end size : ℕ) → Wrote ks at b₀ (lastOut j) b end → at + length (outBy cs (take n ranks) list) * 37 ≤ size → end + length (newOf cs q) * 37 ≤ size
-    last-room ks at b₀ b end size (e, d) r =
-        omega (arith, e, r, out-fewer cs (take n ranks) list (n - (j + 1)), ap length last-more, length-append (lastOut j) (newOf cs q))
+          place : getD ps (getD list (n - 1 - j) 0) 0 ≡ q
+          place = ap (λ x. getD ps x 0) (part-at l from n (n - 1 - j) (omega arith) ∙ sym byte) ∙ sym is
+
+      -- there is room for it
+      pub last-room : (ks : List ℕ) (at : ℕ) (b₀ b : List ℕ) (end size : ℕ) → Wrote ks at b₀ (lastOut j) b end → at + length (outBy cs ps list) * 37 ≤ size → end + length (newOf cs q) * 37 ≤ size
+      last-room ks at b₀ b end size (e, d) r = omega (arith, e, r, out-fewer cs ps list (n - (j + 1)), ap length last-more, length-append (lastOut j) (newOf cs q))
 
 -- ---- one round
 
@@ -146,21 +143,10 @@ module _ (ks os : List ℕ) (n : ℕ) (cs : List ℕ) (m : List Bool) (l : List 
   pub span-run : Run os (x .low) (x .high)
   span-run = run-of ks os n r x (h .tables .used) (h .tables .places) (h .tables .inside) (h .tables .sorted) is
 
-  pub span-few : x .high - x .low ≤ 256
-  unfolding spanOf
-  span-few = subst (λ (y : Span). y .high - y .low ≤ 256) (sym is) (h .tables .few r)
-
   -- they are those of the round
   linked-ranks : linked ≡ ranksBy ks os n m r
   unfolding spanOf
   linked-ranks = ap (λ (y : Span). linkedBy os m (y .low) (y .high - y .low)) is
-
-  -- each is a place
-  linked-inside : (k : ℕ) → k < length linked → getD linked k 0 < length cs
-  unfolding linkedBy
-  linked-inside k b =
-      let (j, i, e, t) = picked-elim os (λ q. getD m q false) (x .low) (x .high - x .low) (getD linked k 0) (getD-in linked k 0 b) in
-      subst (λ y. y < length cs) (sym e) (omega (arith, h .tables .words, span-run .3 (x .low + j) (omega arith)))
 
   module _ (c : ℕ) (e : c ≡ length linked) where
     pub counted : c ≡ countBy ks os n m r
@@ -169,17 +155,11 @@ module _ (ks os : List ℕ) (n : ℕ) (cs : List ℕ) (m : List Bool) (l : List 
     pub counted-list : eachOnce c (take c (drop (end - c) l)) ≡ true
     counted-list = subst (λ z. eachOnce z (take z (drop (end - z) l)) ≡ true) (sym counted) (h .right)
 
-    module _ (ranks : List ℕ) (are : take (length linked) ranks ≡ linked) where
-      pub ranked-inside : (k : ℕ) → k < c → getD ranks k 0 < length cs
-      ranked-inside k b =
-          let d : k < length linked = omega (arith, b, e) in
-          subst (λ y. y < length cs) (ap (λ y. getD y k 0) (sym are) ∙ getD-take (length linked) ranks k 0 d) (linked-inside k d)
-
-      -- what comes out
-      pub ranked-out : outBy cs (take c ranks) (take c (drop (end - c) l)) ≡ roundBy ks os n cs m l end r
-      ranked-out =
-          ap (λ y. outBy cs y (take c (drop (end - c) l))) (ap (λ y. take y ranks) e ∙ (are ∙ linked-ranks))
-          ∙ ap (λ y. outBy cs (ranksBy ks os n m r) (take y (drop (end - y) l))) counted
+    -- what comes out
+    pub counted-out : outBy cs linked (take c (drop (end - c) l)) ≡ roundBy ks os n cs m l end r
+    counted-out =
+        ap (λ y. outBy cs y (take c (drop (end - c) l))) linked-ranks
+        ∙ ap (λ y. outBy cs (ranksBy ks os n m r) (take y (drop (end - y) l))) counted
 
 -- ---- rounds rising
 

@@ -2,10 +2,11 @@
 // An anchor's record. `marks` are the places that the anchor needs, and the place lists say the order inside each round.
 ghost use mathlib.Core.Path.{_≡_};
 ghost use mathlib.Core.Bool.{true};
-ghost use Prim.Native.Nat.{ℕ, _+_, _*_, _<_, _≤_, _-_};
-ghost use lib.ListN.{length, getD, take, drop};
+ghost use Prim.Native.Nat.{_+_, _*_, _<_, _≤_, _-_};
+ghost use lib.ListN.{length, take, drop};
 ghost use Rattle.laws.specs.Bytes.{written};
 ghost use Rattle.spec.specs.History.{eachOnce};
+ghost use Rattle.back_order.specs.Linked.{Run, linkedBy};
 ghost use Rattle.back_order.specs.Counts.{countBy};
 ghost use Rattle.back_order.specs.Drawn.{newOf, outBy};
 ghost use Rattle.output_record.specs.Model.{flagOf, headOf, Wrote, recordOf, executes, isFirstOf, previousOf};
@@ -16,26 +17,11 @@ use answer_bytes::put_id;
 use answer_bytes::put_number;
 use back_order::byte_at;
 use back_order::count_linked;
-use back_order::rank_round;
+use back_order::ranked;
 use commit_state::state::State;
 use inspector_counters::round::span_at;
 use models::cert::Cert;
 use models::parts::Round;
-
-fn index(place: u16) -> usize
-    ensures { λ r. ⌜ r ≡ place ⌝ }
-{
-    place as usize
-}
-
-// The place of the rank that a byte of the lists names.
-fn place_of(ranks: &[u16; 256], lists: &[u8], at: usize) -> usize
-    requires { ⌜ at < length (now lists) ⌝ }
-    ensures { λ r. ⌜ r ≡ getD (now (ranks .entry)) (getD (now (lists .entry)) at 0) 0 ⌝ }
-{
-    let rank = byte_at(lists, at);
-    index(ranks[rank])
-}
 
 // The id of place q, if it isn't committed.
 fn put_new(b: &mut [u8], at: usize, keys: &[u64], certs: &[u64], q: usize) -> usize
@@ -49,26 +35,33 @@ fn put_new(b: &mut [u8], at: usize, keys: &[u64], certs: &[u64], q: usize) -> us
     put_id(b, at, keys, q)
 }
 
-// The new ids of a round with n ranked places, from the last byte of its list to the first.
+// The new ids of a round, its n needed points at positions from `low` to `high`, from the last byte of its list to the first. Each byte
+// is a rank: its place is picked "out of the round's places".
 fn put_round(
     b: &mut [u8],
     at: usize,
     keys: &[u64],
     certs: &[u64],
-    ranks: &[u16; 256],
+    marks: &[bool; 4096],
+    order: &[u64],
     lists: &[u8],
     from: usize,
+    low: usize,
+    high: usize,
     n: usize,
 ) -> usize
-    requires { ⌜ (from + n ≤ length (now lists)) × (eachOnce n (take n (drop from (now lists))) ≡ true) × (length (now certs) * 8 ≤ length (now keys)) ⌝ }
-    requires { ⌜ ((k : ℕ) → k < n → getD (now ranks) k 0 < length (now certs)) × (at + length (outBy (now certs) (take n (now ranks)) (take n (drop from (now lists)))) * 37 ≤ length (now b)) ⌝ }
-    ensures { λ r. ⌜ Wrote (now (keys .entry)) at (now (b .entry)) (outBy (now (certs .entry)) (take n (now (ranks .entry))) (take n (drop from (now (lists .entry))))) (now (b .exit)) r ⌝ }
+    requires { ⌜ (from + n ≤ length (now lists)) × (eachOnce n (take n (drop from (now lists))) ≡ true) × (length (now certs) * 8 ≤ length (now keys)) × (length (now certs) ≡ length (now order)) ⌝ }
+    requires { ⌜ Run (now order) low high × (n ≡ length (linkedBy (now order) (now marks) low (high - low))) ⌝ }
+    requires { ⌜ at + length (outBy (now certs) (linkedBy (now order) (now marks) low (high - low)) (take n (drop from (now lists)))) * 37 ≤ length (now b) ⌝ }
+    ensures { λ r. ⌜ Wrote (now (keys .entry)) at (now (b .entry))
+        (outBy (now (certs .entry)) (linkedBy (now (order .entry)) (now (marks .entry)) low (high - low)) (take n (drop from (now (lists .entry))))) (now (b .exit)) r ⌝ }
 {
     let mut end = at;
     let mut j: usize = 0;
     while j < n {
         let k = n - 1 - j;
-        let q = place_of(ranks, lists, from + k);
+        let v = byte_at(lists, from + k);
+        let q = ranked(marks, order, low, high, v);
         end = put_new(b, end, keys, certs, q);
         j += 1;
     }
@@ -101,9 +94,20 @@ fn put_one(
 {
     let span = span_at(keys, order, n, round);
     let count = count_linked(marks, order, span.low, span.high);
-    let ranks = rank_round(marks, order, span.low, span.high);
     let from = end - count;
-    let next = put_round(b, at, keys, certs, &ranks, lists, from, count);
+    let next = put_round(
+        b,
+        at,
+        keys,
+        certs,
+        marks,
+        order,
+        lists,
+        from,
+        span.low,
+        span.high,
+        count,
+    );
     Offsets {
         at: next,
         end: from,

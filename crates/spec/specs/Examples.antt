@@ -1,5 +1,5 @@
--- Small lists of calls and what they give: each refusal, the order of the tests, chains of several anchors, place lists, payload sums, the
--- look-up's answers, remove's bytes.
+-- Small lists of calls and what they give: each refusal, the order of the tests, chains of several anchors, place lists, picks, payload
+-- sums, the look-up's answers, remove's bytes.
 use Prim.Native.Nat.{ℕ, suc, _+_, _*_}
 use mathlib.Core.Path.{_≡_, refl}
 use mathlib.Core.List.{List, [], _∷_, _++_, map}
@@ -10,8 +10,9 @@ use lib.ListN.{getD, take, drop, replicate}
 use Rattle.laws.specs.Lists
 use Rattle.laws.specs.Bytes.{value}
 use Rattle.spec.specs.Ids.{Id, Ref}
-use Rattle.spec.specs.Store.{Resolution, Conf, Store, noId, resolvedAt, namedAt, never, look, word, withProgress, withMemory}
+use Rattle.spec.specs.Store.{Resolution, Conf, Store, idAt, noId, resolvedAt, namedAt, never, look, word, withProgress, withMemory}
 use Rattle.spec.specs.Chain.{orZero}
+use Rattle.spec.specs.Picks.{picks}
 use Rattle.spec.specs.Inspect.{weight}
 use Rattle.spec.specs.Calls.{Answer, Outcome, StartArgs, Call, start, resetAll, round, name, resolve, certify, gapQuestion, commit, outlook, remove, drop as dropTo, call, startOk, conflictRound, done, flag, anchors, refused}
 use Rattle.spec.specs.Demand.{after}
@@ -365,16 +366,22 @@ digests o at ks = map (λ k. getD (o .buffer) (at + 119 + k * 37) 99) ks
 abbrev four : Outcome → List ℕ
 four o = numbers (o .answer) ++ digests o 0 (0 ∷ 1 ∷ 2 ∷ 3 ∷ [])
 
--- three points of 11 by three peers under the anchor 12.0.120, trigger 14.0.140
-abbrev triple : List ℕ → Outcome
-triple l = call (after (blank 6) (
+-- these points of 11, some of them included by the anchor 12.0.120, trigger 14.0.140
+abbrev under12 : List Id → List Ref → Store
+under12 ps is = after (blank 6) (
     (start (record { conf = conf 2; bottom = 10; peers = 7; afterGap = false; used = some 0 }) ∷ round 11 7 ∷ round 12 7 ∷ round 13 7 ∷ round 14 7 ∷ [])
-    ++ (both (id 11 0 3) (gave 1 [] [])
-    ++ (both (id 11 1 1) (gave 1 [] [])
-    ++ (both (id 11 2 2) (gave 1 [] [])
-    ++ (both (id 12 0 120) (gave 1 (ref 0 3 ∷ ref 1 1 ∷ ref 2 2 ∷ []) [])
+    ++ (Lists.joined (λ i. both i (gave 1 [] [])) ps
+    ++ (both (id 12 0 120) (gave 1 is [])
     ++ (both (id 13 0 130) (point 1 true false (id 10 0 0) (ref 0 120 ∷ []))
-    ++ (both (id 14 0 140) (point 1 false true (id 10 0 0) (ref 0 130 ∷ [])) ++ (certify (id 12 0 120) ∷ []))))))))) (commit (id 14 0 140) l (replicate 247 0))
+    ++ (both (id 14 0 140) (point 1 false true (id 10 0 0) (ref 0 130 ∷ [])) ++ (certify (id 12 0 120) ∷ []))))))
+
+-- three points of 11 by three peers, not named by rising digest
+abbrev three : List Id
+three = id 11 0 3 ∷ id 11 1 1 ∷ id 11 2 2 ∷ []
+
+-- all of them included
+abbrev triple : List ℕ → Outcome
+triple l = call (under12 three (ref 0 3 ∷ ref 1 1 ∷ ref 2 2 ∷ [])) (commit (id 14 0 140) l (replicate 247 0))
 
 -- two anchors 12.0.120 and 14.0.140 in one line of includes from 16.0.160 down to 11.0.110; p is done to each resolution
 abbrev ladderCalls : (Resolution → Resolution) → List Call
@@ -462,6 +469,42 @@ lists =
 listed : agree lists ≡ true
 unfolding computed numbers same agree Lists.all
 listed = refl
+
+-- ---- picks (02: N4)
+
+-- the digests of k picks in round r for the anchor at place a
+abbrev pickedIn : Store → ℕ → ℕ → ℕ → List ℕ
+pickedIn s a r k = map (λ q. idAt s q .digest) (picks s a r k)
+
+-- anchor 13.0.5 over 12.0.4 and 12.1.2, which include 11.0.3 and 11.1.1
+abbrev interleaved : Store
+interleaved = after (blank 5) (
+    (from 2 10 false (some 0) ∷ rounds 11 3)
+    ++ (both (id 11 0 3) (gave 1 [] [])
+    ++ (both (id 11 1 1) (gave 1 [] [])
+    ++ (both (id 12 0 4) (gave 1 (ref 0 3 ∷ []) [])
+    ++ (both (id 12 1 2) (gave 1 (ref 1 1 ∷ []) []) ++ both (id 13 0 5) (gave 1 (ref 0 4 ∷ ref 1 2 ∷ []) []))))))
+
+abbrev picked : List Row
+picked =
+    -- one needed point: one pick, then none; none at once in a round without needed points
+    row 1 (pickedIn passing 1 11 1 ++ pickedIn passing 1 11 2) (110 ∷ 110 ∷ [])
+    ∷ row 2 (pickedIn passing 1 12 1) []
+    -- 2 is named in the round and linked by nobody
+    ∷ row 3 (pickedIn (under12 three (ref 0 3 ∷ ref 1 1 ∷ [])) 3 11 3) (1 ∷ 3 ∷ [])
+    -- by rising digest, in whatever order they were named: their places, their digests
+    ∷ row 4 (picks (under12 three (ref 0 3 ∷ ref 1 1 ∷ ref 2 2 ∷ [])) 3 11 3) (1 ∷ 2 ∷ 0 ∷ [])
+    ∷ row 5 (pickedIn (under12 three (ref 0 3 ∷ ref 1 1 ∷ ref 2 2 ∷ [])) 3 11 3) (1 ∷ 2 ∷ 3 ∷ [])
+    ∷ row 6 (pickedIn (under12 (id 11 1 1 ∷ id 11 2 2 ∷ id 11 0 3 ∷ []) (ref 0 3 ∷ ref 1 1 ∷ ref 2 2 ∷ [])) 3 11 3) (1 ∷ 2 ∷ 3 ∷ [])
+    -- rounds whose digests interleave: each is picked alone
+    ∷ row 7 (pickedIn interleaved 4 13 3) (5 ∷ [])
+    ∷ row 8 (pickedIn interleaved 4 12 3) (2 ∷ 4 ∷ [])
+    ∷ row 9 (pickedIn interleaved 4 11 3) (1 ∷ 3 ∷ [])
+    ∷ []
+
+picks-agree : agree picked ≡ true
+unfolding computed numbers same agree Lists.all
+picks-agree = refl
 
 -- ---- payload sums (02: N2)
 

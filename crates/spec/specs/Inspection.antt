@@ -13,7 +13,7 @@ use native.Mathlib.Omega.{arith}
 use Rattle.laws.specs.Test.{byTest, clash, same-test, both, and-l, and-r, sameOr, leOr}
 use Rattle.laws.specs.Scan.{those, those-elim, those-nodup, those-count, those-fewer}
 use Rattle.laws.specs.Lists.{has, has-intro, has-elim, keep, keep-in, keep-append, keep-length, count, count-none, count-fewer, keys-most, map-same, keep-map, mem-map, joined, joined-append, joined-in, upTo, upto-in, NoDup, Pairs, append-pairs, keys-apart, keys-nodup, map-pairs, picked-pairs}
-use Rattle.laws.specs.Sort.{sort-mem, sort-once, sort-rises, sort-count}
+use Rattle.laws.specs.Sort.{sort, sort-mem, sort-once, sort-rises, sort-count}
 use Rattle.laws.specs.Peers.{member}
 use Rattle.laws.specs.Bytes.{written}
 use Rattle.spec.specs.Ids.{Id, prev}
@@ -181,22 +181,24 @@ abbrev pub LowerAt : Store → ℕ → ℕ → Type 0
 LowerAt s p q = idAt s p .digest < idAt s q .digest
 
 module _ (s : Store) (r : ℕ) where
-  -- a place of the round holds a point of it
-  pub place-elim : (q : ℕ) → List·Memᴰ q (placesIn s r) → (s .pt q .named ≡ true) × (roundAt s q ≡ r)
-  unfolding placesIn
-  place-elim q m =
-      let t = those-elim _ _ q (sort-mem _ q _ .0 m) .1 in
-      (and-l _ (eqb (roundAt s q) r) t, eqb-true _ _ (and-r (s .pt q .named) _ t))
+  -- the points of the round that pass, sorted by digest
+  abbrev pub byDigest : (ℕ → Bool) → List ℕ
+  byDigest f = sort (λ p q. leb (idAt s p .digest) (idAt s q .digest)) (those (s .places) (λ q. f q && eqb (roundAt s q) r))
 
-  -- the places rise by digest
-  pub places-rise : Wf s → Pairs (LowerAt s) (placesIn s r)
-  unfolding placesIn
-  places-rise w =
-      strict (λ (p q : ℕ). at-most p q ≡ true) _ (placesIn s r)
+  -- each passes and is of the round
+  pub digest-elim : (f : ℕ → Bool) (q : ℕ) → List·Memᴰ q (byDigest f) → (q < s .places) × (f q ≡ true) × (roundAt s q ≡ r)
+  digest-elim f q m =
+      let (l, t) = those-elim _ _ q (sort-mem _ q _ .0 m) in
+      (l, and-l _ (eqb (roundAt s q) r) t, eqb-true _ _ (and-r (f q) _ t))
+
+  -- named ones rise strictly: a round has no digest twice
+  pub digest-rises : Wf s → (f : ℕ → Bool) → ((q : ℕ) → f q ≡ true → s .pt q .named ≡ true) → Pairs (LowerAt s) (byDigest f)
+  digest-rises w f named =
+      strict (λ (p q : ℕ). at-most p q ≡ true) _ _
       (sort-rises at-most is-total is-trans _)
       (sort-once at-most _ (those-nodup _ _))
-      (λ p q m n l d. let (a, i) = place-elim p m in let (b, j) = place-elim q n in
-      sameOr (idAt s p .digest) (idAt s q .digest) (λ e. absurd (d (w .apart p q a b (i ∙ sym j) e))) (λ e. omega (arith, leb-true (idAt s p .digest) (idAt s q .digest) l)))
+      (λ p q m n l d. let (x, a, i) = digest-elim f p m in let (y, b, j) = digest-elim f q n in
+      sameOr (idAt s p .digest) (idAt s q .digest) (λ e. absurd (d (w .apart p q (named p a) (named q b) (i ∙ sym j) e))) (λ e. omega (arith, leb-true (idAt s p .digest) (idAt s q .digest) l)))
     where
       at-most : ℕ → ℕ → Bool
       at-most p q = leb (idAt s p .digest) (idAt s q .digest)
@@ -206,6 +208,16 @@ module _ (s : Store) (r : ℕ) where
 
       is-trans : (p q x : ℕ) → at-most p q ≡ true → at-most q x ≡ true → at-most p x ≡ true
       is-trans p q x f g = le-leb (idAt s p .digest) (idAt s x .digest) (omega (arith, leb-true (idAt s p .digest) (idAt s q .digest) f, leb-true (idAt s q .digest) (idAt s x .digest) g))
+
+  -- a place of the round holds a point of it
+  pub place-elim : (q : ℕ) → List·Memᴰ q (placesIn s r) → (s .pt q .named ≡ true) × (roundAt s q ≡ r)
+  unfolding placesIn
+  place-elim q m = let (l, n, e) = digest-elim (λ q. s .pt q .named) q m in (n, e)
+
+  -- the places rise by digest
+  pub places-rise : Wf s → Pairs (LowerAt s) (placesIn s r)
+  unfolding placesIn
+  places-rise w = digest-rises w (λ q. s .pt q .named) (λ q h. h)
 
   -- so do the entries that the round leaves
   pub data-rises : Wf s → Ascending (roundData s r .entries)

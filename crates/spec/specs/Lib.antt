@@ -20,6 +20,7 @@ pub mod Refusals
 pub mod Preservation
 pub mod Inspection
 pub mod OrderInRound
+pub mod Picks
 pub mod Demand
 pub mod Extension
 pub mod Demand3Second

@@ -23,7 +23,7 @@ use Rattle.spec.specs.HeightEquations.{inside}
 use Rattle.spec.specs.Sweep.{marked→need, needed-is}
 use Rattle.spec.specs.WellFormed.{Wf}
 use Rattle.spec.specs.Order.{need-named, history-named, history-elim, history-intro, history-once}
-use Rattle.spec.specs.Inspection.{round-few}
+use Rattle.spec.specs.Inspection.{LowerAt, digest-elim, digest-rises, round-few}
 
 -- ---- lists of places
 
@@ -167,9 +167,7 @@ rounds-fall s a = down-falls (roundAt s a) (suc (roundAt s a) - lowest s a) (ome
 -- each is a place, needed and of that round
 pub linked-elim : (s : Store) (a r q : ℕ) → List·Memᴰ q (linkedIn s a r) → (q < s .places) × (needed s a q ≡ true) × (roundAt s q ≡ r)
 unfolding linkedIn
-linked-elim s a r q m =
-    let (l, h) = those-elim (s .places) (λ q. needed s a q && eqb (roundAt s q) r) q (sort-mem (λ p q. leb (idAt s p .digest) (idAt s q .digest)) q _ .0 m) in
-    (l, and-l _ _ h, eqb-true _ _ (and-r (needed s a q) _ h))
+linked-elim s a r q m = digest-elim s r (needed s a) q m
 
 -- each such place is among them
 pub linked-intro : (s : Store) (a r q : ℕ) → q < s .places → needed s a q ≡ true → roundAt s q ≡ r → List·Memᴰ q (linkedIn s a r)
@@ -187,6 +185,11 @@ module _ (s : Store) (w : Wf s) (a : ℕ) (there : s .pt a .named ≡ true) wher
   needed-named : (q : ℕ) → needed s a q ≡ true → s .pt q .named ≡ true
   unfolding needed
   needed-named q h = need-named s a q there (marked→need s a q (and-l _ _ h))
+
+  -- they rise by digest
+  pub linked-rises : (r : ℕ) → Pairs (LowerAt s) (linkedIn s a r)
+  unfolding linkedIn
+  linked-rises r = digest-rises s r w (needed s a) needed-named
 
   -- "At most 4 digests per author and round", and 32 authors: a place fits a byte
   pub linked-few : (r : ℕ) → length (linkedIn s a r) ≤ 128

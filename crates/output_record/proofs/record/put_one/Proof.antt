@@ -4,50 +4,42 @@ use native.Mathlib.Omega.{arith}
 use lib.ListN.{length}
 use borrow.Author.Needs.{needs}
 use Rattle.output_record.specs.Model.{wrote-is}
-use Rattle.output_record.specs.Listed.{span-run, span-few, counted, counted-list, ranked-inside, ranked-out}
+use Rattle.output_record.specs.Listed.{span-run, counted, counted-list, counted-out}
 use Rattle.output_record.proofs.record.put_one.Statement.{statement}
 use Rattle.output_record.proofs.record.put_one.Tie as tie
 
 count-linked-requires : tie.Need-count-linked-requires
 count-linked-requires c κs = let s = c .before .before .before .before .before .before in span-run _ _ _ _ _ _ _ _ (s .pre .0) _ (c .span-at .ensures)
 
-rank-round-requires : tie.Need-rank-round-requires
-rank-round-requires c κs =
-    let h = c .before .before .before .before .before .before .before .pre .0 in
-    let is = c .before .span-at .ensures in
-    (span-run _ _ _ _ _ _ _ _ h _ is, span-few _ _ _ _ _ _ _ _ h _ is)
-
 sub-from : tie.Need-sub-from
 sub-from c =
-    let s = c .before .before .before .before .before .before .before .before in
+    let s = c .before .before .before .before .before .before .before in
     let a = s .args in
-    let k = counted (a .keys .now) (a .order .now) (a .n) (a .certs .now) (a .marks .now) (a .lists .now) (a .end) (a .round .0) (s .pre .0) _ (c .before .before .span-at .ensures) _ (c .before .count-linked .ensures) in
+    let k = counted (a .keys .now) (a .order .now) (a .n) (a .certs .now) (a .marks .now) (a .lists .now) (a .end) (a .round .0) (s .pre .0) _ (c .before .span-at .ensures) _ (c .count-linked .ensures) in
     omega (arith, k, s .pre .0 .long)
 
 put-round-requires : tie.Need-put-round-requires
 put-round-requires c κs =
-    let s = c .before .before .before .before .before .before .before .before .before .before in
+    let s = c .before .before .before .before .before .before .before .before in
     let a = s .args in
     let h = s .pre .0 in
-    let is = c .before .before .before .before .span-at .ensures in
-    let e = c .before .before .before .count-linked .ensures in
-    let are = c .before .before .rank-round .ensures in
+    let is = c .before .before .span-at .ensures in
+    let e = c .before .count-linked .ensures in
     let k = counted (a .keys .now) (a .order .now) (a .n) (a .certs .now) (a .marks .now) (a .lists .now) (a .end) (a .round .0) h _ is _ e in
-    let out = ranked-out (a .keys .now) (a .order .now) (a .n) (a .certs .now) (a .marks .now) (a .lists .now) (a .end) (a .round .0) h _ is _ e _ are in (
-      (omega (arith, k, h .long, h .within), counted-list _ _ _ _ _ _ _ _ h _ is _ e, omega (arith, h .tables .words, h .tables .keys)),
-      (ranked-inside _ _ _ _ _ _ _ _ h _ is _ e _ are, omega (arith, ap length out, s .pre .1)),
+    let out = counted-out (a .keys .now) (a .order .now) (a .n) (a .certs .now) (a .marks .now) (a .lists .now) (a .end) (a .round .0) h _ is _ e in (
+      (omega (arith, k, h .long, h .within), counted-list _ _ _ _ _ _ _ _ h _ is _ e, omega (arith, h .tables .words, h .tables .keys), h .tables .words),
+      ((span-run _ _ _ _ _ _ _ _ h _ is, e), omega (arith, ap length out, s .pre .1)),
     )
 
 returns : tie.Need-returns
 returns c =
-    let s = c .before .before .before .before .before .before .before .before .before .before .before .before .before in
+    let s = c .before .before .before .before .before .before .before .before .before .before .before in
     let a = s .args in
     let h = s .pre .0 in
-    let is = c .before .before .before .before .before .before .before .span-at .ensures in
-    let e = c .before .before .before .before .before .before .count-linked .ensures in
-    let are = c .before .before .before .before .before .rank-round .ensures in (
+    let is = c .before .before .before .before .before .span-at .ensures in
+    let e = c .before .before .before .before .count-linked .ensures in (
       ap (λ x. a .end - x) (counted _ _ _ _ _ _ _ _ h _ is _ e),
-      wrote-is _ _ _ _ _ _ _ (ranked-out _ _ _ _ _ _ _ _ h _ is _ e _ are) (c .before .before .put-round .ensures),
+      wrote-is _ _ _ _ _ _ _ (counted-out _ _ _ _ _ _ _ _ h _ is _ e) (c .before .before .put-round .ensures),
     )
 
 pub put-one-spec : {M : Type 1} → statement M
@@ -56,7 +48,6 @@ put-one-spec =
     (tie.spec
     (λ c κs. search needs)
     count-linked-requires
-    rank-round-requires
     sub-from
     put-round-requires
     (λ c. search needs)
