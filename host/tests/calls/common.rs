@@ -209,6 +209,15 @@ impl Noise {
         self.below(n) == 0
     }
 
+    /// The places below n in any order.
+    pub fn shuffled(&mut self, n: u32) -> Vec<u8> {
+        let mut list: Vec<u8> = (0..n as u8).collect();
+        for last in (1..n).rev() {
+            list.swap(last as usize, self.below(last + 1) as usize);
+        }
+        list
+    }
+
     pub fn fill(&mut self, words: &mut [u64]) {
         words.fill_with(|| self.word());
     }

@@ -4,18 +4,24 @@
 use committer::{Anchor, Committer, Look, PointId, PointInfo, RECORD_BYTES, Refusal, Refused, Start, anchors, looks};
 
 use crate::commits::{anchor, proof, put, trigger, used};
-use crate::common::{assert_outlook, assert_unchanged, buffer, id, refuses, started, valid, version};
+use crate::common::{assert_outlook, assert_unchanged, buffer, id, point, refuses, started, valid, version};
 use crate::outlooks::{look, trigger_of_two, two_anchors};
 
 const BAD_LISTS: Refused = Refused { refusal: Refusal::BadLists, finished: 0 };
 
-/// The anchor's proof and the trigger above it; the anchor is certified. Returned is the trigger.
-fn yields(committer: &mut Committer, anchor: PointId) -> PointId {
+/// The anchor's proof and the trigger above it. Returned is the trigger.
+pub fn proved(committer: &mut Committer, anchor: PointId) -> PointId {
     let [p, t] = [id(anchor.round + 1, 0, 'p'), id(anchor.round + 2, 0, 't')];
     put(committer, p, proof(p, &[anchor]));
     put(committer, t, trigger(&[p]));
-    committer.certify(&anchor).unwrap();
     t
+}
+
+/// The same, and the anchor is certified.
+pub fn yields(committer: &mut Committer, anchor: PointId) -> PointId {
+    let trigger = proved(committer, anchor);
+    committer.certify(&anchor).unwrap();
+    trigger
 }
 
 /// K13 in place order: a in 11, b and c above it, the anchor d in 13, its proof e, the trigger f.
@@ -51,7 +57,7 @@ pub fn letters_of(anchor: &Anchor) -> String {
 }
 
 /// The commit hands out records with these letters, in a buffer of just as many bytes.
-fn hands_out(committer: &Committer, trigger: &PointId, lists: &[u8], expected: &[&str]) -> Committer {
+pub fn hands_out(committer: &Committer, trigger: &PointId, lists: &[u8], expected: &[&str]) -> Committer {
     let mut copy = committer.clone();
     let mut bytes = buffer(expected.iter().map(|points| RECORD_BYTES + 37 * points.len()).sum());
     assert_eq!(copy.commit(trigger, lists, &mut bytes), Ok(expected.len() as u32), "{lists:?}");
@@ -60,7 +66,7 @@ fn hands_out(committer: &Committer, trigger: &PointId, lists: &[u8], expected: &
 }
 
 /// Refused before an anchor is finished, with nothing changed and no byte written, in a buffer of any length.
-fn refused_at_first(committer: &Committer, trigger: &PointId, lists: &[u8], number: u32) {
+pub fn refused_at_first(committer: &Committer, trigger: &PointId, lists: &[u8], number: u32) {
     for length in [0, 98, 99, 5000] {
         let mut bytes = buffer(length);
         refuses(&mut committer.clone(), number, |c| c.commit(trigger, lists, &mut bytes));
@@ -69,7 +75,7 @@ fn refused_at_first(committer: &Committer, trigger: &PointId, lists: &[u8], numb
 }
 
 /// What the outlook tells.
-fn told(committer: &Committer, trigger: &PointId) -> Vec<Look> {
+pub fn told(committer: &Committer, trigger: &PointId) -> Vec<Look> {
     assert_outlook(committer, trigger);
     let mut bytes = buffer(5000);
     let count = committer.outlook(trigger, &mut bytes).expect("an outlook");
@@ -241,27 +247,43 @@ fn rounds_without_points() {
     refused_at_first(&committer, &trigger, &[], 24);
 }
 
-/// 128 points of a round, as many as there can be: four digests of each of 32 authors.
-#[test]
-fn the_widest_round() {
+/// 128 points of round 11, as many as there can be: four digests of each of 32 authors, by rising digest.
+pub fn widest_row() -> Vec<PointId> {
+    (0..4).flat_map(|n| (0..32).map(move |author| version(11, author, n))).collect()
+}
+
+/// The points above them, which include one version of each author.
+pub fn above_widest() -> [PointId; 4] {
+    [0, 1, 2, 3].map(|author| point(12, author))
+}
+
+/// The widest row, named in this order; of its points these are linked, under the anchor d in 13. Returned with its
+/// trigger.
+pub fn widest(named: &[PointId], linked: &[PointId]) -> (Committer, PointId) {
     let mut committer = started(200, &used(), 15);
-    let mut row: Vec<PointId> = (0..4).flat_map(|n| (0..32).map(move |author| version(11, author, n))).collect();
-    row.iter().for_each(|id| put(&mut committer, *id, valid(&[], &[])));
-    let above: Vec<PointId> = (0..4).map(|author| version(12, author, 0)).collect();
-    for (id, versions) in above.iter().zip(row.chunks(32)) {
-        put(&mut committer, *id, valid(versions, &[]));
+    named.iter().for_each(|id| put(&mut committer, *id, valid(&[], &[])));
+    for (id, versions) in above_widest().iter().zip(widest_row().chunks(32)) {
+        let includes: Vec<PointId> = versions.iter().filter(|id| linked.contains(id)).copied().collect();
+        put(&mut committer, *id, valid(&includes, &[]));
     }
     let d = id(13, 0, 'd');
-    put(&mut committer, d, anchor(id(10, 0, 'z'), &above));
+    put(&mut committer, d, anchor(id(10, 0, 'z'), &above_widest()));
     let trigger = yields(&mut committer, d);
+    (committer, trigger)
+}
+
+#[test]
+fn the_widest_round() {
+    let row = widest_row();
+    let (committer, trigger) = widest(&row, &row);
+    let d = id(13, 0, 'd');
     assert_eq!(told(&committer, &trigger), [look(d, 133, &[1, 4, 128])]);
-    row.sort_by_key(|id| id.digest);
     let list: Vec<u8> = (0..128u32).map(|k| (k * 77 + 5) as u8 % 128).collect();
     let right = [&[0, 3, 2, 1, 0], &list[..]].concat();
     let mut bytes = buffer(RECORD_BYTES + 133 * 37);
     assert_eq!(committer.clone().commit(&trigger, &right, &mut bytes), Ok(1));
     let expected: Vec<PointId> =
-        list.iter().rev().map(|place| row[usize::from(*place)]).chain(above).chain([d]).collect();
+        list.iter().rev().map(|place| row[usize::from(*place)]).chain(above_widest()).chain([d]).collect();
     assert_eq!(anchors(&bytes, 1)[0].points, expected);
     for (at, byte) in [(5, 128), (6, 255), (132, right[131]), (132, 133), (4, 128), (1, 4)] {
         let mut wrong = right.clone();

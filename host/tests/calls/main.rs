@@ -12,6 +12,7 @@ mod needed;
 mod noise;
 mod outlooks;
 mod payloads;
+mod picks;
 mod random_runs;
 mod records;
 mod refusals;

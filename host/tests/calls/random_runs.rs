@@ -200,16 +200,7 @@ impl Run {
     /// Right lists for all anchors of a commit, each shuffled.
     fn any_lists(&mut self, trigger: &PointId) -> Vec<u8> {
         let looks = self.model.looks(trigger);
-        looks.iter().flat_map(|look| &look.linked).flat_map(|length| self.shuffled(*length)).collect()
-    }
-
-    /// The places below n in any order.
-    fn shuffled(&mut self, n: u32) -> Vec<u8> {
-        let mut list: Vec<u8> = (0..n as u8).collect();
-        for last in (1..n).rev() {
-            list.swap(last as usize, self.lists.below(last + 1) as usize);
-        }
-        list
+        looks.iter().flat_map(|look| &look.linked).flat_map(|length| self.lists.shuffled(*length)).collect()
     }
 
     /// The resolution with payload numbers that are 0, small, the largest, or any.

@@ -187,13 +187,18 @@ fn rust(points: u32) -> Calls {
 
 /// New points of an anchor's history.
 const HISTORIES: [u32; 3] = [32, 128, 1024];
+/// Points of each author in a round, and new points of a history that has such rounds.
+const ROUNDS: [(u32, u32); 2] = [(1, 1056), (4, 1056)];
 
-/// The calls until an anchor with so many new points can be committed, a multiple of 32: rows of 32, one of 31, the anchor; its proof and
-/// the trigger.
-fn committable(points: u32) -> (Vec<Call>, PointId) {
+/// The calls until an anchor with so many new points can be committed, 32 more than whole rows have: rows with so many points of each of 32
+/// authors, one row of 31 points, the anchor; its proof and the trigger.
+fn committable(points: u32, versions: u32) -> (Vec<Call>, PointId) {
     let row = |round: u32, authors: u32| (0..authors).map(move |n| at(round, n)).collect::<Vec<_>>();
-    let anchor = at(BOTTOM + points / PEERS + 1, 0);
-    let mut rows: Vec<Vec<PointId>> = (1..points / PEERS).map(|n| row(BOTTOM + n, PEERS)).collect();
+    let full =
+        |round: u32| (0..versions).flat_map(move |v| (0..PEERS).map(move |n| version(round, n, v))).collect::<Vec<_>>();
+    let whole = (points - PEERS) / (PEERS * versions);
+    let anchor = at(BOTTOM + whole + 2, 0);
+    let mut rows: Vec<Vec<PointId>> = (1..=whole).map(|n| full(BOTTOM + n)).collect();
     rows.push(row(anchor.round - 1, PEERS - 1));
     rows.extend((0..3).map(|n| row(anchor.round + n, 1)));
     let bottom = Start {
@@ -205,36 +210,58 @@ fn committable(points: u32) -> (Vec<Call>, PointId) {
         ..Start::default()
     };
     let mut calls = vec![Call::Start(bottom)];
-    let mut below: Vec<Link> = Vec::new();
+    let mut below: Vec<PointId> = Vec::new();
     for row in rows {
         calls.push(Call::Round { round: row[0].round, peers: u32::MAX });
-        for id in &row {
+        for (n, id) in row.iter().enumerate() {
+            let includes = one_of_each(&below, n);
             let proof = id.round == anchor.round + 1;
             let top_proof = if proof { *id } else { at(BOTTOM, 0) };
             let trigger = id.round == anchor.round + 2;
-            let info =
-                PointInfo { status: 1, proof, trigger, top_proof, includes: below.clone(), ..PointInfo::default() };
+            let info = PointInfo { status: 1, proof, trigger, top_proof, includes, ..PointInfo::default() };
             calls.extend([Call::Name(*id), Call::Resolve(*id, info)]);
         }
-        below = row.iter().map(|id| Link { peer: id.author, digest: id.digest }).collect();
+        below = row;
     }
     calls.push(Call::Certify(anchor));
     (calls, at(anchor.round + 2, 0))
 }
 
+/// Links to one point of each author, another one for the next n: a row of 31 or more links to all points of the row below it.
+fn one_of_each(below: &[PointId], n: usize) -> Vec<Link> {
+    let of = |peer: u32| below.iter().filter(move |id| id.author == peer);
+    (0..PEERS).filter_map(|peer| of(peer).cycle().nth((n + peer as usize) % 4)).map(link_to).collect()
+}
+
 fn at(round: u32, author: u32) -> PointId {
-    PointId { round, author, digest: digest(round * PEERS + author) }
+    version(round, author, 0)
+}
+
+/// One of up to four points of an author in a round.
+fn version(round: u32, author: u32, version: u32) -> PointId {
+    PointId { round, author, digest: digest((round * 4 + version) * PEERS + author) }
 }
 
 fn print_commits() {
     println!("\n| new points of the anchor | commit, library | table test | library less the test | Rust |");
     println!("|---|---|---|---|---|");
     for points in HISTORIES {
-        let (calls, trigger) = committable(points);
-        let [ours, test, rest] = our_commit(points, &calls, &trigger);
-        let rust = rust_commit(points, &calls, &trigger);
-        println!("| {points} | {ours:.1} | {test:.1} | {rest:.1} | {rust:.1} |");
+        println!("| {points} | {} |", commit_times(points, 1));
     }
+    println!(
+        "\n| points of a round | new points of the anchor | commit, library | table test | library less the test | Rust |"
+    );
+    println!("|---|---|---|---|---|---|");
+    for (versions, points) in ROUNDS {
+        println!("| {} | {points} | {} |", PEERS * versions, commit_times(points, versions));
+    }
+}
+
+fn commit_times(points: u32, versions: u32) -> String {
+    let (calls, trigger) = committable(points, versions);
+    let [ours, test, rest] = our_commit(points, &calls, &trigger);
+    let rust = rust_commit(points, &calls, &trigger);
+    format!("{ours:.1} | {test:.1} | {rest:.1} | {rust:.1}")
 }
 
 /// The place lists of the Rust's commit.
