@@ -45,9 +45,9 @@ removeBottom s r = drainBottom s (r - s .«commit_history_rounds»)
 pub bottom-is : (s : State) (r x y z : ℕ) → x ≡ r - s .«commit_history_rounds» → y ≡ min x (s .top .0) → z ≡ max (s .bottom .0) y → z ≡ removeBottom s r
 bottom-is s r x y z e f g = g ∙ ap (max (s .bottom .0)) (f ∙ ap (λ (w : ℕ). min w (s .top .0)) e)
 
--- it is retained
-pub bottom-retained : (s : State) (r low : ℕ) → s .bottom .0 ≤ s .top .0 → low ≡ removeBottom s r → (s .bottom .0 ≤ low) × (low ≤ s .top .0)
-bottom-retained s r low l e = (omega arith, omega arith)
+-- it is no higher than the top
+pub bottom-low : (s : State) (r low : ℕ) → s .bottom .0 ≤ s .top .0 → low ≡ removeBottom s r → low ≤ s .top .0
+bottom-low s r low l e = omega arith
 
 -- whether a round is beyond the last anchor, by its word: the anchor's round plus 1, or 0 for none
 pub beyond-none : (w r : ℕ) → w ≡ 0 → true ≡ beyond (optionOf w) r

@@ -87,8 +87,9 @@ noRound = record { 0 = 0 }
 abbrev pub Starts : StartArgs → Type 0
 Starts b = (b .genesis .0 ≤ 4_000_000_000) × (b .«commit_history_rounds» ≤ 255) × (b .«deduplicate_rounds» ≤ 65_535) × (b .bottom .0 ≤ 4_000_000_000) × (usedOk (usedOf (b .used)) ≡ true)
 
-unfoldable pub begunState : Memory → StartArgs → State
-begunState m b = let full = fullBottom (b .genesis .0) (b .«commit_history_rounds») (b .bottom .0) in record {
+-- full, first, gap, word: the bottom of full history, the first executable round, the gap flag, the word of the used author
+abbrev begunBy : Memory → StartArgs → ℕ → ℕ → ℕ → ℕ → State
+begunBy m b full first gap word = record {
   phase = 1;
   count = 0;
   genesis = b .genesis;
@@ -99,30 +100,19 @@ begunState m b = let full = fullBottom (b .genesis .0) (b .«commit_history_roun
   «last_committed_proof» = noRound;
   «last_anchor» = noRound;
   «full_history_bottom» = record { 0 = full };
-  «first_executable» = record { 0 = firstOf (b .«after_gap») full (b .«deduplicate_rounds») (b .bottom .0) };
-  «emit_first_after_gap» = armedOf (b .«after_gap»);
-  rounds = set (replicate 512 noRecord) (b .bottom .0 % 512) (record { peers = b .peers; «used_anchor_proof» = usedWord (b .used) });
+  «first_executable» = record { 0 = first };
+  «emit_first_after_gap» = gap;
+  rounds = set (replicate 512 noRecord) (b .bottom .0 % 512) (record { peers = b .peers; «used_anchor_proof» = word });
   memory = m;
 }
 
+unfoldable pub begunState : Memory → StartArgs → State
+begunState m b =
+    let full = fullBottom (b .genesis .0) (b .«commit_history_rounds») (b .bottom .0) in
+    begunBy m b full (firstOf (b .«after_gap») full (b .«deduplicate_rounds») (b .bottom .0)) (armedOf (b .«after_gap»)) (usedWord (b .used))
+
 pub begun-is : (m : Memory) (b : StartArgs) (full first gap word : ℕ) → word ≡ usedWord (b .used) → full ≡ fullBottom (b .genesis .0) (b .«commit_history_rounds») (b .bottom .0)
-    → first ≡ firstOf (b .«after_gap») full (b .«deduplicate_rounds») (b .bottom .0) → gap ≡ armedOf (b .«after_gap»)
-    → _≡_ {A = State} (record {
-      phase = 1;
-      count = 0;
-      genesis = b .genesis;
-      «commit_history_rounds» = b .«commit_history_rounds»;
-      «deduplicate_rounds» = b .«deduplicate_rounds»;
-      bottom = b .bottom;
-      top = b .bottom;
-      «last_committed_proof» = noRound;
-      «last_anchor» = noRound;
-      «full_history_bottom» = record { 0 = full };
-      «first_executable» = record { 0 = first };
-      «emit_first_after_gap» = gap;
-      rounds = set (replicate 512 noRecord) (b .bottom .0 % 512) (record { peers = b .peers; «used_anchor_proof» = word });
-      memory = m;
-    }) (begunState m b)
+    → first ≡ firstOf (b .«after_gap») full (b .«deduplicate_rounds») (b .bottom .0) → gap ≡ armedOf (b .«after_gap») → begunBy m b full first gap word ≡ begunState m b
 unfolding begunState
 begun-is m b full first gap word u p q r = rw (q, r, p, u) refl
 

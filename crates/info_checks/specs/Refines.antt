@@ -8,7 +8,7 @@ use lib.Dec.{eqb, leb}
 use lib.ListN.{getD}
 use borrow.Author.Tests.{eq-eqb, ne-eqb, le-leb, lt-leb, leb-true}
 use Rattle.laws.specs.Test.{byTest, clash, same-test, and-l, not-yes, not-no, leOr, sameOr}
-use Rattle.laws.specs.Scan.{any, any-intro, any-elim, any-same, first-hit, first-miss}
+use Rattle.laws.specs.Scan.{any, any-intro, any-elim, any-same, any-first, first-hit, first-miss}
 use Rattle.laws.specs.Lists.{has, has-append, has-map}
 use Rattle.spec.specs.Ids.{Ref, leads, linksOf, fits}
 use Rattle.spec.specs.Store.{Resolution, Point, Store, idAt, links}
@@ -30,17 +30,6 @@ use Rattle.tables_test.specs.Refines.{Started, counted}
 use Rattle.info_checks.specs.Form.{peerAt, formed-shaped, shaped-given}
 use Rattle.info_checks.specs.Dangling.{linkWords, foundAt, isDangling, anyDangling}
 
--- the first number apart from the rest
-any-front : (n : ℕ) (f : ℕ → Bool) → any (suc n) f ≡ (f 0 || any n (λ i. f (suc i)))
-unfolding any
-any-front zero f = refl
-any-front (suc n) f = ap (λ z. f (suc n) || z) (any-front n f) ∙ swap (f (suc n)) (f 0) (any n (λ i. f (suc i)))
-  where
-    swap : (a b c : Bool) → (a || (b || c)) ≡ (b || (a || c))
-    swap true true c = refl
-    swap true false c = refl
-    swap false b c = refl
-
 -- a test of m links by their numbers
 has-refs : (rs : List ℕ) (f : Ref → Bool) (j m : ℕ) → has f (refsOf rs j m) ≡ any m (λ i. f (refAt rs (j + i)))
 unfolding has refsOf any
@@ -48,7 +37,7 @@ has-refs rs f j zero = refl
 has-refs rs f j (suc m) =
     ap (λ z. f (refAt rs j) || z) (has-refs rs f (j + 1) m)
     ∙ (ap₂ (λ (x : ℕ) (z : Bool). f (refAt rs x) || z) start (any-same m _ _ (λ i l. ap (λ (x : ℕ). f (refAt rs x)) (next i)))
-    ∙ sym (any-front m (λ i. f (refAt rs (j + i)))))
+    ∙ sym (any-first m (λ i. f (refAt rs (j + i)))))
   where
     start : j ≡ j + 0
     start = omega arith

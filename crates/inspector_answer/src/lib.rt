@@ -83,7 +83,7 @@ fn emit_answer(
     b: &mut [u8],
 )
     requires { ⌜ countsAsStarted (view s (now keys) (now links) (now certs) (now order)) ≡ true ⌝ }
-    requires { ⌜ (first .0 ≡ firstShown (view s (now keys) (now links) (now certs) (now order))) × (s .bottom .0 ≤ low .0) × (low .0 ≤ s .top .0) ⌝ }
+    requires { ⌜ (first .0 ≡ firstShown (view s (now keys) (now links) (now certs) (now order))) × (low .0 ≤ s .top .0) ⌝ }
     requires { ⌜ SignersHold (view s (now keys) (now links) (now certs) (now order)) (low .0) (now signers) ⌝ }
     requires { ⌜ length (headBytes (peerOf stats) count ++ joined eventBytes (events (view s (now keys) (now links) (now certs) (now order)) (low .0))) ≤ length (now b) ⌝ }
     ensures { λ _. ⌜ now (b .exit) ≡ written (now (b .entry)) 0
@@ -119,7 +119,7 @@ pub fn answer_remove(
     b: &mut [u8],
 ) -> bool
     requires { ⌜ countsAsStarted (view s (now keys) (now links) (now certs) (now order)) ≡ true ⌝ }
-    requires { ⌜ (s .bottom .0 ≤ low .0) × (low .0 ≤ s .top .0) ⌝ }
+    requires { ⌜ low .0 ≤ s .top .0 ⌝ }
     ensures { λ r. ⌜ Answered (view s (now (keys .entry)) (now (links .entry)) (now (certs .entry)) (now (order .entry))) (low .0)
         (sinceOf «stats_since») (now (b .entry)) r (now (b .exit)) ⌝ }
 {

@@ -9,7 +9,7 @@ use lib.ListN.{length}
 use borrow.Author.Tests.{eq-eqb, ne-eqb, lt-ltb}
 use Rattle.laws.specs.Test.{byTest, leOr, and-no, and-yes}
 use Rattle.laws.specs.Scan.{those, those-same}
-use Rattle.laws.specs.Lists.{has, keep, count, upTo}
+use Rattle.laws.specs.Lists.{has, keep, keep-append, count, upTo}
 use Rattle.spec.specs.Store.{Store}
 use Rattle.spec.specs.Inspect.{of, placesIn}
 use Rattle.models.specs.Digest.{Fit}
@@ -22,7 +22,7 @@ use Rattle.tables_test.specs.Refines.{Started}
 use Rattle.back_drain.specs.Model.{below, below-le, below-low, below-high}
 use Rattle.back_history.specs.Model.{Range}
 use Rattle.back_history.specs.Refines.{one, picked}
-use Rattle.inspector_counters.specs.Places.{between, lowOf, highOf, high-le, round-used, places-in}
+use Rattle.inspector_counters.specs.Places.{between, lowOf, highOf, round-used, places-in}
 use Rattle.inspector_counters.specs.Tests.{versionAt, inspected, chosen, passes, testOf, passes-is}
 use Rattle.inspector_counters.specs.declared.round.Span.{Span}
 use Rattle.inspector_counters.specs.declared.tests.PointTest.{PointTest}
@@ -56,12 +56,6 @@ count-between f os low (suc k) =
     count-append f (between os low k) (placeAt os (low + k) ∷ [])
     ∙ byTest (f (placeAt os (low + k))) (λ y. rw y (omega (arith, h))) (λ y. rw y (omega (arith, h)))
 
--- those of one list after another
-keep-append : {A : Type 0} (f : A → Bool) (xs ys : List A) → keep f (xs ++ ys) ≡ keep f xs ++ keep f ys
-unfolding keep
-keep-append f [] ys = refl
-keep-append f (x ∷ xs) ys = byTest (f x) (λ y. rw y (ap (λ z. x ∷ z) (keep-append f xs ys))) (λ y. rw y (keep-append f xs ys))
-
 -- those that pass, of the places at k positions
 pub keep-between : (f : ℕ → Bool) (os : List ℕ) (low k : ℕ) → keep f (between os low k) ≡ picked os f low k
 unfolding picked one upTo keep
@@ -80,6 +74,19 @@ unfolding has count
 has-count f [] = refl
 has-count f (x ∷ xs) = byTest (f x) (λ y. rw y (sym (lt-ltb 0 (1 + count f xs) (omega arith)))) (λ y. let z : count f xs ≡ 0 + count f xs = omega arith in rw y (has-count f xs ∙ ap (ltb 0) z))
 
+-- the positions of a round are a range
+pub span-range : (ks cs os : List ℕ) (n r : ℕ) (x : Span) → x ≡ spanOf ks os n r → Sorted ks os n → n ≤ length os → length os ≤ 4096 → length cs ≡ length os → Inside os n (length os) → Range cs os (x .low) (x .high)
+unfolding spanOf
+span-range ks cs os n r x e so l few same inside =
+    subst (λ (y : Span). Range cs os (y .low) (y .high)) (sym e)
+    (leOr low high (λ h. h) (λ h. absurd (omega (arith, below-low ks os n r high h, below-high ks os n (r + 1) high so (omega arith) (omega (arith, h, below-le ks os n r))))), omega (arith, below-le ks os n (r + 1), l), few, same, λ i h. inside i (omega (arith, h, below-le ks os n (r + 1))))
+  where
+    low : ℕ
+    low = below ks os n r
+
+    high : ℕ
+    high = below ks os n (r + 1)
+
 module _ (s : State) (ks ls cs os : List ℕ) (fk : Fit ks) (fl : Fit ls) (t : Started s ks ls cs os) (r : ℕ) where
   -- the store
   abbrev v : Store
@@ -93,19 +100,9 @@ module _ (s : State) (ks ls cs os : List ℕ) (fk : Fit ks) (fl : Fit ls) (t : S
   abbrev high : ℕ
   high = highOf s ks os r
 
-  -- the positions of a round are in order
-  low-high : low ≤ high
-  low-high =
-      leOr low high (λ l. l)
-      (λ l. let k : low ≤ s .count = below-le ks os (s .count) r in
-      absurd (omega (arith, below-low ks os (s .count) r high l, below-high ks os (s .count) (r + 1) high (t .facts .sorted) (omega arith) (omega arith))))
-
   -- what a scan of the round asks for
-  pub round-ready : Range cs os low high × (length ks ≡ length os * 8)
-  round-ready =
-      let (a, b, c) = shape-says ks ls cs os (t .shaped) in
-      let k : high ≤ s .count = high-le s ks ls cs os fk fl t r in
-      ((low-high, omega (arith, k, t .count-ok), places-says _ (t .places-ok), c, λ i l. t .facts .inside i (omega (arith, k))), a)
+  pub round-ready : (x : Span) → x ≡ spanOf ks os (s .count) r → Range cs os (x .low) (x .high) × (length ks ≡ length os * 8)
+  round-ready x e = let (a, b, c) = shape-says ks ls cs os (t .shaped) in (span-range ks cs os (s .count) r x e (t .facts .sorted) (t .count-ok) (places-says _ (t .places-ok)) c (t .facts .inside), a)
 
   -- as many as 01 counts
   pub count-is : (a : ℕ) (w : PointTest) → countOf ks cs os low high a w ≡ count (of (testOf w v) v a) (placesIn v r)
@@ -124,11 +121,6 @@ module _ (s : State) (ks ls cs os : List ℕ) (fk : Fit ks) (fl : Fit ls) (t : S
   -- what the search of its positions asks for
   pub span-ready : r ≤ 4_000_000_000 → ((length ks ≡ length os * 8) × (s .count ≤ length os) × Inside os (s .count) (length os)) × (Sorted ks os (s .count) × (r ≤ 4_000_000_000))
   span-ready l = let (a, b, c) = shape-says ks ls cs os (t .shaped) in ((a, t .count-ok, t .facts .inside), (t .facts .sorted, l))
-
-  -- the scan of what it finds
-  pub span-range : (x : Span) → x ≡ spanOf ks os (s .count) r → Range cs os (x .low) (x .high) × (length ks ≡ length os * 8)
-  unfolding spanOf
-  span-range x e = subst (λ (y : Span). Range cs os (y .low) (y .high) × (length ks ≡ length os * 8)) (sym e) round-ready
 
   -- the places that pass, in 01's order
   pub keep-is : (a : ℕ) (w : PointTest) → picked os (passes ks cs a w) low (high - low) ≡ keep (of (testOf w v) v a) (placesIn v r)

@@ -1,18 +1,13 @@
 -- The faults of the points of a round, as events (01: inspector.rs, `take_events`).
-use Prim.Native.Nat.{ℕ, _+_, _-_, _≤_, _<_}
+use Prim.Native.Nat.{ℕ, _-_, _≤_, _<_}
 use mathlib.Core.Path.{_≡_, refl, sym, ap, ap₂, subst, _∙_}
 use mathlib.Core.List.{List, [], _∷_}
 use mathlib.Core.Bool.{Bool}
 use native.Mathlib.Omega.{arith}
 use lib.ListN.{length, getD}
 use borrow.Author.Tests.{le-ltb}
-use Rattle.laws.specs.Test.{leOr}
 use Rattle.laws.specs.Lists.{upTo}
 use Rattle.spec.specs.Inspect.{Event, eventBytes}
-use Rattle.models.specs.Tables.{Inside}
-use Rattle.dag_round_keys.specs.Sorted.{Sorted}
-use Rattle.back_drain.specs.Model.{below, below-le, below-low, below-high}
-use Rattle.back_history.specs.Model.{Range}
 use Rattle.inspector_counters.specs.Count.{countOf, spanOf}
 use Rattle.inspector_counters.specs.Counts.{noCounts, countsTo, Counted}
 use Rattle.inspector_counters.specs.declared.counts.PointCounts.{PointCounts}
@@ -145,16 +140,3 @@ module _ (ks cs os : List ℕ) (n : ℕ) (f : Fault) (r q : ℕ) (at : q ≡ r) 
 
   pub round-told : (y : Emitted) (b′ : List ℕ) → Told eventBytes wr b m (upTo 32 (faultOf ks cs os (x .low) (x .high - x .low) q f)) y b′ → Told eventBytes wr b m (roundFaults ks cs os n f r) y b′
   round-told y b′ = subst (λ xs. Told eventBytes wr b m xs y b′) (sym by-span)
-
--- they are a range
-pub span-range : (ks cs os : List ℕ) (n r : ℕ) (x : Span) → x ≡ spanOf ks os n r → Sorted ks os n → n ≤ length os → length os ≤ 4096 → length cs ≡ length os → Inside os n (length os) → Range cs os (x .low) (x .high)
-unfolding spanOf
-span-range ks cs os n r x e so l few same inside =
-    subst (λ (y : Span). Range cs os (y .low) (y .high)) (sym e)
-    (leOr low high (λ h. h) (λ h. absurd (omega (arith, below-low ks os n r high h, below-high ks os n (r + 1) high so (omega arith) (omega (arith, h, below-le ks os n r))))), omega (arith, below-le ks os n (r + 1), l), few, same, λ i h. inside i (omega (arith, h, below-le ks os n (r + 1))))
-  where
-    low : ℕ
-    low = below ks os n r
-
-    high : ℕ
-    high = below ks os n (r + 1)

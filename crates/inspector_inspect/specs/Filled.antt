@@ -27,7 +27,7 @@ use Rattle.back_walk.specs.Words.{Placed}
 use Rattle.back_history.specs.Model.{Range}
 use Rattle.back_history.specs.Refines.{well}
 use Rattle.inspector_counters.specs.Places.{span-few}
-use Rattle.inspector_counters.specs.Count.{spanOf, span-ready, span-range}
+use Rattle.inspector_counters.specs.Count.{spanOf, span-ready, round-ready}
 use Rattle.inspector_counters.specs.declared.round.Span.{Span}
 use Rattle.inspector_references.specs.Trusted.{Listed, trustedIn, trusted-is}
 use Rattle.inspector_references.specs.Referring.{rowAuthor, RowOf, Retained, trusted-placed}
@@ -74,7 +74,7 @@ module _ (s : State) (ks ls cs os : List ℕ) (fk : Fit ks) (fl : Fit ls) (h : c
     -- the scan of its trusted points
     pub trusted-ready : Range cs os (x .low) (x .high) × ((length ks ≡ length os * 8) × (x .high - x .low ≤ 128))
     unfolding spanOf
-    trusted-ready = let (a, b) = span-range s ks ls cs os fk fl t r x e in (a, (b, subst (λ (y : Span). y .high - y .low ≤ 128) (sym e) (span-few s ks ls cs os fk fl t r)))
+    trusted-ready = let (a, b) = round-ready s ks ls cs os fk fl t r x e in (a, (b, subst (λ (y : Span). y .high - y .low ≤ 128) (sym e) (span-few s ks ls cs os fk fl t r)))
 
     module _ (l : List ℕ) (n : ℕ) (found : Listed l n (trustedIn ks cs os (x .low) (x .high - x .low))) where
       -- they are those of 01

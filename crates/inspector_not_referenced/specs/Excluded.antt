@@ -1,14 +1,14 @@
 -- The signers that are reported by one row (01: inspector.rs, `exclude_witness`).
-use Prim.Native.Nat.{ℕ, zero, suc, _+_, _<_, _≤_}
+use Prim.Native.Nat.{ℕ, suc, _<_}
 use mathlib.Core.Path.{_≡_, refl, sym, ap, _∙_}
 use mathlib.Core.List.{List}
 use mathlib.Core.Bool.{Bool, true, false, not, _&&_, cond}
-use mathlib.Core.Option.{Option, none, some}
+use mathlib.Core.Option.{none, some}
 use native.Mathlib.Omega.{arith}
 use lib.Dec.{eqb, ltb}
-use lib.ListN.{length, drop}
+use lib.ListN.{drop}
 use borrow.Author.Tests.{eq-eqb, ne-eqb, lt-ltb, le-ltb}
-use Rattle.laws.specs.Test.{sameOr}
+use Rattle.laws.specs.Test.{sameOr, and-no-r}
 use Rattle.laws.specs.Lists.{has, keep}
 use Rattle.laws.specs.Peers.{member}
 use Rattle.spec.specs.Store.{Store, Entry}
@@ -18,7 +18,7 @@ use Rattle.spec.specs.Inspection.{Ascending, isUnreferenced, isLastUnreferenced
 use Rattle.models.specs.Digest.{Fit}
 use Rattle.commit_state.specs.declared.state.State.{State}
 use Rattle.tables_test.specs.View.{view}
-use Rattle.inspector_references.specs.Sets.{without, and-false, none-member, without-member}
+use Rattle.inspector_references.specs.Sets.{without, none-member, without-member}
 use Rattle.inspector_references.specs.Trusted.{Listed}
 use Rattle.inspector_references.specs.Referring.{rowPrevious, rowSigned, rowPeers, referringBy, Retained, witnessed-is}
 use Rattle.inspector_rows.specs.Rows.{entryAt, entriesOf, entries-length, entries-at}
@@ -55,7 +55,7 @@ module _ (s : State) (ks ls cs os : List ℕ) (fk : Fit ks) (fl : Fit ls) (h : c
       sameOr (rowPeers rs k) 0
       (λ e. rw (eq-eqb (rowPeers rs k) 0 e) (none-member a ∙ sym (at ∙ ap (λ y. member y a && last) e ∙ ap (λ y. y && last) (none-member a))))
       (λ d. rw (ne-eqb (rowPeers rs k) 0 d) (sameOr (rowPrevious rs k) 0
-      (λ e. rw (eq-eqb (rowPrevious rs k) 0 e) (none-member a ∙ sym (at ∙ (ap (λ y. member (rowPeers rs k) a && isLastUnreferenced v x a later (cond y (some (rowSigned rs k)) none)) (le-ltb 0 (rowPrevious rs k) (omega arith)) ∙ sym (and-false (member (rowPeers rs k) a))))))
+      (λ e. rw (eq-eqb (rowPrevious rs k) 0 e) (none-member a ∙ sym (at ∙ (ap (λ y. member (rowPeers rs k) a && isLastUnreferenced v x a later (cond y (some (rowSigned rs k)) none)) (le-ltb 0 (rowPrevious rs k) (omega arith)) ∙ and-no-r (member (rowPeers rs k) a) refl))))
       (λ f. rw (ne-eqb (rowPrevious rs k) 0 f)
       (without-member (without (rowPeers rs k) (referringBy ks ls l m 32 live rs k)) (owedLater rs n k) a
       ∙ (ap (λ y. y && not (member (owedLater rs n k) a)) (without-member (rowPeers rs k) (referringBy ks ls l m 32 live rs k) a)

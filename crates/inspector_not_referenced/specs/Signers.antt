@@ -1,20 +1,20 @@
 -- The signers that are reported at a round, and the ninth counter (01: inspector.rs, stats.rs).
-use Prim.Native.Nat.{ℕ, zero, suc, _+_, _-_, _*_, _/_, _%_, _^_, _<_, _≤_}
+use Prim.Native.Nat.{ℕ, zero, suc, _+_, _-_, _/_, _%_, _^_, _<_, _≤_}
 use mathlib.Core.Path.{_≡_, refl, sym, ap, _∙_}
 use mathlib.Core.List.{List, [], _∷_, _++_, map}
-use mathlib.Core.Bool.{Bool, true, false, not, _&&_, _||_, cond}
+use mathlib.Core.Bool.{Bool, true, false, not, _&&_, cond}
 use native.Mathlib.Omega.{arith}
 use native.Mathlib.Numerals.{add-one}
 use lib.Dec.{eqb}
 use lib.Bits.{bitAnd, bitOr}
-use lib.ListN.{length, getD, set, drop, length-append, length-set, length-replicate, replicate, getD-replicate, List·getD-eq-default}
+use lib.ListN.{length, getD, set, length-append, length-set, length-replicate, replicate, getD-replicate, List·getD-eq-default}
 use lib.Seq.{getD-set-same, getD-set-other}
 use native.Mathlib.Nat.{add-zero}
 use borrow.Author.Tests.{not-true, not-false, eq-eqb, ne-eqb}
-use Rattle.laws.specs.Test.{byTest, sameOr, leOr, and-l, and-r, both, clash}
+use Rattle.laws.specs.Test.{byTest, sameOr, leOr, and-true, and-no-r}
 use Rattle.laws.specs.Scan.{any, any-same, any-intro, those, those-yes, those-no, those-same}
 use Rattle.laws.specs.Lists.{has, has-same, keep, keep-append, upTo}
-use Rattle.laws.specs.Peers.{member, withPeer}
+use Rattle.laws.specs.Peers.{member}
 use Rattle.spec.specs.Ids.{prev}
 use Rattle.spec.specs.Store as store
 use Rattle.spec.specs.Store.{Store, Entry, Memory, Point}
@@ -26,9 +26,9 @@ use Rattle.models.specs.Tables.{authorAt, Used}
 use Rattle.commit_state.specs.View.{pointAt}
 use Rattle.commit_state.specs.declared.state.State.{State}
 use Rattle.tables_test.specs.View.{view}
-use Rattle.tables_test.specs.Refines.{Started, counted}
+use Rattle.tables_test.specs.Refines.{counted}
 use Rattle.back_history.specs.RefinesNeeded.{used-point}
-use Rattle.inspector_references.specs.Sets.{and-true, and-false, unionOf, union-yes, union-end, union-member, and-member, none-member, one-member}
+use Rattle.inspector_references.specs.Sets.{unionOf, union-yes, union-member, and-member, none-member, one-member}
 use Rattle.inspector_references.specs.Trusted.{Listed, has-take, has-keep}
 use Rattle.inspector_references.specs.Referring.{rowAuthor, Retained, trusted-used}
 use Rattle.inspector_rows.specs.Rows.{entryAt, entriesOf, has-entries}
@@ -195,8 +195,8 @@ module _ (s : State) (ks ls cs os : List ℕ) (fk : Fit ks) (fl : Fit ls) (h : c
       ∙ (ap (has (λ q. eqb (authorAt ks q) a)) (here .are)
       ∙ (has-keep (isTrusted v) (λ q. eqb (authorAt ks q) a) (placesIn v x)
       ∙ (has-same _ _ (placesIn v x) (λ q i. byTest (isTrusted v q)
-      (λ y. rw y (ap (λ z. eqb z a) (author q (trusted-used s ks ls cs os fk fl h x q i y .0)) ∙ and-true (eqb (store.idAt v q .author) a)))
-      (λ y. rw y (and-false (eqb (store.idAt v q .author) a))))
+      (λ y. rw y (ap (λ z. eqb z a) (author q (trusted-used s ks ls cs os fk fl h x q i y .0)) ∙ sym (and-true (eqb (store.idAt v q .author) a))))
+      (λ y. rw y (sym (and-no-r (eqb (store.idAt v q .author) a) refl))))
       ∙ (sym (kept-some (of (isTrusted v) v a) (placesIn v x)) ∙ ap not (sym (map-nil (λ q. store.idAt v q .digest) (keep (of (isTrusted v) v a) (placesIn v x))))))))))
     where
       author : (q : ℕ) → Used os (s .count) q → authorAt ks q ≡ store.idAt v q .author
@@ -224,8 +224,8 @@ module _ (s : State) (ks ls cs os : List ℕ) (fk : Fit ks) (fl : Fit ls) (h : c
       (λ t. proofs-is ∙ any-intro n (λ k. reports (entryAt rs k)) k low t))
     where
       join : (b c p d : Bool) → (b ≡ true → p ≡ true) → (b && (c && d)) ≡ ((c && (p && d)) && b)
-      join true c p d f = rw (f refl) (and-true (c && d))
-      join false c p d f = and-false (c && (p && d))
+      join true c p d f = rw (f refl) (sym (and-true (c && d)))
+      join false c p d f = sym (and-no-r (c && (p && d)) refl)
 
   -- so the union holds all that 01 reports
   pub signers-is : member (unionOf always cell n) a ≡ notReferenced memory v x a
@@ -240,7 +240,7 @@ module _ (s : State) (ks ls cs os : List ℕ) (fk : Fit ks) (fl : Fit ls) (h : c
       absorb : (c p d : Bool) → ((c && (p && d)) && p) ≡ (c && (p && d))
       absorb false p d = refl
       absorb true false d = refl
-      absorb true true d = sym (and-true d)
+      absorb true true d = and-true d
 
   -- the ninth counter
   pub skipped-is : (sets : List ℕ) (signers : ℕ) → Cells cell n sets signers → skippedBy sets n a ≡ cond (notReferenced memory v x a) (length (proofs (entriesOf rs n) v x a)) 0

@@ -8,7 +8,7 @@ use lib.Dec.{eqb, ltb}
 use borrow.Author.Tests.{lt-ltb, le-ltb}
 use Rattle.laws.specs.Test.{byTest, and-no, and-yes}
 use Rattle.laws.specs.Lists.{has}
-use Rattle.laws.specs.Scan.{any, any-same}
+use Rattle.laws.specs.Scan.{any, any-same, any-first}
 use Rattle.spec.specs.Store.{Resolution}
 use Rattle.spec.specs.Rules.{countsAsStarted}
 use Rattle.spec.specs.Inspect.{refersTo}
@@ -37,18 +37,6 @@ module _ (ls : List ℕ) (q d k x : ℕ) (is : x ≡ targetAt ls q k) where
   pub refers-there : (x ≡ 0 → ⊥) → refersBy ls q d k ≡ eqb (digestAt ls (digAt q k)) d
   unfolding refersBy
   refers-there n = and-yes (lt-ltb 0 (targetAt ls q k) (let m : 0 < x = omega arith in omega arith)) refl
-
--- of three tests the first two change places
-or-swap : (x y z : Bool) → (x || (y || z)) ≡ (y || (x || z))
-or-swap true true z = refl
-or-swap true false z = refl
-or-swap false y z = refl
-
--- some number below m + 1 passes: 0, or one above it
-any-first : (m : ℕ) (f : ℕ → Bool) → any (suc m) f ≡ (f 0 || any m (λ k. f (suc k)))
-unfolding any
-any-first zero f = refl
-any-first (suc m) f = ap (λ z. f (suc m) || z) (any-first m f) ∙ or-swap (f (suc m)) (f 0) (any m (λ k. f (suc k)))
 
 module _ (ls : List ℕ) (q b d : ℕ) where
   -- the link under the peer k, before the others

@@ -6,12 +6,13 @@ use native.Mathlib.Omega.{arith}
 use native.Mathlib.Numerals.{add-one}
 use native.Mathlib.Nat.{one-mul, zero-div, mod-eq-of-lt}
 use lib.Dec.{eqb}
-use lib.Bits.{bitAnd, bitOr, bitXor, and-shr, and-mod, xor-shr, xor-mod, or-lt, xor-lt, and-le-l}
+use lib.Bits.{bitAnd, bitOr, bitXor, and-shr, and-mod, or-lt, xor-lt, and-le-l}
 use lib.Pow.{pow-lt, pow-pos}
 use borrow.Author.Tests.{eq-eqb, ne-eqb}
 use Rattle.laws.specs.Test.{byTest, sameOr}
 use Rattle.laws.specs.Scan.{any}
-use Rattle.laws.specs.Peers.{member, or-bit, pow-bit-same, pow-bit-other}
+use Rattle.laws.specs.Peers.{member, two-bits, or-bit, pow-bit-same, pow-bit-other}
+use Rattle.laws.specs.Tally.{xor-bit}
 
 -- those of x that aren't in y
 abbrev pub without : ℕ → ℕ → ℕ
@@ -55,42 +56,15 @@ union-same f g s t (suc n) a b =
 
 -- ---- who is in them
 
--- a test and one that passes, or fails
-pub and-true : (b : Bool) → b ≡ (b && true)
-and-true true = refl
-and-true false = refl
-
-pub and-false : (b : Bool) → false ≡ (b && false)
-and-false true = refl
-and-false false = refl
-
 -- of two bits
 or-test : (x y : ℕ) → x < 2 → y < 2 → eqb (bitOr x y) 1 ≡ (eqb x 1 || eqb y 1)
-or-test zero zero l m = refl
-or-test zero (suc zero) l m = refl
-or-test (suc zero) zero l m = refl
-or-test (suc zero) (suc zero) l m = refl
-or-test (suc (suc x)) y l m = absurd (omega arith)
-or-test zero (suc (suc y)) l m = absurd (omega arith)
-or-test (suc zero) (suc (suc y)) l m = absurd (omega arith)
+or-test = two-bits (λ x y. eqb (bitOr x y) 1 ≡ (eqb x 1 || eqb y 1)) refl refl refl refl
 
 and-test : (x y : ℕ) → x < 2 → y < 2 → eqb (bitAnd x y) 1 ≡ (eqb x 1 && eqb y 1)
-and-test zero zero l m = refl
-and-test zero (suc zero) l m = refl
-and-test (suc zero) zero l m = refl
-and-test (suc zero) (suc zero) l m = refl
-and-test (suc (suc x)) y l m = absurd (omega arith)
-and-test zero (suc (suc y)) l m = absurd (omega arith)
-and-test (suc zero) (suc (suc y)) l m = absurd (omega arith)
+and-test = two-bits (λ x y. eqb (bitAnd x y) 1 ≡ (eqb x 1 && eqb y 1)) refl refl refl refl
 
 without-test : (x y : ℕ) → x < 2 → y < 2 → eqb (without x y) 1 ≡ (eqb x 1 && not (eqb y 1))
-without-test zero zero l m = refl
-without-test zero (suc zero) l m = refl
-without-test (suc zero) zero l m = refl
-without-test (suc zero) (suc zero) l m = refl
-without-test (suc (suc x)) y l m = absurd (omega arith)
-without-test zero (suc (suc y)) l m = absurd (omega arith)
-without-test (suc zero) (suc (suc y)) l m = absurd (omega arith)
+without-test = two-bits (λ x y. eqb (without x y) 1 ≡ (eqb x 1 && not (eqb y 1))) refl refl refl refl
 
 module _ (x y a : ℕ) where
   pub or-member : member (bitOr x y) a ≡ (member x a || member y a)
@@ -107,7 +81,7 @@ module _ (x y a : ℕ) where
   pub without-member : member (without x y) a ≡ (member x a && not (member y a))
   unfolding member
   without-member =
-      ap (λ (z : ℕ). eqb z 1) (ap (λ (z : ℕ). z % 2) (xor-shr x (bitAnd x y) a) ∙ (xor-mod (x / 2 ^ a) (bitAnd x y / 2 ^ a) 1 ∙ ap (λ (z : ℕ). bitXor (x / 2 ^ a % 2) z) and-bit))
+      ap (λ (z : ℕ). eqb z 1) (xor-bit x (bitAnd x y) a ∙ ap (λ (z : ℕ). bitXor (x / 2 ^ a % 2) z) and-bit)
       ∙ without-test (x / 2 ^ a % 2) (y / 2 ^ a % 2) (omega arith) (omega arith)
 
 -- the empty set

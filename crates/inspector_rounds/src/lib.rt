@@ -118,7 +118,7 @@ pub fn inspect_rounds(
     b: &mut [u8],
 ) -> Inspection
     requires { ⌜ countsAsStarted (view s (now keys) (now links) (now certs) (now order)) ≡ true ⌝ }
-    requires { ⌜ (first .0 ≡ firstShown (view s (now keys) (now links) (now certs) (now order))) × (s .bottom .0 ≤ low .0) × (low .0 ≤ s .top .0) × (512 ≤ length (now signers)) ⌝ }
+    requires { ⌜ (first .0 ≡ firstShown (view s (now keys) (now links) (now certs) (now order))) × (low .0 ≤ s .top .0) × (512 ≤ length (now signers)) ⌝ }
     ensures { λ r. ⌜ RoundsInspected s (now (keys .entry)) (now (links .entry)) (now (certs .entry)) (now (order .entry)) (low .0) (sinceOf «stats_since») (now (signers .exit)) r
         × (now (b .exit) ≡ now (b .entry)) ⌝ }
 {
@@ -166,7 +166,7 @@ pub fn emit_signer_rounds(
     write: bool,
 ) -> Emitted
     requires { ⌜ countsAsStarted (view s (now keys) (now links) (now certs) (now order)) ≡ true ⌝ }
-    requires { ⌜ (first .0 ≡ firstShown (view s (now keys) (now links) (now certs) (now order))) × (s .bottom .0 ≤ low .0) × (low .0 ≤ s .top .0) ⌝ }
+    requires { ⌜ (first .0 ≡ firstShown (view s (now keys) (now links) (now certs) (now order))) × (low .0 ≤ s .top .0) ⌝ }
     requires { ⌜ SignersHold (view s (now keys) (now links) (now certs) (now order)) (low .0) (now signers) ⌝ }
     requires { ⌜ Ready eventBytes write (now b) e (over (noInclusions (view s (now keys) (now links) (now certs) (now order)))
         (shown (view s (now keys) (now links) (now certs) (now order)) (low .0))) ⌝ }

@@ -1,19 +1,19 @@
 -- What `must_reference` leaves is 01's memory of the round.
-use Prim.Native.Nat.{ℕ, zero, suc, _+_, _-_, _*_, _^_, _<_, _≤_}
+use Prim.Native.Nat.{ℕ, _+_, _*_, _^_, _<_, _≤_}
 use mathlib.Core.Path.{_≡_, refl, sym, ap, subst, _∙_}
-use mathlib.Core.List.{List, [], _∷_, map, List·Memᴰ}
-use mathlib.Core.Bool.{Bool, true, false, not, _&&_, cond}
+use mathlib.Core.List.{List, map}
+use mathlib.Core.Bool.{Bool, true, not, _&&_, cond}
 use mathlib.Core.Option.{Option, none, some}
 use native.Mathlib.Omega.{arith}
 use lib.Dec.{eqb, ltb}
-use lib.ListN.{length, getD, set, take}
+use lib.ListN.{length, getD, set}
 use lib.Seq.{getD-set-other}
 use borrow.Author.Tests.{eq-eqb, ne-eqb, lt-ltb, le-ltb}
-use Rattle.laws.specs.Test.{sameOr}
+use Rattle.laws.specs.Test.{sameOr, and-no-r}
 use Rattle.laws.specs.Lists.{keep, keep-in}
 use Rattle.laws.specs.Peers.{member}
 use Rattle.spec.specs.Store as store
-use Rattle.spec.specs.Store.{Store, Entry, Point, Resolution, previous}
+use Rattle.spec.specs.Store.{Store, Point, Resolution, previous}
 use Rattle.spec.specs.Rules.{countsAsStarted}
 use Rattle.spec.specs.Inspect.{isTrusted, placesIn, includedBy, mustReference, entryOf, roundData}
 use Rattle.models.specs.Digest.{Fit, digestAt}
@@ -27,10 +27,10 @@ use Rattle.tables_test.specs.Refines.{Started, counted}
 use Rattle.back_history.specs.RefinesNeeded.{used-point}
 use Rattle.back_walk.specs.Words.{hasPrevious}
 use Rattle.back_walk.specs.Refines.{given-at, previous-at}
-use Rattle.inspector_references.specs.Sets.{without, and-false, none-member, without-member, without-lt}
+use Rattle.inspector_references.specs.Sets.{without, none-member, without-member, without-lt}
 use Rattle.inspector_references.specs.Trusted.{Listed, listed-in}
 use Rattle.inspector_references.specs.Live.{author-low}
-use Rattle.inspector_references.specs.Referring.{rowAuthor, rowPrevious, rowSigned, rowPeers, referringBy, referring-same, FromPlace, RowOf, Retained, trusted-used, included-is}
+use Rattle.inspector_references.specs.Referring.{rowAuthor, rowPrevious, rowSigned, rowPeers, referringBy, referring-same, FromPlace, RowOf, trusted-used, included-is}
 use Rattle.inspector_rows.specs.Rows.{wordsFrom, from-digest, rowFrom, row-digest, row-signed, stacked, stacked-in, stacked-digest, stacked-same, stacked-entry, entryAt, entriesOf, entries-map, RowsFit}
 
 -- the row of the place q, with the peers that signed its previous point
@@ -145,7 +145,7 @@ module _ (s : State) (ks ls cs os : List ℕ) (fk : Fit ks) (fl : Fit ls) (h : c
         without-previous e =
             let p : previous (v .pt q) ≡ none = before ∙ rw (le-ltb 0 (targetAt ls q (authorAt ks q)) (omega arith)) refl in
             ap (λ (x : Bool). member (cond x 0 (without (getD row 10 0) (referringBy ks ls l n 0 live row 0))) a) (eq-eqb (getD row 5 0) 0 (word ∙ e))
-            ∙ (none-member a ∙ (and-false (member (v .pt q .resolution .evidence) a) ∙ ap (λ (x : Option ℕ). member (v .pt q .resolution .evidence) a && mustReference v r x a) (sym p)))
+            ∙ (none-member a ∙ (sym (and-no-r (member (v .pt q .resolution .evidence) a) refl) ∙ ap (λ (x : Option ℕ). member (v .pt q .resolution .evidence) a && mustReference v r x a) (sym p)))
 
         with-previous : (targetAt ls q (authorAt ks q) ≡ 0 → ⊥) → member (unreferencedOf ks ls l n live row) a ≡ (member (v .pt q .resolution .evidence) a && mustReference v r (previous (v .pt q)) a)
         with-previous d =

@@ -2,8 +2,8 @@
 use Prim.Native.Nat.{ℕ, zero, suc, _+_, _-_, _*_, _^_, _<_, _≤_}
 use mathlib.Core.Path.{_≡_, refl, sym, ap, ap₂, _∙_}
 use mathlib.Core.List.{List, [], _∷_, _++_, map, map-append}
-use mathlib.Core.Bool.{Bool, true, false, _||_, cond}
-use mathlib.Core.Option.{Option, none, some}
+use mathlib.Core.Bool.{Bool, cond}
+use mathlib.Core.Option.{none, some}
 use native.Mathlib.Omega.{arith}
 use native.Mathlib.Numerals.{add-one}
 use lib.Dec.{ltb}
@@ -22,6 +22,17 @@ use Rattle.inspector_references.specs.Referring.{rowAuthor, rowDigest, rowPrevi
 
 -- ---- one row
 
+-- four words that are the same have the same digest
+four-alike : (xs ys : List ℕ) (p q : ℕ) → getD xs (p + 0) 0 ≡ getD ys (q + 0) 0 → getD xs (p + 1) 0 ≡ getD ys (q + 1) 0 → getD xs (p + 2) 0 ≡ getD ys (q + 2) 0 → getD xs (p + 3) 0 ≡ getD ys (q + 3) 0 → digestAt xs p ≡ digestAt ys q
+four-alike xs ys p q a b c d = digest-alike xs ys p q each
+  where
+    each : (i : ℕ) → i < 4 → getD xs (p + i) 0 ≡ getD ys (q + i) 0
+    each zero l = a
+    each (suc zero) l = b
+    each (suc (suc zero)) l = c
+    each (suc (suc (suc zero))) l = d
+    each (suc (suc (suc (suc i)))) l = absurd (omega arith)
+
 -- the four words from p on
 unfoldable pub wordsFrom : List ℕ → ℕ → List ℕ
 wordsFrom t p = getD t (p + 0) 0 ∷ getD t (p + 1) 0 ∷ getD t (p + 2) 0 ∷ getD t (p + 3) 0 ∷ []
@@ -29,14 +40,7 @@ wordsFrom t p = getD t (p + 0) 0 ∷ getD t (p + 1) 0 ∷ getD t (p + 2) 0 ∷ g
 -- their digest
 pub from-digest : (t : List ℕ) (p : ℕ) → digestAt (wordsFrom t p) 0 ≡ digestAt t p
 unfolding wordsFrom
-from-digest t p = digest-alike (wordsFrom t p) t 0 p each
-  where
-    each : (i : ℕ) → i < 4 → getD (wordsFrom t p) (0 + i) 0 ≡ getD t (p + i) 0
-    each zero l = refl
-    each (suc zero) l = refl
-    each (suc (suc zero)) l = refl
-    each (suc (suc (suc zero))) l = refl
-    each (suc (suc (suc (suc i)))) l = absurd (omega arith)
+from-digest t p = four-alike (wordsFrom t p) t 0 p refl refl refl refl
 
 -- author, digest, previous, previous digest, peers
 unfoldable pub rowFrom : ℕ → List ℕ → ℕ → List ℕ → ℕ → List ℕ
@@ -46,25 +50,11 @@ module _ (a : ℕ) (d : List ℕ) (t : ℕ) (p : List ℕ) (u : ℕ) where
   -- its digests
   pub row-digest : digestAt (rowFrom a d t p u) 1 ≡ digestAt d 0
   unfolding rowFrom
-  row-digest = digest-alike (rowFrom a d t p u) d 1 0 each
-    where
-      each : (i : ℕ) → i < 4 → getD (rowFrom a d t p u) (1 + i) 0 ≡ getD d (0 + i) 0
-      each zero l = refl
-      each (suc zero) l = refl
-      each (suc (suc zero)) l = refl
-      each (suc (suc (suc zero))) l = refl
-      each (suc (suc (suc (suc i)))) l = absurd (omega arith)
+  row-digest = four-alike (rowFrom a d t p u) d 1 0 refl refl refl refl
 
   pub row-signed : digestAt (rowFrom a d t p u) 6 ≡ digestAt p 0
   unfolding rowFrom
-  row-signed = digest-alike (rowFrom a d t p u) p 6 0 each
-    where
-      each : (i : ℕ) → i < 4 → getD (rowFrom a d t p u) (6 + i) 0 ≡ getD p (0 + i) 0
-      each zero l = refl
-      each (suc zero) l = refl
-      each (suc (suc zero)) l = refl
-      each (suc (suc (suc zero))) l = refl
-      each (suc (suc (suc (suc i)))) l = absurd (omega arith)
+  row-signed = four-alike (rowFrom a d t p u) p 6 0 refl refl refl refl
 
 -- ---- the table
 

@@ -22,9 +22,10 @@ use Rattle.tables_test.specs.View.{view}
 use Rattle.tables_test.specs.Refines.{Started}
 use Rattle.answer_bytes.specs.Bytes.{placeId}
 use Rattle.back_history.specs.RefinesNeeded.{named-used}
+use Rattle.inspector_references.specs.Referring.{rowAuthor, rowDigest}
 use Rattle.inspector_events.specs.Told.{oneIf, passing}
 use Rattle.inspector_events.specs.Passing.{upto-same, map-twice, passing-keep}
-use Rattle.inspector_signers.specs.Signers.{rowAuthor, rowDigest, rowId, rowPasses, rowIds, pointIds, signerOf, signersOf}
+use Rattle.inspector_signers.specs.Signers.{rowId, rowPasses, rowIds, pointIds, signerOf, signersOf}
 use Rattle.inspector_events.specs.Refines.{id-used}
 
 -- the first n rows hold the entries es (z stands for none)

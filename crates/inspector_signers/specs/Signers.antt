@@ -12,10 +12,10 @@ use Rattle.laws.specs.Peers.{member}
 use Rattle.spec.specs.Ids.{Id, idBytes}
 use Rattle.spec.specs.Records.{id-length, ids-length}
 use Rattle.spec.specs.Inspect.{Event, noInclusion, eventBytes}
-use Rattle.models.specs.Digest.{digestAt}
 use Rattle.models.specs.Tables.{authorAt}
 use Rattle.answer_bytes.specs.Bytes.{placeId}
 use Rattle.answer_bytes.specs.Sent.{Room, Sent, kept, sent-then}
+use Rattle.inspector_references.specs.Referring.{rowAuthor, rowDigest}
 use Rattle.inspector_events.specs.declared.emitted.Emitted.{Emitted}
 use Rattle.inspector_events.specs.Told.{Told, Open, Ready, passing, open-left, open-first, open-all, open-rest, ready-one, ready-first, ready-rest, told-one, told-then}
 
@@ -24,12 +24,6 @@ abbrev pub InKeys : List ℕ → List ℕ → ℕ → Type 0
 InKeys ks ps m = (j : ℕ) → j < m → getD ps j 0 * 8 + 8 ≤ length ks
 
 -- ---- rows of 11 words: author, digest (four), and six more
-
-abbrev pub rowAuthor : List ℕ → ℕ → ℕ
-rowAuthor rs k = getD rs (k * 11 + 0) 0
-
-abbrev pub rowDigest : List ℕ → ℕ → ℕ
-rowDigest rs k = digestAt rs (k * 11 + 1)
 
 -- row k, a point of round r
 abbrev pub rowId : List ℕ → ℕ → ℕ → Id

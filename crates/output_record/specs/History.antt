@@ -8,10 +8,10 @@ use native.Mathlib.Omega.{arith}
 use lib.Dec.{eqb, leb, ltb}
 use borrow.Author.Tests.{eqb-true, eqb-false, leb-true, ltb-true, le-leb, lt-ltb}
 use Rattle.laws.specs.Test.{byTest, clash, both, and-l, and-r, or-cases}
-use Rattle.laws.specs.Lists.{Pairs, NoDup, map-mem, mem-map, map-pairs, weigh}
+use Rattle.laws.specs.Lists.{Pairs, NoDup, map-mem, mem-map, map-pairs, weigh, weigh-by}
 use Rattle.spec.specs.Store.{Point, Resolution, Store, idAt, resolved}
 use Rattle.spec.specs.History.{inHistory, history, summed}
-use Rattle.spec.specs.OrderInRound.{weigh-by, summed-over}
+use Rattle.spec.specs.OrderInRound.{summed-over}
 use Rattle.spec.specs.Order.{Before, history-named, history-elim, history-intro, history-rises}
 use Rattle.spec.specs.WellFormed.{Wf}
 use Rattle.models.specs.Digest.{Fit}

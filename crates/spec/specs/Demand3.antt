@@ -20,7 +20,7 @@ use Rattle.spec.specs.Store.{Resolution, Memory, Store, idAt, roundAt, r
 use Rattle.spec.specs.Paths.{Path, here, step, LinkedTo}
 use Rattle.spec.specs.Rules.{isPeer, placesOk}
 use Rattle.spec.specs.Chain.{Refusal, Out, bad, good, EnqueuedAnchor, orZero, anchorsOf}
-use Rattle.spec.specs.History.{limit, lowest, inHistory, history, afterLists, summed, tailBytes, recordBytes, testAnchor, dequeued, Finished, commitAll}
+use Rattle.spec.specs.History.{limit, lowest, inHistory, history, summed, tailBytes, dequeued, Finished, commitAll}
 use Rattle.spec.specs.Calls.{Outcome, finish, StartArgs, startOk, memoryKept, begun, doResolve, commitEnd, doCommit, Call, start, resetAll, round, name, resolve, certify, gapQuestion, commit, outlook, remove, drop as dropTo, perform, call}
 use Rattle.spec.specs.Graph.{snoc, path-down}
 use Rattle.spec.specs.Links.{down, linked, resolved-named}
@@ -31,10 +31,10 @@ use Rattle.spec.specs.Walk.{same-id, id-same}
 use Rattle.spec.specs.Accepted.{finish-store, name-way, resolve-way, certify-way}
 use Rattle.spec.specs.Demand.{InList, AllInList, History, readRecords, finished, wrote, histories, Given, accepted, gave, resolutions, Edge, Exact, AllExact, Writes, StartRefused, AsSaid, AllAsSaid, FirstHalf, Demand3, paid, Summed, SumsFollow}
 use Rattle.spec.specs.Demand3Second.{commit-is, second-half}
-use Rattle.spec.specs.Records.{Fits, Event, passed, passedBy, bytesOf, commit-buffer, Readable, read-all, readAs}
+use Rattle.spec.specs.Records.{Fits, Event, passed, bytesOf, every-commit, commit-buffer, Readable, read-all, readAs}
 use Rattle.spec.specs.Preservation.{begun-kept, call-perform, start-begun}
 use Rattle.spec.specs.Invariant.{Inv, hist-paths, history-is}
-use Rattle.spec.specs.Demand3First.{ids, allIds, Right, AllRight, finishesBy, commitBy, finishes, eventsOf, Keeps, call-keeps}
+use Rattle.spec.specs.Demand3First.{ids, allIds, Right, AllRight, split-max, finishesBy, commitBy, finishes, eventsOf, Keeps, call-keeps}
 use Rattle.spec.specs.Demand3Calls.{Frame, frame-mark, changesPoint, steady, anchorId, commit-writes, start-refused, perform-retains, begun-retains}
 use Rattle.spec.specs.Demand3Paths.{givenOf, given, Log, edge-down, path-under, edge-link, ids→places, places→ids, numbers-log, round-log, cert-log, mark-log, drain-log, name-log, res-log, res-first}
 
@@ -75,9 +75,6 @@ path-less s G L w g n a b low-b solid x y (step {q = z} d u) p e o v l = go (Lis
 
 max-below : (x y n : ℕ) → x ≤ n → y ≤ n → max x y ≤ n
 max-below x y n a b = omega arith
-
-below-max : (x y n : ℕ) → max x y ≤ n → (x ≤ n) × (y ≤ n)
-below-max x y n h = (omega arith, omega arith)
 
 author-small : (s : Store) (i : Id) → isPeer s i ≡ true → i .author < 32
 unfolding isPeer
@@ -137,7 +134,7 @@ module _ (s : Store) (hs : List Id) (e : Event) (r : Right hs e) (f : Frame s (e
       )
         where
           p : (limit (e .from .conf) (roundAt (e .from) (e .enq .anchor)) ≤ x .round) × (e .from .bottom ≤ x .round)
-          p = below-max _ _ _ l
+          p = split-max _ _ _ l
 
       back : retained s (x .round) ≡ true → limit (s .conf) (roundAt (e .from) (e .enq .anchor)) ≤ x .round → Path (Edge (G ++ L)) (idAt (e .from) (e .enq .anchor)) x → (List·Memᴰ x hs → ⊥)
           → (q : ℕ) × (idAt (e .from) q ≡ x) × Path (LinkedTo (e .from)) (e .enq .anchor) q × (lowest (e .from) (e .enq .anchor) ≤ x .round) × (List·Memᴰ x hs → ⊥)
@@ -200,17 +197,10 @@ event-summed s hs e r G L g = sym (ap₂ (λ (m n : ℕ). be 8 m ++ be 8 n) (sum
 -- ---- the histories of one call
 
 -- what every commit mark keeps holds of each store from which an anchor was committed
-passed-from : (P : Store → Type 0) → ((s : Store) (e : EnqueuedAnchor) → P s → P (dequeued s e)) → (s : Store) (ls : List ℕ) (left : ℕ) (es : List EnqueuedAnchor) → P s → (e : Event) → List·Memᴰ e (passed s ls left es) → P (e .from)
-unfolding passed
-passed-from P k s ls left [] h e m = absurd (List·Memᴰ·not-nil m)
-passed-from P k s ls left (x ∷ xs) h e m = go (testAnchor s ls left (length (recordBytes s ls x)) (x .anchor)) m (λ n. passed-from P k (dequeued s x) (afterLists s (x .anchor) ls) (left - length (recordBytes s ls x)) xs (k s x h) e n)
-  where
-    evs : Out ℕ → List Event
-    evs = passedBy s ls left x xs
-
-    go : (o : Out ℕ) → List·Memᴰ e (evs o) → (List·Memᴰ e (passed (dequeued s x) (afterLists s (x .anchor) ls) (left - length (recordBytes s ls x)) xs) → P (e .from)) → P (e .from)
-    go (bad r) n i = absurd (List·Memᴰ·not-nil n)
-    go (good a) n i = ⊎-elim (λ d. subst (λ (y : Event). P (y .from)) (sym d) h) i (List·Memᴰ·cases-cons n)
+passed-from : (P : Store → Type 0) → ((s : Store) (e : EnqueuedAnchor) → P s → P (dequeued s e)) → (s : Store) (ls b : List ℕ) (es : List EnqueuedAnchor) → P s → (e : Event) → List·Memᴰ e (passed s ls (length b) es) → P (e .from)
+passed-from P k s ls b es h e m =
+    every-commit (λ s ls b at n es f evs. P s → (e : Event) → List·Memᴰ e evs → P (e .from)) (λ s ls b at n h e m. absurd (List·Memᴰ·not-nil m)) (λ s ls b at n x xs r t h e m. absurd (List·Memᴰ·not-nil m))
+    (λ s ls b at n x xs a f evs t i h e m. ⊎-elim (λ d. subst (λ (y : Event). P (y .from)) (sym d) h) (λ j. i (k s x h) e j) (List·Memᴰ·cases-cons m)) s ls b 0 0 es h e (subst (λ j. List·Memᴰ e (passed s ls j es)) (sym (sub-zero (length b))) m)
 
 events-from : (P : Store → Type 0) → ((s : Store) (e : EnqueuedAnchor) → P s → P (dequeued s e)) → (s : Store) (c : Call) → P s → (e : Event) → List·Memᴰ e (eventsOf s c) → P (e .from)
 unfolding eventsOf finishes
@@ -228,7 +218,7 @@ events-from P k s (commit i ls b) h e m = go (anchorsOf s i) m
 
     go : (o : Out (List EnqueuedAnchor)) → List·Memᴰ e (evs o) → P (e .from)
     go (bad r) n = absurd (List·Memᴰ·not-nil n)
-    go (good es) n = passed-from P k s ls (length b) es h e n
+    go (good es) n = passed-from P k s ls b es h e n
 events-from P k s (outlook i b) h e m = absurd (List·Memᴰ·not-nil m)
 events-from P k s (remove r from b) h e m = absurd (List·Memᴰ·not-nil m)
 events-from P k s (dropTo r) h e m = absurd (List·Memᴰ·not-nil m)
@@ -258,7 +248,7 @@ unfolding commitEnd
 read-commit s hs ls b es a =
     ap₂ (readRecords s) (end-finished (f .store) (f .buffer) (f .anchors) (f .stopped) ∙ (c .2 ∙ (zero-add (length (passed s ls (length b - 0) es)) ∙ ap (λ n. length (passed s ls n es)) (sub-zero (length b)))))
     (c .1 ∙ ap (λ n. joined bytesOf (passed s ls n es) ++ c .0) (sub-zero (length b)))
-    ∙ read-all s (passed s ls (length b) es) (c .0) (λ e m. let (h, r) = right-in hs _ a e m in event-readable s h e r (passed-from (Frame s) (frame-mark s) s ls (length b) es (refl, refl, refl) e m))
+    ∙ read-all s (passed s ls (length b) es) (c .0) (λ e m. let (h, r) = right-in hs _ a e m in event-readable s h e r (passed-from (Frame s) (frame-mark s) s ls b es (refl, refl, refl) e m))
   where
     f : Finished
     f = commitAll s ls b 0 0 es

@@ -10,7 +10,7 @@ use lib.ListN.{length}
 use borrow.Author.Tests.{leb-true, leb-false, le-leb, ltb-false, lt-ltb, le-ltb, eq-eqb, ne-eqb, lt-leb}
 use native.Mathlib.Omega.{arith}
 use native.Mathlib.Nat.{zero-add, sub-zero}
-use Rattle.laws.specs.Test.{sameOr, leOr, or-none}
+use Rattle.laws.specs.Test.{sameOr, leOr, and-no-r, or-none}
 use Rattle.laws.specs.Bytes.{written, written-length}
 use Rattle.spec.specs.Ids.{Id}
 use Rattle.spec.specs.Store.{Resolution, Progress, Memory, Store, idAt, retained, withPoints, withNumbers, withMemory}
@@ -22,7 +22,7 @@ use Rattle.spec.specs.Calls.{done, anchors, refused, Outcome, finish, St
 use Rattle.spec.specs.WellFormed.{Wf, countsAsStarted-intro}
 use Rattle.spec.specs.Accepted.{finish-store, gapQuestion-way, remove-way, drop-way, round-way, name-way, resolve-way, certify-way}
 use Rattle.spec.specs.Demand.{InList, History, readRecords, finished, testAfter, Stops, OneForEach, Writes, StartRefused, isDone, adds, drains, Retains}
-use Rattle.spec.specs.Records.{Event, passed, finishedBy, passedBy, room-left, commit-buffer}
+use Rattle.spec.specs.Records.{Event, passed, room-left, every-commit, commit-buffer}
 use Rattle.spec.specs.Preservation.{start-same, new-bottom}
 use Rattle.spec.specs.Demand3First.{finishesBy, commitBy, finishes, outlook-store}
 
@@ -38,16 +38,7 @@ frame-mark s u e f = f
 
 -- what every commit mark keeps, a chain's commit keeps
 commit-marks : (P : Store → Type 0) → ((s : Store) (e : EnqueuedAnchor) → P s → P (dequeued s e)) → (s : Store) (ls b : List ℕ) (at n : ℕ) (es : List EnqueuedAnchor) → P s → P (commitAll s ls b at n es .store)
-unfolding commitAll
-commit-marks P k s ls b at n [] h = h
-commit-marks P k s ls b at n (e ∷ es) h = go (testAnchor s ls (length b - at) (length (recordBytes s ls e)) (e .anchor)) (λ b at n. commit-marks P k (dequeued s e) (afterLists s (e .anchor) ls) b at n es (k s e h))
-  where
-    fin : Out ℕ → Finished
-    fin = finishedBy s ls b at n e es
-
-    go : (o : Out ℕ) → ((b : List ℕ) (at n : ℕ) → P (commitAll (dequeued s e) (afterLists s (e .anchor) ls) b at n es .store)) → P (fin o .store)
-    go (bad r) i = h
-    go (good a) i = i (written b at (recordBytes s ls e)) (at + length (recordBytes s ls e)) (suc n)
+commit-marks P k = every-commit (λ s ls b at n es f evs. P s → P (f .store)) (λ s ls b at n h. h) (λ s ls b at n e es r t h. h) (λ s ls b at n e es a f evs t i h. i (k s e h))
 
 pub commit-keeps-all : (P : Store → Type 0) → ((s : Store) (e : EnqueuedAnchor) → P s → P (dequeued s e)) → (s : Store) (i : Id) (ls b : List ℕ) → P s → P (doCommit s i ls b .store)
 unfolding doCommit commitEnd
@@ -126,39 +117,34 @@ stop-more s ls left x xs [] o h = h
 stop-more s ls left x xs (e ∷ more) o h = h
 
 cut : (s : Store) (ls b : List ℕ) (at n : ℕ) (es : List EnqueuedAnchor) → Cut s ls (length b - at) es (passed s ls (length b - at) es) (commitAll s ls b at n es .stopped)
-unfolding commitAll passed testAfter
-cut s ls b at n [] = record { first = []; others = []; oldest = refl; one = refl; count = refl; pass = λ before more e h. none-first before more e h; stop = refl }
-cut s ls b at n (e ∷ es) = go (testAnchor s ls (length b - at) (length (recordBytes s ls e)) (e .anchor)) refl (λ b at n. cut (dequeued s e) (afterLists s (e .anchor) ls) b at n es)
+unfolding testAfter
+cut = every-commit (λ s ls b at n es f evs. Cut s ls (length b - at) es evs (f .stopped)) none-cut stop-cut more-cut
   where
-    vs : List ℕ
-    vs = recordBytes s ls e
+    none-cut : (s : Store) (ls b : List ℕ) (at n : ℕ) → Cut s ls (length b - at) [] [] none
+    none-cut s ls b at n = record { first = []; others = []; oldest = refl; one = refl; count = refl; pass = λ before more e h. none-first before more e h; stop = refl }
 
-    left : ℕ
-    left = length b - at
+    stop-cut : (s : Store) (ls b : List ℕ) (at n : ℕ) (e : EnqueuedAnchor) (es : List EnqueuedAnchor) (r : Refusal) → testAnchor s ls (length b - at) (length (recordBytes s ls e)) (e .anchor) ≡ bad r
+        → Cut s ls (length b - at) (e ∷ es) [] (some r)
+    stop-cut s ls b at n e es r h = record { first = []; others = e ∷ es; oldest = refl; one = refl; count = refl; pass = λ before more x k. none-first before more x k; stop = (r, h, refl) }
 
-    fin : Out ℕ → Finished
-    fin = finishedBy s ls b at n e es
-
-    evs : Out ℕ → List Event
-    evs = passedBy s ls left e es
-
-    go : (o : Out ℕ) → testAnchor s ls left (length vs) (e .anchor) ≡ o
-        → ((b : List ℕ) (at n : ℕ) → Cut (dequeued s e) (afterLists s (e .anchor) ls) (length b - at) es (passed (dequeued s e) (afterLists s (e .anchor) ls) (length b - at) es) (commitAll (dequeued s e) (afterLists s (e .anchor) ls) b at n es .stopped))
-        → Cut s ls left (e ∷ es) (evs o) (fin o .stopped)
-    go (bad r) h i = record { first = []; others = e ∷ es; oldest = refl; one = refl; count = refl; pass = λ before more x k. none-first before more x k; stop = (r, h, refl) }
-    go (good a) h i = record {
+    more-cut : (s : Store) (ls b : List ℕ) (at n : ℕ) (e : EnqueuedAnchor) (es : List EnqueuedAnchor) (a : ℕ) (f : Finished) (evs : List Event) → testAnchor s ls (length b - at) (length (recordBytes s ls e)) (e .anchor) ≡ good a
+        → Cut (dequeued s e) (afterLists s (e .anchor) ls) (length (written b at (recordBytes s ls e)) - (at + length (recordBytes s ls e))) es evs (f .stopped)
+        → Cut s ls (length b - at) (e ∷ es) (record { from = s; list = ls; enq = e } ∷ evs) (f .stopped)
+    more-cut s ls b at n e es a f evs h i = record {
       first = e ∷ c .first;
       others = c .others;
       oldest = ap (λ l. e ∷ l) (c .oldest);
       one = ap (λ l. idAt s (e .anchor) ∷ l) (c .one ∙ ids-mark s e (c .first));
       count = ap suc (c .count);
-      pass = pass-more s ls left e (c .first) a h (c .pass);
-      stop = stop-more s ls left e (c .first) (c .others) _ (c .stop);
+      pass = pass-more s ls (length b - at) e (c .first) a h (c .pass);
+      stop = stop-more s ls (length b - at) e (c .first) (c .others) _ (c .stop);
     }
       where
-        c : Cut (dequeued s e) (afterLists s (e .anchor) ls) (left - length vs) es (passed (dequeued s e) (afterLists s (e .anchor) ls) (left - length vs) es) (commitAll (dequeued s e) (afterLists s (e .anchor) ls) (written b at vs) (at + length vs) (suc n) es .stopped)
-        c = subst (λ k. Cut (dequeued s e) (afterLists s (e .anchor) ls) k es (passed (dequeued s e) (afterLists s (e .anchor) ls) k es) (commitAll (dequeued s e) (afterLists s (e .anchor) ls) (written b at vs) (at + length vs) (suc n) es .stopped))
-            (sym (room-left (length b) at (length (written b at vs)) (length vs) (written-length b at vs))) (i (written b at vs) (at + length vs) (suc n))
+        vs : List ℕ
+        vs = recordBytes s ls e
+
+        c : Cut (dequeued s e) (afterLists s (e .anchor) ls) (length b - at - length vs) es evs (f .stopped)
+        c = subst (λ k. Cut (dequeued s e) (afterLists s (e .anchor) ls) k es evs (f .stopped)) (sym (room-left (length b) at (length (written b at vs)) (length vs) (written-length b at vs))) i
 
 stop-is : (s : Store) (ls : List ℕ) (left : ℕ) (first others : List EnqueuedAnchor) (t : Store) (b : List ℕ) (n : ℕ) (o : Option Refusal) → n ≡ length first → StopsBy s ls left first others o → Stops s ls left first others (commitEnd (record { store = t; buffer = b; anchors = n; stopped = o }) .answer)
 unfolding commitEnd
@@ -215,11 +201,6 @@ stays false = refl
 
 frame-retained : (s t : Store) → Frame s t → (r : ℕ) → retained t r ≡ ((retained s r || false) && not false)
 frame-retained s t (b, h, c) r = rw (b, h) (stays (leb (s .bottom) r && leb r (s .top)))
-
--- a test that fails on the right
-and-no-r : (a : Bool) {b : Bool} → b ≡ false → (a && b) ≡ false
-and-no-r true e = e
-and-no-r false e = refl
 
 -- what a new bottom leaves
 drain-law : (b t x r : ℕ) → (leb (max b (min x t)) r && leb r t) ≡ (((leb b r && leb r t) || false) && not (ltb r x && ltb r t))

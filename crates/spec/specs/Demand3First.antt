@@ -8,24 +8,24 @@ use lib.ListN.{length}
 use native.Mathlib.Omega.{arith}
 use native.Mathlib.Nat.{le-trans, sub-zero}
 use native.Mathlib.Decide.{ℕ-discrete}
-use Rattle.laws.specs.Test.{clash, and-l, le-or-lt}
-use Rattle.laws.specs.Bytes.{written, written-length}
+use Rattle.laws.specs.Test.{clash, le-or-lt}
+use Rattle.laws.specs.Bytes.{written}
 use Rattle.spec.specs.Ids.{Id}
 use Rattle.spec.specs.Store.{Resolution, Point, Progress, Memory, Store, idAt, roundAt, resolved, linksTo, withPoints, withNumbers}
 use Rattle.spec.specs.Paths.{LinkedTo}
 use Rattle.spec.specs.Rules.{lastRound}
 use Rattle.spec.specs.Chain.{Out, bad, good, EnqueuedAnchor, orZero, lowestWalked, anchorsOf}
-use Rattle.spec.specs.History.{limit, needed, inHistory, history, linkedCounts, listsOk, inOrder, afterLists, recordBytes, testAnchor, dequeued, Finished, commitAll, outlookAll}
+use Rattle.spec.specs.History.{limit, needed, history, linkedCounts, listsOk, inOrder, testAnchor, dequeued, Finished, commitAll, outlookAll}
 use Rattle.spec.specs.Calls.{anchors, refused, Outcome, finish, StartArgs, doStart, addRound, doRound, newPoint, nameAt, doName, withPathHeights, resolvedAs, resolveAt, doResolve, setTop, certifyAt, doCertify, commitEnd, doCommit, doOutlook, drained, newBottom, Call, start, resetAll, round, name, resolve, certify, gapQuestion, commit, outlook, remove, drop, perform}
 use Rattle.spec.specs.Links.{linked, resolved-named}
 use Rattle.spec.specs.HeightEquations.{inside}
 use Rattle.spec.specs.Changes.{res-off, res-link, drain-gone, drain-stays, drain-was, drain-link}
-use Rattle.spec.specs.Order.{history-named}
+use Rattle.spec.specs.Order.{history-needed, history-named}
 use Rattle.spec.specs.OrderInRound.{order-mem}
 use Rattle.spec.specs.Walk.{find-some, Anchored, Rising, rising-less, Tested, test-good}
 use Rattle.spec.specs.Accepted.{finish-store, gapQuestion-way, remove-way, drop-way, round-way, Naming, name-way, Resolving, resolve-way, certify-way}
 use Rattle.spec.specs.Demand.{InList}
-use Rattle.spec.specs.Records.{Event, passed, finishedBy, passedBy, room-left}
+use Rattle.spec.specs.Records.{Event, passed, every-commit}
 use Rattle.spec.specs.Preservation.{name-at, name-off, name-link, name-kept, round-kept, res-kept, cert-kept, drain-kept, numbers-kept, rising-mark, anchors-rising, start-same, new-bottom}
 use Rattle.spec.specs.Invariant.{Inv, floor, Next, mark-inv}
 
@@ -187,12 +187,8 @@ abbrev pub AllRight : List Id → List Event → Type 0
 AllRight hs [] = Unit {0}
 AllRight hs (e ∷ es) = Right hs e × AllRight (hs ++ ids e) es
 
-split-max : (x y n : ℕ) → max x y ≤ n → (x ≤ n) × (y ≤ n)
+pub split-max : (x y n : ℕ) → max x y ≤ n → (x ≤ n) × (y ≤ n)
 split-max x y n h = (omega arith, omega arith)
-
-in-needed : (s : Store) (a q : ℕ) → inHistory s a q ≡ true → needed s a q ≡ true
-unfolding inHistory
-in-needed s a q h = and-l _ _ h
 
 -- an anchor of the chain that passes its tests may be committed
 pub next-of : (s : Store) (hs : List Id) (e : EnqueuedAnchor) → Inv s hs → lowestWalked s ≤ roundAt s (e .anchor) → Anchored s e → Tested s (e .anchor) → Next s (e .anchor)
@@ -201,7 +197,7 @@ next-of s hs e v l o c = record {
   young = c .young;
   in-store = k .1;
   there = there;
-  ready = λ q h. c .ready q (inside s (v .wf .sized) q (history-named s (v .wf) (e .anchor) there q h)) (in-needed s (e .anchor) q h) .0;
+  ready = λ q h. c .ready q (inside s (v .wf .sized) q (history-named s (v .wf) (e .anchor) there q h)) (history-needed s (e .anchor) q h) .0;
 }
   where
     k : (orZero (s .progress .lastProof) ≤ roundAt s (e .anchor)) × (s .bottom ≤ roundAt s (e .anchor))
@@ -251,42 +247,30 @@ rest-rising s e es (l, o, r) = rising-less (dequeued s e) _ (suc (roundAt s (e .
     fit : (p b a w : ℕ) → p ≡ suc a → max w b ≤ a → max p b ≤ suc a
     fit p b a w e h = omega arith
 
--- the anchors of a chain are committed rightly
-pub commit-right : (s : Store) (ls : List ℕ) (hs : List Id) (b : List ℕ) (at n : ℕ) (es : List EnqueuedAnchor) → Inv s hs → Rising s (lowestWalked s) es
-    → AllRight hs (passed s ls (length b - at) es) × Inv (commitAll s ls b at n es .store) (hs ++ allIds (passed s ls (length b - at) es))
-unfolding commitAll passed
-commit-right s ls hs b at n [] v r = (tt, subst (Inv s) (sym (append-nil hs)) v)
-commit-right s ls hs b at n (e ∷ es) v r = go (testAnchor s ls (length b - at) (length (recordBytes s ls e)) (e .anchor)) refl (λ hs b at n. commit-right (dequeued s e) (afterLists s (e .anchor) ls) hs b at n es)
+-- no anchor is finished
+plain : (hs : List Id) (t : Store) → Inv t hs → Inv t (hs ++ [])
+plain hs t v = subst (Inv t) (sym (append-nil hs)) v
+
+-- the histories of the finished anchors are right, after hs
+abbrev Rightly : Store → List EnqueuedAnchor → Finished → List Event → Type 0
+Rightly s es f evs = (hs : List Id) → Inv s hs → Rising s (lowestWalked s) es → AllRight hs evs × Inv (f .store) (hs ++ allIds evs)
+
+rightly-more : (s : Store) (ls : List ℕ) (left size : ℕ) (e : EnqueuedAnchor) (es : List EnqueuedAnchor) (a : ℕ) (f : Finished) (evs : List Event) → testAnchor s ls left size (e .anchor) ≡ good a
+    → Rightly (dequeued s e) es f evs → Rightly s (e ∷ es) f (record { from = s; list = ls; enq = e } ∷ evs)
+rightly-more s ls left size e es a f evs h i hs v r = ((one-right s ls hs e es v r c o, all .0), subst (Inv (f .store)) (append-assoc hs (inOrder s (e .anchor) ls) _) (all .1))
   where
-    vs : List ℕ
-    vs = recordBytes s ls e
+    c : Tested s (e .anchor)
+    c = test-good s ls _ _ _ a h .0
 
-    fin : Out ℕ → Finished
-    fin = finishedBy s ls b at n e es
+    o : listsOk (linkedCounts s (e .anchor)) ls ≡ true
+    o = test-good s ls _ _ _ a h .2
 
-    evs : Out ℕ → List Event
-    evs = passedBy s ls (length b - at) e es
+    all : AllRight (hs ++ inOrder s (e .anchor) ls) evs × Inv (f .store) (hs ++ inOrder s (e .anchor) ls ++ allIds evs)
+    all = i (hs ++ inOrder s (e .anchor) ls) (one-inv s ls hs e es v r c o) (rest-rising s e es r)
 
-    go : (o : Out ℕ) → testAnchor s ls (length b - at) (length vs) (e .anchor) ≡ o
-        → ((hs : List Id) (b : List ℕ) (at n : ℕ) → Inv (dequeued s e) hs → Rising (dequeued s e) (lowestWalked (dequeued s e)) es
-        → AllRight hs (passed (dequeued s e) (afterLists s (e .anchor) ls) (length b - at) es) × Inv (commitAll (dequeued s e) (afterLists s (e .anchor) ls) b at n es .store) (hs ++ allIds (passed (dequeued s e) (afterLists s (e .anchor) ls) (length b - at) es)))
-        → AllRight hs (evs o) × Inv (fin o .store) (hs ++ allIds (evs o))
-    go (bad r) h i = (tt, subst (Inv s) (sym (append-nil hs)) v)
-    go (good x) h i = ((one-right s ls hs e es v r c o, all .0), subst (Inv (commitAll (dequeued s e) (afterLists s (e .anchor) ls) (written b at vs) (at + length vs) (suc n) es .store)) (append-assoc hs (inOrder s (e .anchor) ls) _) (all .1))
-      where
-        c : Tested s (e .anchor)
-        c = test-good s ls _ _ _ x h .0
-
-        o : listsOk (linkedCounts s (e .anchor)) ls ≡ true
-        o = test-good s ls _ _ _ x h .2
-
-        same : length (written b at vs) - (at + length vs) ≡ length b - at - length vs
-        same = sym (room-left (length b) at (length (written b at vs)) (length vs) (written-length b at vs))
-
-        all : AllRight (hs ++ inOrder s (e .anchor) ls) (passed (dequeued s e) (afterLists s (e .anchor) ls) (length b - at - length vs) es)
-            × Inv (commitAll (dequeued s e) (afterLists s (e .anchor) ls) (written b at vs) (at + length vs) (suc n) es .store) (hs ++ inOrder s (e .anchor) ls ++ allIds (passed (dequeued s e) (afterLists s (e .anchor) ls) (length b - at - length vs) es))
-        all = subst (λ k. AllRight (hs ++ inOrder s (e .anchor) ls) (passed (dequeued s e) (afterLists s (e .anchor) ls) k es) × Inv (commitAll (dequeued s e) (afterLists s (e .anchor) ls) (written b at vs) (at + length vs) (suc n) es .store) (hs ++ inOrder s (e .anchor) ls ++ allIds (passed (dequeued s e) (afterLists s (e .anchor) ls) k es))) same
-            (i (hs ++ inOrder s (e .anchor) ls) (written b at vs) (at + length vs) (suc n) (one-inv s ls hs e es v r c o) (rest-rising s e es r))
+-- the anchors of a chain are committed rightly
+pub commit-right : (s : Store) (ls b : List ℕ) (at n : ℕ) (es : List EnqueuedAnchor) → Rightly s es (commitAll s ls b at n es) (passed s ls (length b - at) es)
+commit-right = every-commit (λ s ls b at n es f evs. Rightly s es f evs) (λ s ls b at n hs v r. (tt, plain hs s v)) (λ s ls b at n e es o h hs v r. (tt, plain hs s v)) (λ s ls b at n e. rightly-more s ls _ _ e)
 
 -- ---- all calls
 
@@ -309,10 +293,6 @@ pub record Keeps (hs : List Id) (s : Store) (c : Call) : Type 0 where
   pub right : AllRight hs (eventsOf s c)
   pub inv : Inv (perform s c .store) (hs ++ allIds (eventsOf s c))
 
--- a call that finishes no anchor
-plain : (hs : List Id) (t : Store) → Inv t hs → Inv t (hs ++ [])
-plain hs t v = subst (Inv t) (sym (append-nil hs)) v
-
 commit-keeps : (s : Store) (i : Id) (ls b : List ℕ) (hs : List Id) → Inv s hs → AllRight hs (finishes s i ls b) × Inv (doCommit s i ls b .store) (hs ++ allIds (finishes s i ls b))
 unfolding finishes doCommit commitEnd
 commit-keeps s i ls b hs v = go (anchorsOf s i) refl
@@ -325,7 +305,7 @@ commit-keeps s i ls b hs v = go (anchorsOf s i) refl
 
     go : (o : Out (List EnqueuedAnchor)) → anchorsOf s i ≡ o → AllRight hs (evs o) × Inv (out o .store) (hs ++ allIds (evs o))
     go (bad r) e = (tt, plain hs s v)
-    go (good es) e = subst (λ k. AllRight hs (passed s ls k es) × Inv (commitAll s ls b 0 0 es .store) (hs ++ allIds (passed s ls k es))) (sub-zero (length b)) (commit-right s ls hs b 0 0 es v (anchors-rising s (v .wf) i es e))
+    go (good es) e = subst (λ k. AllRight hs (passed s ls k es) × Inv (commitAll s ls b 0 0 es .store) (hs ++ allIds (passed s ls k es))) (sub-zero (length b)) (commit-right s ls b 0 0 es hs v (anchors-rising s (v .wf) i es e))
 
 -- a start in the list is refused
 start-store : (s : Store) (b : StartArgs) (hs : List Id) → Inv s hs → Inv (doStart s b .store) hs

@@ -9,9 +9,9 @@ use lib.Dec.{eqb, leb, ltb}
 use lib.ListN.{length, getD, take, drop}
 use borrow.Author.Tests.{eqb-true, lt-ltb, le-ltb}
 use native.Mathlib.Omega.{arith}
-use Rattle.laws.specs.Test.{byTest, both, and-l, and-r, or-l, or-r, or-cases, same-test}
+use Rattle.laws.specs.Test.{byTest, both, and-no-r, and-l, and-r, or-l, or-r, or-cases, same-test}
 use Rattle.laws.specs.Scan.{lowest-finds, those, those-elim, those-same}
-use Rattle.laws.specs.Lists.{map-same, keep-same, mem-map, getD-in, joined, weigh}
+use Rattle.laws.specs.Lists.{map-same, keep-same, mem-map, getD-in, joined, weigh, weigh-by}
 use Rattle.laws.specs.Sort.{sort, sort-same}
 use Rattle.laws.specs.Bytes.{be, written}
 use Rattle.spec.specs.Ids.{Id, sameId, idBytes, prev}
@@ -24,8 +24,8 @@ use Rattle.spec.specs.Links.{linked, link-made, Linked, fits-elim, resol
 use Rattle.spec.specs.HeightEquations.{inside, height-is, Sized}
 use Rattle.spec.specs.Sweep.{needed-is}
 use Rattle.spec.specs.WellFormed.{Wf, Leads}
-use Rattle.spec.specs.Order.{need-named}
-use Rattle.spec.specs.OrderInRound.{each-below, lists-head, linked-elim, drawn-elim, weigh-by}
+use Rattle.spec.specs.Order.{need-named, history-needed}
+use Rattle.spec.specs.OrderInRound.{each-below, lists-head, linked-elim, drawn-elim}
 use Rattle.spec.specs.Preservation.{mark-kept, rising-mark}
 use Rattle.spec.specs.Walk.{refuse-back, Found, id-same, find-some, Valid, Visited, over, used-up, ends, goes, visit-good, visit-back, Anchored, Rising, Tested, tested-back, test-good}
 
@@ -102,14 +102,10 @@ late-trans s t u a b = record {
       trans = λ e. l .trans (ap (λ z. z .resolution .status) (k .is) ∙ e) ∙ (ap (λ z. z .flags .top) (k .is) ∙ k .trans e);
     }
 
-none-l : (b : Bool) → (b && false) ≡ false
-none-l true = refl
-none-l false = refl
-
 -- a top is certified: proved says top
 pub proved-top : (s : Store) → Sized s → (q : ℕ) → s .pt q .named ≡ true → proved s q ≡ s .pt q .flags .top
 unfolding proved certified
-proved-top s z q n = byTest (s .pt q .flags .top) (λ t. rw t (both (lt-ltb 0 (height s q) (heightsAre t)) refl)) (λ f. rw f (none-l (certified s q)))
+proved-top s z q n = byTest (s .pt q .flags .top) (λ t. rw t (both (lt-ltb 0 (height s q) (heightsAre t)) refl)) (λ f. rw f (and-no-r (certified s q) refl))
   where
     heightsAre : s .pt q .flags .top ≡ true → 0 < height s q
     heightsAre t = omega (arith, height-is s z q .bound q (both n t) here)
@@ -298,10 +294,6 @@ module _ (s t : Store) (ws : Wf s) (wt : Wf t) (la : Late s t) where
 pub fits-in : (s : Store) → Wf s → (a : ℕ) → s .pt a .named ≡ true → lowest s a ≤ suc (roundAt s a)
 unfolding limit
 fits-in s w a n = omega (arith, w .low, w .kept a n .0)
-
-history-needed : (s : Store) (a q : ℕ) → inHistory s a q ≡ true → needed s a q ≡ true
-unfolding inHistory
-history-needed s a q h = and-l _ _ h
 
 module _ (s t : Store) (ws : Wf s) (wt : Wf t) (la : Late s t) (e : EnqueuedAnchor) (x : Anchored s e) (c : Tested s (e .anchor)) where
   fit : lowest s (e .anchor) ≤ suc (roundAt s (e .anchor))

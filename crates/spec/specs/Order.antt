@@ -95,6 +95,11 @@ pub need-named : (s : Store) (a q : ℕ) → s .pt a .named ≡ true → Need s 
 need-named s a q h anchor = h
 need-named s a q h (hand p x n d e) = linked _ _ e .named-is
 
+-- a point of the history is needed
+pub history-needed : (s : Store) (a q : ℕ) → inHistory s a q ≡ true → needed s a q ≡ true
+unfolding inHistory
+history-needed s a q h = and-l _ _ h
+
 module _ (s : Store) (w : Wf s) (a : ℕ) (there : s .pt a .named ≡ true) where
   pub history-named : (q : ℕ) → inHistory s a q ≡ true → s .pt q .named ≡ true
   unfolding inHistory needed

@@ -1,6 +1,6 @@
 -- The place lists of an anchor, the order in which they make its history come out (02: N1), and sums over it (02: N2).
 use Prim.Native.Nat.{ℕ, zero, suc, _+_, _-_, _≤_, _<_}
-use mathlib.Core.Path.{_≡_, refl, sym, _∙_, ap, ap₂, subst}
+use mathlib.Core.Path.{_≡_, refl, sym, _∙_, ap, subst}
 use mathlib.Core.Logic.{⊎-elim, _↔_}
 use mathlib.Core.Bool.{Bool, true, not, _&&_, cond}
 use mathlib.Core.List.{List, [], _∷_, _++_, map, reverse, reverse-cons, append-assoc, append-nil, List·Memᴰ, List·Memᴰ·head, List·Memᴰ·tail, List·Memᴰ·not-nil, List·Memᴰ·cases-cons, List·Memᴰ·append-cases, List·Memᴰ·eq-of-singleton, Memᴰ·append-left, Memᴰ·append-right, Memᴰ·cast}
@@ -11,7 +11,7 @@ use borrow.Author.Tests.{eqb-true, eq-eqb, leb-true}
 use native.Mathlib.Omega.{arith}
 use Rattle.laws.specs.Test.{byTest, both, and-true, and-assoc, and-l, and-r, sameOr}
 use Rattle.laws.specs.Scan.{every-elim, every-intro, those, those-elim, those-intro, those-nodup, those-fewer}
-use Rattle.laws.specs.Lists.{joined, joined-in, weigh, weigh-same, keep, keep-in, keep-nodup, count, NoDup, nodup-append, Pairs, append-pairs, map-pairs, mem-map, map-mem, map-nodup, filled, length-same, reverse-in, reverse-nodup, getD-in, in-getD, getD-apart, count-in, count-once}
+use Rattle.laws.specs.Lists.{joined, joined-in, weigh, weigh-same, weigh-by, weigh-map, keep, keep-in, keep-nodup, count, NoDup, nodup-append, Pairs, append-pairs, map-pairs, mem-map, map-mem, map-nodup, filled, length-same, reverse-in, reverse-nodup, getD-in, in-getD, getD-apart, count-in, count-once}
 use Rattle.laws.specs.Sort.{sort-mem, sort-once, sort-length}
 use Rattle.laws.specs.Bytes.{Bytes}
 use Rattle.spec.specs.Ids.{Id}
@@ -333,18 +333,6 @@ linked-anchor s w a there l = length-same (linkedIn s a (roundAt s a)) (a ∷ []
 ))
 
 -- ---- sums over a list
-
--- elements that weigh the same
-pub weigh-by : {A : Type 0} (f g : A → ℕ) (l : List A) → ((x : A) → List·Memᴰ x l → f x ≡ g x) → weigh f l ≡ weigh g l
-unfolding weigh
-weigh-by f g [] h = refl
-weigh-by f g (x ∷ xs) h = ap₂ _+_ (h x (List·Memᴰ·head refl)) (weigh-by f g xs (λ y m. h y (List·Memᴰ·tail m)))
-
--- images weigh what their elements do
-pub weigh-map : {A B : Type 0} (f : B → ℕ) (g : A → B) (l : List A) → weigh f (map g l) ≡ weigh (λ x. f (g x)) l
-unfolding weigh
-weigh-map f g [] = refl
-weigh-map f g (x ∷ xs) = ap (λ n. f (g x) + n) (weigh-map f g xs)
 
 -- 02, N2: a sum "over its history" over the history's places, whatever their order
 pub summed-over : (s : Store) (a : ℕ) (f : Resolution → ℕ) (l : List ℕ) → NoDup l → ((q : ℕ) → List·Memᴰ q l ↔ ((q < s .places) × (inHistory s a q ≡ true))) → weigh (λ q. f (s .pt q .resolution)) l ≡ summed f s a

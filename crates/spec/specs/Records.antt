@@ -1,7 +1,7 @@
 -- The records that a commit writes, and the histories read back from its buffer.
 use Prim.Native.Nat.{ℕ, suc, _+_, _-_, _*_, _^_, _≤_, _<_}
 use mathlib.Core.Path.{_≡_, refl, sym, _∙_, subst, ap, ap₂}
-use mathlib.Core.Option.{some}
+use mathlib.Core.Option.{none, some}
 use mathlib.Core.Bool.{true, cond}
 use mathlib.Core.List.{List, [], _∷_, _++_, map, append-assoc, append-nil, List·Memᴰ, List·Memᴰ·head, List·Memᴰ·tail}
 use lib.ListN.{length, take, drop, length-append, take-append-drop}
@@ -12,7 +12,7 @@ use Rattle.laws.specs.Lists.{joined}
 use Rattle.laws.specs.Bytes.{be, be-length, value, value-be-fits, written, written-length, written-is}
 use Rattle.spec.specs.Ids.{Id, idBytes}
 use Rattle.spec.specs.Store.{Store, idAt}
-use Rattle.spec.specs.Chain.{Out, bad, good, EnqueuedAnchor}
+use Rattle.spec.specs.Chain.{Refusal, Out, bad, good, EnqueuedAnchor}
 use Rattle.spec.specs.History.{history, linkedCounts, listsOk, isExecutable, prevAnchor, inOrder, afterLists, summed, tailBytes, recordBytes, testAnchor, dequeued, Finished, commitAll}
 use Rattle.spec.specs.Demand.{readId, readIds, History, tailSize, readRecords}
 use Rattle.spec.specs.WellFormed.{Wf}
@@ -199,63 +199,78 @@ pub room-left : (b at n size : ℕ) → n ≡ b → b - at - size ≡ n - (at + 
 room-left b at n size e = omega arith
 
 -- what a commit ends with, and what passes, by the tests of its first anchor
-abbrev pub finishedBy : Store → List ℕ → List ℕ → ℕ → ℕ → EnqueuedAnchor → List EnqueuedAnchor → Out ℕ → Finished
+abbrev finishedBy : Store → List ℕ → List ℕ → ℕ → ℕ → EnqueuedAnchor → List EnqueuedAnchor → Out ℕ → Finished
 finishedBy s ls b at n e es o = elim o [
   | bad r ↦ record { store = s; buffer = b; anchors = n; stopped = some r }
   | good a ↦ commitAll (dequeued s e) (afterLists s (e .anchor) ls) (written b at (recordBytes s ls e)) (at + length (recordBytes s ls e)) (suc n) es
 ]
 
-abbrev pub passedBy : Store → List ℕ → ℕ → EnqueuedAnchor → List EnqueuedAnchor → Out ℕ → List Event
+abbrev passedBy : Store → List ℕ → ℕ → EnqueuedAnchor → List EnqueuedAnchor → Out ℕ → List Event
 passedBy s ls left e es o = elim o [ bad r ↦ [] | good a ↦ record { from = s; list = ls; enq = e } ∷ passed (dequeued s e) (afterLists s (e .anchor) ls) (left - length (recordBytes s ls e)) es ]
 
+-- what holds of a commit of no anchors, of one that its first anchor's tests stop, and of one more anchor before a commit that it holds of,
+-- holds of every commit
+module _ (P : Store → List ℕ → List ℕ → ℕ → ℕ → List EnqueuedAnchor → Finished → List Event → Type 0)
+    (none-left : (s : Store) (ls b : List ℕ) (at n : ℕ) → P s ls b at n [] (record { store = s; buffer = b; anchors = n; stopped = none }) [])
+    (stops : (s : Store) (ls b : List ℕ) (at n : ℕ) (e : EnqueuedAnchor) (es : List EnqueuedAnchor) (r : Refusal) → testAnchor s ls (length b - at) (length (recordBytes s ls e)) (e .anchor) ≡ bad r
+    → P s ls b at n (e ∷ es) (record { store = s; buffer = b; anchors = n; stopped = some r }) [])
+    (one-more : (s : Store) (ls b : List ℕ) (at n : ℕ) (e : EnqueuedAnchor) (es : List EnqueuedAnchor) (a : ℕ) (f : Finished) (evs : List Event) → testAnchor s ls (length b - at) (length (recordBytes s ls e)) (e .anchor) ≡ good a
+    → P (dequeued s e) (afterLists s (e .anchor) ls) (written b at (recordBytes s ls e)) (at + length (recordBytes s ls e)) (suc n) es f evs → P s ls b at n (e ∷ es) f (record { from = s; list = ls; enq = e } ∷ evs)) where
+  pub every-commit : (s : Store) (ls b : List ℕ) (at n : ℕ) (es : List EnqueuedAnchor) → P s ls b at n es (commitAll s ls b at n es) (passed s ls (length b - at) es)
+  unfolding commitAll passed
+  every-commit s ls b at n [] = none-left s ls b at n
+  every-commit s ls b at n (e ∷ es) = go (testAnchor s ls (length b - at) (length (recordBytes s ls e)) (e .anchor)) refl (λ b at n. every-commit (dequeued s e) (afterLists s (e .anchor) ls) b at n es)
+    where
+      vs : List ℕ
+      vs = recordBytes s ls e
+
+      left : List EnqueuedAnchor → ℕ → List Event
+      left = λ es k. passed (dequeued s e) (afterLists s (e .anchor) ls) k es
+
+      go : (o : Out ℕ) → testAnchor s ls (length b - at) (length vs) (e .anchor) ≡ o
+          → ((b : List ℕ) (at n : ℕ) → P (dequeued s e) (afterLists s (e .anchor) ls) b at n es (commitAll (dequeued s e) (afterLists s (e .anchor) ls) b at n es) (left es (length b - at)))
+          → P s ls b at n (e ∷ es) (finishedBy s ls b at n e es o) (passedBy s ls (length b - at) e es o)
+      go (bad r) h i = stops s ls b at n e es r h
+      go (good a) h i = one-more s ls b at n e es a _ _ h (subst (λ k. P (dequeued s e) (afterLists s (e .anchor) ls) (written b at vs) (at + length vs) (suc n) es (commitAll (dequeued s e) (afterLists s (e .anchor) ls) (written b at vs) (at + length vs) (suc n) es) (left es k))
+          (sym (room-left (length b) at (length (written b at vs)) (length vs) (written-length b at vs))) (i (written b at vs) (at + length vs) (suc n)))
+
 -- the buffer after a commit: what stood before `at`, the records of the finished anchors, and a rest; and how many were finished
-pub commit-buffer : (s : Store) (ls b : List ℕ) (at n : ℕ) (es : List EnqueuedAnchor) → at ≤ length b
-    → (rest : List ℕ) × (commitAll s ls b at n es .buffer ≡ take at b ++ (joined bytesOf (passed s ls (length b - at) es) ++ rest)) × (commitAll s ls b at n es .anchors ≡ n + length (passed s ls (length b - at) es))
-unfolding commitAll passed joined
-commit-buffer s ls b at n [] l = (drop at b, sym (take-append-drop at b), sym (add-zero n))
-commit-buffer s ls b at n (e ∷ es) l = go (testAnchor s ls (length b - at) (length (recordBytes s ls e)) (e .anchor)) refl (λ b at n. commit-buffer (dequeued s e) (afterLists s (e .anchor) ls) b at n es)
+abbrev Buffered : List ℕ → ℕ → ℕ → Finished → List Event → Type 0
+Buffered b at n f evs = at ≤ length b → (rest : List ℕ) × (f .buffer ≡ take at b ++ (joined bytesOf evs ++ rest)) × (f .anchors ≡ n + length evs)
+
+buffered-more : (s : Store) (ls b : List ℕ) (at n : ℕ) (e : EnqueuedAnchor) (a : ℕ) (f : Finished) (evs : List Event) → testAnchor s ls (length b - at) (length (recordBytes s ls e)) (e .anchor) ≡ good a
+    → Buffered (written b at (recordBytes s ls e)) (at + length (recordBytes s ls e)) (suc n) f evs → Buffered b at n f (record { from = s; list = ls; enq = e } ∷ evs)
+unfolding joined
+buffered-more s ls b at n e a f evs h i l = (rest, buf, count)
   where
     vs : List ℕ
     vs = recordBytes s ls e
 
-    fin : Out ℕ → Finished
-    fin = finishedBy s ls b at n e es
+    fit : at + length vs ≤ length b
+    fit = let (t, w, o, k) = test-good s ls _ _ _ a h in omega (arith, k)
 
-    evs : Out ℕ → List Event
-    evs = passedBy s ls (length b - at) e es
+    ih : (rest : List ℕ) × (f .buffer ≡ take (at + length vs) (written b at vs) ++ (joined bytesOf evs ++ rest)) × (f .anchors ≡ suc n + length evs)
+    ih = i (subst (λ k. at + length vs ≤ k) (sym (written-length b at vs)) fit)
 
-    go : (o : Out ℕ) → testAnchor s ls (length b - at) (length vs) (e .anchor) ≡ o
-        → ((b : List ℕ) (at n : ℕ) → at ≤ length b
-        → (rest : List ℕ) × (commitAll (dequeued s e) (afterLists s (e .anchor) ls) b at n es .buffer ≡ take at b ++ (joined bytesOf (passed (dequeued s e) (afterLists s (e .anchor) ls) (length b - at) es) ++ rest)) × (commitAll (dequeued s e) (afterLists s (e .anchor) ls) b at n es .anchors ≡ n + length (passed (dequeued s e) (afterLists s (e .anchor) ls) (length b - at) es)))
-        → (rest : List ℕ) × (fin o .buffer ≡ take at b ++ (joined bytesOf (evs o) ++ rest)) × (fin o .anchors ≡ n + length (evs o))
-    go (bad r) h i = (drop at b, sym (take-append-drop at b), sym (add-zero n))
-    go (good a) h i = (rest, buf, count)
+    rest : List ℕ
+    rest = ih .0
+
+    buf : f .buffer ≡ take at b ++ ((vs ++ joined bytesOf evs) ++ rest)
+    buf = ih .1 ∙ (ap (λ (l : List ℕ). l ++ (joined bytesOf evs ++ rest)) (take-more b at vs fit)
+        ∙ (append-assoc (take at b) vs (joined bytesOf evs ++ rest) ∙ ap (λ (l : List ℕ). take at b ++ l) (sym (append-assoc vs (joined bytesOf evs) rest))))
+
+    count : f .anchors ≡ n + suc (length evs)
+    count = ih .2 ∙ shift n (length evs)
       where
-        fit : at + length vs ≤ length b
-        fit = let (t, w, o, k) = test-good s ls _ _ _ a h in omega (arith, k)
+        shift : (n m : ℕ) → suc n + m ≡ n + suc m
+        shift n m = omega arith
 
-        same : length b - at - length vs ≡ length (written b at vs) - (at + length vs)
-        same = room-left (length b) at (length (written b at vs)) (length vs) (written-length b at vs)
-
-        ih : (rest : List ℕ) × (commitAll (dequeued s e) (afterLists s (e .anchor) ls) (written b at vs) (at + length vs) (suc n) es .buffer ≡ take (at + length vs) (written b at vs) ++ (joined bytesOf (passed (dequeued s e) (afterLists s (e .anchor) ls) (length (written b at vs) - (at + length vs)) es) ++ rest))
-            × (commitAll (dequeued s e) (afterLists s (e .anchor) ls) (written b at vs) (at + length vs) (suc n) es .anchors ≡ suc n + length (passed (dequeued s e) (afterLists s (e .anchor) ls) (length (written b at vs) - (at + length vs)) es))
-        ih = i (written b at vs) (at + length vs) (suc n) (subst (λ k. at + length vs ≤ k) (sym (written-length b at vs)) fit)
-
-        rest : List ℕ
-        rest = ih .0
-
-        tailEvents : List Event
-        tailEvents = passed (dequeued s e) (afterLists s (e .anchor) ls) (length b - at - length vs) es
-
-        buf : commitAll (dequeued s e) (afterLists s (e .anchor) ls) (written b at vs) (at + length vs) (suc n) es .buffer ≡ take at b ++ ((vs ++ joined bytesOf tailEvents) ++ rest)
-        buf = ih .1 ∙ (ap₂ _++_ (take-more b at vs fit) (ap (λ k. joined bytesOf (passed (dequeued s e) (afterLists s (e .anchor) ls) k es) ++ rest) (sym same))
-            ∙ (append-assoc (take at b) vs (joined bytesOf tailEvents ++ rest) ∙ ap (λ (l : List ℕ). take at b ++ l) (sym (append-assoc vs (joined bytesOf tailEvents) rest))))
-
-        count : commitAll (dequeued s e) (afterLists s (e .anchor) ls) (written b at vs) (at + length vs) (suc n) es .anchors ≡ n + suc (length tailEvents)
-        count = ih .2 ∙ (ap (λ k. suc n + length (passed (dequeued s e) (afterLists s (e .anchor) ls) k es)) (sym same) ∙ shift n (length tailEvents))
-          where
-            shift : (n m : ℕ) → suc n + m ≡ n + suc m
-            shift n m = omega arith
+pub commit-buffer : (s : Store) (ls b : List ℕ) (at n : ℕ) (es : List EnqueuedAnchor) → Buffered b at n (commitAll s ls b at n es) (passed s ls (length b - at) es)
+unfolding joined
+commit-buffer = every-commit (λ s ls b at n es f evs. Buffered b at n f evs) (λ s ls b at n l. nothing b at n) (λ s ls b at n e es r h l. nothing b at n) (λ s ls b at n e es a f evs. buffered-more s ls b at n e a f evs)
+  where
+    nothing : (b : List ℕ) (at n : ℕ) → (rest : List ℕ) × (b ≡ take at b ++ rest) × (n ≡ n + 0)
+    nothing b at n = (drop at b, sym (take-append-drop at b), sym (add-zero n))
 
 -- ---- read back
 

@@ -7,7 +7,7 @@ use native.Mathlib.Omega.{arith}
 use lib.Dec.{eqb, leb}
 use lib.ListN.{length, length-take, getD, take, drop}
 use borrow.Author.Tests.{eq-eqb, ne-eqb, le-leb, lt-leb, leb-true, eqb-true}
-use Rattle.laws.specs.Test.{byTest, clash, same-test, both, and-l, and-r, and-no, cond-yes, cond-no}
+use Rattle.laws.specs.Test.{byTest, clash, same-test, both, and-l, and-r, and-no, and-no-r, cond-yes, cond-no}
 use Rattle.trace.specs.Numbers.{numberAt}
 use Rattle.trace.specs.declared.head.Kind.{Kind}
 use Rattle.trace.specs.declared.head.Kind.the-variants.{Start, Round, Name, Resolve, Certify, Commit, Remove, Drop, Gap, Reset, Outlook, Broken}
@@ -89,11 +89,6 @@ leastLeft last = cond last 1 4100
 same-le : (a b c d : ℕ) → (a ≤ b → c ≤ d) → (c ≤ d → a ≤ b) → leb a b ≡ leb c d
 same-le a b c d f g = same-test (leb a b) (leb c d) (λ h. le-leb c d (f (leb-true a b h))) (λ h. le-leb a b (g (leb-true c d h)))
 
--- the right fails
-and-right : (a : Bool) {b : Bool} → b ≡ false → (a && b) ≡ false
-and-right true e = e
-and-right false e = refl
-
 -- no other number is a kind
 pub kind-none : (k : ℕ) → (k ≡ 1 → ⊥) → (k ≡ 2 → ⊥) → (k ≡ 3 → ⊥) → (k ≡ 4 → ⊥) → (k ≡ 5 → ⊥) → (k ≡ 6 → ⊥) → (k ≡ 7 → ⊥) → (k ≡ 8 → ⊥)
     → (k ≡ 9 → ⊥) → (k ≡ 10 → ⊥) → (k ≡ 11 → ⊥) → Broken ≡ kindOf k
@@ -127,11 +122,11 @@ module _ (bs : List ℕ) (p : ℕ) where
 
   pub whole-little : (r : ℕ) → r ≡ restAt bs p → r < 2 → false ≡ wholeAt bs p
   unfolding wholeAt
-  whole-little r e l = sym (and-right (leb (p + 4) (length bs)) (and-no _ (lt-leb 2 (restAt bs p) (rw e at l))))
+  whole-little r e l = sym (and-no-r (leb (p + 4) (length bs)) (and-no _ (lt-leb 2 (restAt bs p) (rw e at l))))
 
   pub whole-much : (r : ℕ) → r ≡ restAt bs p → 4096 < r → false ≡ wholeAt bs p
   unfolding wholeAt
-  whole-much r e l = sym (and-right (leb (p + 4) (length bs)) (and-right (leb 2 (restAt bs p)) (and-no _ (lt-leb (restAt bs p) 4096 (rw e at l)))))
+  whole-much r e l = sym (and-no-r (leb (p + 4) (length bs)) (and-no-r (leb 2 (restAt bs p)) (and-no _ (lt-leb (restAt bs p) 4096 (rw e at l)))))
 
   pub whole-end : (r : ℕ) → r ≡ restAt bs p → p + 4 ≤ length bs → 2 ≤ r → r ≤ 4096 → leb r (length bs - 4 - p) ≡ wholeAt bs p
   unfolding wholeAt
@@ -155,12 +150,12 @@ module _ (bs : List ℕ) (p : ℕ) where
 
     pub head-version : (v : ℕ) → v ≡ getD bs (p + 4) 0 → (v ≡ 1 → ⊥) → broken ≡ headAt bs p
     unfolding headAt headOk
-    head-version v e n = b ∙ sym (cond-no _ _ _ (and-right (wholeAt bs p) (and-no _ (ne-eqb _ 1 (rw e at n)))) refl)
+    head-version v e n = b ∙ sym (cond-no _ _ _ (and-no-r (wholeAt bs p) (and-no _ (ne-eqb _ 1 (rw e at n)))) refl)
 
     pub head-misfit : (k : Kind) (y r : ℕ) → y ≡ getD bs (p + 5) 0 → k ≡ kindOf y → r ≡ restAt bs p → fits k (part bs (p + 6) (p + 4 + r)) ≡ false → broken ≡ headAt bs p
     unfolding headAt headOk fieldsFit
     head-misfit k y r e q s h =
-        b ∙ sym (cond-no _ _ _ (and-right (wholeAt bs p) (and-right (eqb (getD bs (p + 4) 0) 1) (rw (q, e, s) at h))) refl)
+        b ∙ sym (cond-no _ _ _ (and-no-r (wholeAt bs p) (and-no-r (eqb (getD bs (p + 4) 0) 1) (rw (q, e, s) at h))) refl)
 
   pub head-good : (k : Kind) (v y r : ℕ) → v ≡ getD bs (p + 4) 0 → y ≡ getD bs (p + 5) 0 → k ≡ kindOf y → r ≡ restAt bs p
       → wholeAt bs p ≡ true → v ≡ 1 → fits k (part bs (p + 6) (p + 4 + r)) ≡ true → _≡_ {A = Record} (record { kind = k; from = p + 6; end = p + 4 + r }) (headAt bs p)

@@ -7,7 +7,7 @@ use Rattle.tables_test.specs.Model.{passed}
 use Rattle.back_drain.specs.Model.{below-le}
 use Rattle.commit_answer.specs.Answer.{tables}
 use Rattle.commit_rounds.specs.Drain.{given}
-use Rattle.commit_remove.specs.Remove.{bottom-retained, says-unstarted, says-beyond, says-short, says-done}
+use Rattle.commit_remove.specs.Remove.{bottom-low, says-unstarted, says-beyond, says-short, says-done}
 use borrow.Author.Needs.{needs}
 use Rattle.commit_remove.proofs.remove_committed.Statement.{statement}
 use Rattle.commit_remove.proofs.remove_committed.Tie as tie
@@ -32,7 +32,7 @@ answer-remove-requires c κs =
     let fk : Fit (a .keys .now) = λ p. c .before .before .before .before .before .before .before .before .before .before .before .before .before .before .before .before .before .before .slice-known .given p .fits in
     let fl : Fit (a .links .now) = λ p. c .before .before .before .before .before .before .before .before .before .before .before .before .before .before .before .before .before .slice-known2 .given p .fits in
     let g = given (a .s) (a .keys .now) (a .links .now) (a .certs .now) (a .order .now) fk fl _ (c .before .before .before .before .before .before .before .before .before .counts-as-started .ensures) (c .before .before .before .before .before .before .before .before .if1 .left) in
-    (passed (countsAsStarted (view (a .s) (a .keys .now) (a .links .now) (a .certs .now) (a .order .now))) _ (c .before .before .before .before .before .before .before .before .before .counts-as-started .ensures) (c .before .before .before .before .before .before .before .before .if1 .left), bottom-retained (a .s) (a .round .0) _ (g .bottom) (c .before .before .before .before .before .remove-bottom .ensures))
+    (passed (countsAsStarted (view (a .s) (a .keys .now) (a .links .now) (a .certs .now) (a .order .now))) _ (c .before .before .before .before .before .before .before .before .before .counts-as-started .ensures) (c .before .before .before .before .before .before .before .before .if1 .left), bottom-low (a .s) (a .round .0) _ (g .bottom) (c .before .before .before .before .before .remove-bottom .ensures))
 
 returns-3 : tie.Need-returns-3
 returns-3 c =
@@ -47,7 +47,7 @@ memory-after-requires c κs =
     let fk : Fit (a .keys .now) = λ p. c .before .before .before .before .before .before .before .before .before .before .before .before .before .before .before .before .before .before .before .before .before .before .before .before .before .before .slice-known .given p .fits in
     let fl : Fit (a .links .now) = λ p. c .before .before .before .before .before .before .before .before .before .before .before .before .before .before .before .before .before .before .before .before .before .before .before .before .before .slice-known2 .given p .fits in
     let g = given (a .s) (a .keys .now) (a .links .now) (a .certs .now) (a .order .now) fk fl _ (c .before .before .before .before .before .before .before .before .before .before .before .before .before .before .before .before .before .counts-as-started .ensures) (c .before .before .before .before .before .before .before .before .before .before .before .before .before .before .before .before .if1 .left) in
-    let (_, l) = bottom-retained (a .s) (a .round .0) _ (g .bottom) (c .before .before .before .before .before .before .before .before .before .before .before .before .before .remove-bottom .ensures) in
+    let l = bottom-low (a .s) (a .round .0) _ (g .bottom) (c .before .before .before .before .before .before .before .before .before .before .before .before .before .remove-bottom .ensures) in
     (passed (countsAsStarted (view (a .s) (a .keys .now) (a .links .now) (a .certs .now) (a .order .now))) _ (c .before .before .before .before .before .before .before .before .before .before .before .before .before .before .before .before .before .counts-as-started .ensures) (c .before .before .before .before .before .before .before .before .before .before .before .before .before .before .before .before .if1 .left), omega (arith, l, g .top))
 
 cut-requires : tie.Need-cut-requires

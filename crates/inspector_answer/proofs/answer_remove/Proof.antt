@@ -7,13 +7,13 @@ use Rattle.inspector_answer.proofs.answer_remove.Tie as tie
 inspect-rounds-requires : tie.Need-inspect-rounds-requires
 inspect-rounds-requires c κs =
     let p = c .before .before .before .before .before .before .before .before .pre in
-    (p .0, (c .before .before .first-shown .ensures, p .1 .0, p .1 .1, search needs))
+    (p .0, (c .before .before .first-shown .ensures, p .1, search needs))
 
 count-events-requires : tie.Need-count-events-requires
 count-events-requires c κs =
     let p = c .before .before .before .before .before .before .before .before .before .before .before .before .before .before .pre in
     let x = c .before .before .before .before .before .inspect-rounds .ensures .0 in
-    (p .0, ((c .before .before .before .before .before .before .before .before .first-shown .ensures, p .1 .1), (x .size, x .number)))
+    (p .0, ((c .before .before .before .before .before .before .before .before .first-shown .ensures, p .1), (x .size, x .number)))
 
 emit-head-requires : tie.Need-emit-head-requires
 emit-head-requires c κs = head-counts _ _ _
@@ -29,7 +29,7 @@ returns c = answer-short _ _ _ _ (c .before .before .before .before .before .bef
 emit-answer-requires : tie.Need-emit-answer-requires
 emit-answer-requires c κs =
     let p = c .before .before .before .before .before .before .before .before .before .before .before .before .before .before .before .before .before .before .before .before .before .before .before .before .before .pre in
-    (p .0, ((c .before .before .before .before .before .before .before .before .before .before .before .before .before .before .before .before .before .before .before .first-shown .ensures, p .1 .0, p .1 .1), (c .before .before .before .before .before .before .before .before .before .before .before .before .before .before .before .before .inspect-rounds .ensures .0 .signers, answer-room _ _ _ _ (c .before .before .before .before .before .before .before .before .before .before .before .before .before .before .before .before .inspect-rounds .ensures .0 .stats) _ (c .before .before .before .before .before .before .before .before .before .before .count-events .ensures .0) _ _ _ _ (c .before .before .before .before .before .before .before .before .before .before .before .before .before .before .before .before .inspect-rounds .ensures .1) (c .before .before .before .before .before .before .before .before .before .before .count-events .ensures .1) _ (c .before .before .before .before .before .before .emit-head .ensures) (c .before .before .if1 .left))))
+    (p .0, ((c .before .before .before .before .before .before .before .before .before .before .before .before .before .before .before .before .before .before .before .first-shown .ensures, p .1), (c .before .before .before .before .before .before .before .before .before .before .before .before .before .before .before .before .inspect-rounds .ensures .0 .signers, answer-room _ _ _ _ (c .before .before .before .before .before .before .before .before .before .before .before .before .before .before .before .before .inspect-rounds .ensures .0 .stats) _ (c .before .before .before .before .before .before .before .before .before .before .count-events .ensures .0) _ _ _ _ (c .before .before .before .before .before .before .before .before .before .before .before .before .before .before .before .before .inspect-rounds .ensures .1) (c .before .before .before .before .before .before .before .before .before .before .count-events .ensures .1) _ (c .before .before .before .before .before .before .emit-head .ensures) (c .before .before .if1 .left))))
 
 returns-2 : tie.Need-returns-2
 returns-2 c = answer-whole _ _ _ _ (c .before .before .before .before .before .before .before .before .before .before .before .before .before .before .before .before .before .before .before .inspect-rounds .ensures .0 .stats) _ (c .before .before .before .before .before .before .before .before .before .before .before .before .before .count-events .ensures .0) _ _ _ _ (c .before .before .before .before .before .before .before .before .before .before .before .before .before .before .before .before .before .before .before .inspect-rounds .ensures .1) (c .before .before .before .before .before .before .before .before .before .before .before .before .before .count-events .ensures .1) _ (c .before .before .before .before .before .before .before .before .before .emit-head .ensures) (c .before .before .before .before .before .if1 .left) _ (c .before .before .emit-answer .ensures)

@@ -4,7 +4,8 @@ use native.Mathlib.Omega.{arith}
 use Rattle.laws.specs.Lists.{upTo}
 use Rattle.spec.specs.Inspect.{eventBytes}
 use Rattle.inspector_events.specs.Told.{Told, told-length, upto-none, upto-more, upto-ready, upto-end}
-use Rattle.inspector_faults.specs.Faults.{roundFaults, span-range, round-ready, round-told}
+use Rattle.inspector_counters.specs.Count.{span-range}
+use Rattle.inspector_faults.specs.Faults.{roundFaults, round-ready, round-told}
 use borrow.Author.Needs.{needs}
 use Rattle.inspector_faults.proofs.emit_fault_rounds.Statement.{statement}
 use Rattle.inspector_faults.proofs.emit_fault_rounds.Tie as tie

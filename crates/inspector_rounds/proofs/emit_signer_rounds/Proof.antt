@@ -30,7 +30,7 @@ shared-slice-read-reported c =
     let fk : Fit (a .keys .now) = λ i. c .before .before .before .before .before .before .before .before .before .shared-slice-known .given i .fits in
     let fl : Fit (a .links .now) = λ i. c .before .before .before .before .before .before .before .before .shared-slice-known2 .given i .fits in
     let l = c .before .before .loop in
-    let t = below-top (a .first .0) (l .k) _ (a .low .0) (a .s .top .0) (c .before .before .before .minus .ensures) (c .before .loop-test .taken) (p .1 .0 .2) in
+    let t = below-top (a .first .0) (l .k) _ (a .low .0) (a .s .top .0) (c .before .before .before .minus .ensures) (c .before .loop-test .taken) (p .1 .0 .1) in
     let m = next-few (a .s) (a .keys .now) (a .links .now) (a .certs .now) (a .order .now) fk fl (p .0) (a .first .0) (l .k) (p .1 .0 .0) t in
     let r = p .1 .1 .0 .room in
     omega (arith, m, r)
@@ -42,7 +42,7 @@ plus-requires c κs =
     let fk : Fit (a .keys .now) = λ i. c .before .before .before .before .before .before .before .before .before .before .shared-slice-known .given i .fits in
     let fl : Fit (a .links .now) = λ i. c .before .before .before .before .before .before .before .before .before .shared-slice-known2 .given i .fits in
     let l = c .before .before .before .loop in
-    let t = below-top (a .first .0) (l .k) _ (a .low .0) (a .s .top .0) (c .before .before .before .before .minus .ensures) (c .before .before .loop-test .taken) (p .1 .0 .2) in
+    let t = below-top (a .first .0) (l .k) _ (a .low .0) (a .s .top .0) (c .before .before .before .before .minus .ensures) (c .before .before .loop-test .taken) (p .1 .0 .1) in
     let m = next-low (a .s) (a .keys .now) (a .links .now) (a .certs .now) (a .order .now) fk fl (p .0) (a .first .0) (l .k) (p .1 .0 .0) t in
     omega (arith, m)
 
@@ -54,7 +54,7 @@ emit-owed-requires c κs =
     let fl : Fit (a .links .now) = λ i. c .before .before .before .before .before .before .before .before .before .before .before .before .shared-slice-known2 .given i .fits in
     let l = c .before .before .before .before .before .before .loop in
     let x = c .before .before .plus .ensures in
-    let t = below-top (a .first .0) (l .k) _ (a .low .0) (a .s .top .0) (c .before .before .before .before .before .before .before .minus .ensures) (c .before .before .before .before .before .loop-test .taken) (p .1 .0 .2) in
+    let t = below-top (a .first .0) (l .k) _ (a .low .0) (a .s .top .0) (c .before .before .before .before .before .before .before .minus .ensures) (c .before .before .before .before .before .loop-test .taken) (p .1 .0 .1) in
     let m = next-low (a .s) (a .keys .now) (a .links .now) (a .certs .now) (a .order .now) fk fl (p .0) (a .first .0) (l .k) (p .1 .0 .0) t in
     (p .0, ((omega (arith, m, x), omega (arith, l .inv .2)), round-ready (view (a .s) (a .keys .now) (a .links .now) (a .certs .now) (a .order .now)) (a .write) (a .b .now) (a .e) (a .first .0) (p .1 .0 .0) (a .low .0) _ (c .before .before .before .before .before .before .before .minus .ensures) (l .k) _ _ (l .inv .1) _ x (c .before .before .before .before .before .loop-test .taken) (p .1 .1 .1)))
 

@@ -18,14 +18,14 @@ abbrev μ-loop : tie.MeasureT-loop
 μ-loop s keys links certs order first stats-since signers₀ b₀ n rows₀ sum₀ k₀ signers b rows sum k = n - k
 
 loop-holds : tie.Need-loop-holds Inv-loop μ-loop
-loop-holds c = (search needs, sum-none _ _ _ _ _ _ _ _ (c .new .ensures) refl refl refl, signers-none _ _ (c .before .before .before .before .before .before .before .before .pre .1 .3), refl, refl, refl)
+loop-holds c = (search needs, sum-none _ _ _ _ _ _ _ _ (c .new .ensures) refl refl refl, signers-none _ _ (c .before .before .before .before .before .before .before .before .pre .1 .2), refl, refl, refl)
 
 add-round-requires : tie.Need-add-round-requires Inv-loop μ-loop
 add-round-requires c κs =
     let a = c .before .before .before .before .before .before .before .before .before .before .before .before .args in
     let p = c .before .before .before .before .before .before .before .before .before .before .before .before .pre in
     let l = c .before .before .before .loop in
-    let t = below-top (a .first .0) (l .k) _ (a .low .0) (a .s .top .0) (c .before .before .before .before .before .minus .ensures) (c .before .before .loop-test .taken) (p .1 .2) in
+    let t = below-top (a .first .0) (l .k) _ (a .low .0) (a .s .top .0) (c .before .before .before .before .before .minus .ensures) (c .before .before .loop-test .taken) (p .1 .1) in
     (p .0, ((p .1 .0, t, omega (arith, l .inv .5)), l .inv .1))
 
 slice-write-signers : tie.Need-slice-write-signers Inv-loop μ-loop
@@ -35,7 +35,7 @@ slice-write-signers c =
     let fk : Fit (a .keys .now) = λ i. c .before .before .before .before .before .before .before .before .before .before .before .before .before .before .before .shared-slice-known .given i .fits in
     let fl : Fit (a .links .now) = λ i. c .before .before .before .before .before .before .before .before .before .before .before .before .before .before .shared-slice-known2 .given i .fits in
     let l = c .before .before .before .before .before .before .before .loop in
-    let t = below-top (a .first .0) (l .k) _ (a .low .0) (a .s .top .0) (c .before .before .before .before .before .before .before .before .before .minus .ensures) (c .before .before .before .before .before .before .loop-test .taken) (p .1 .2) in
+    let t = below-top (a .first .0) (l .k) _ (a .low .0) (a .s .top .0) (c .before .before .before .before .before .before .before .before .before .minus .ensures) (c .before .before .before .before .before .before .loop-test .taken) (p .1 .1) in
     let m = next-few (a .s) (a .keys .now) (a .links .now) (a .certs .now) (a .order .now) fk fl (p .0) (a .first .0) (l .k) (p .1 .0) t in
     let r = l .inv .2 .room in
     omega (arith, m, r)
@@ -48,7 +48,7 @@ loop-again c =
     let fl : Fit (a .links .now) = λ i. c .before .before .before .before .before .before .before .before .before .before .before .before .before .before .before .shared-slice-known2 .given i .fits in
     let l = c .before .before .before .before .before .before .before .before .loop in
     let x = c .before .before .before .before .add-round .ensures in
-    let t = below-top (a .first .0) (l .k) _ (a .low .0) (a .s .top .0) (c .before .before .before .before .before .before .before .before .before .before .minus .ensures) (c .before .before .before .before .before .before .before .loop-test .taken) (p .1 .2) in
+    let t = below-top (a .first .0) (l .k) _ (a .low .0) (a .s .top .0) (c .before .before .before .before .before .before .before .before .before .before .minus .ensures) (c .before .before .before .before .before .before .before .loop-test .taken) (p .1 .1) in
     let m = next-few (a .s) (a .keys .now) (a .links .now) (a .certs .now) (a .order .now) fk fl (p .0) (a .first .0) (l .k) (p .1 .0) t in
     (search needs, x .0 .sum, signers-more _ _ _ (l .inv .2) (omega (arith, m)) _ (x .0 .signers) _ refl, length-set (l .signers) (l .k) (c .before .before .before .before .add-round .result .signers) ∙ l .inv .3, x .1 ∙ l .inv .4, search needs)
 
