@@ -1,12 +1,12 @@
 -- One anchor's commit is that of document 01 (commit/mod.rs, 'Refusals' 13 to 15, 17, 18, 20 to 22) and of document 02 (N1, 24).
-use Prim.Native.Nat.{ℕ, zero, suc, _+_, _*_, _-_, _≤_}
+use Prim.Native.Nat.{ℕ, _+_, _*_, _-_, _≤_}
 use mathlib.Core.Path.{_≡_, refl, sym, ap, subst, _∙_}
 use mathlib.Core.List.{List}
 use mathlib.Core.Bool.{Bool, true, false, not}
 use native.Mathlib.Omega.{arith}
 use lib.Dec.{eqb, leb, ltb}
 use lib.ListN.{length, drop, length-map, length-drop}
-use borrow.Author.Tests.{ne-eqb, leb-true, ltb-true, le-leb, lt-ltb}
+use borrow.Author.Tests.{leb-true, ltb-true, le-leb, lt-ltb}
 use Rattle.laws.specs.Test.{byTest, same-test, both, and-l, and-r}
 use Rattle.laws.specs.Scan.{those, those-most}
 use Rattle.laws.specs.Bytes.{written, written-length}
@@ -24,7 +24,7 @@ use Rattle.models.specs.declared.refusal.Check.{Check}
 use Rattle.models.specs.declared.refusal.Check.the-variants.{Passed, Failed}
 use Rattle.models.specs.Tables.{roundAt, authorAt, placeAt, Inside, Used}
 use Rattle.dag_round_keys.specs.Sorted.{sorted-apart}
-use Rattle.commit_state.specs.View.{gapOf, progressOf}
+use Rattle.commit_state.specs.View.{gapOf, gap-waits, progressOf}
 use Rattle.commit_state.specs.declared.state.State.{State}
 use Rattle.tables_test.specs.Model.{shape-says, places-says}
 use Rattle.tables_test.specs.View.{view}
@@ -64,13 +64,6 @@ pub record Says (v : Store) (l b : List ℕ) (at : ℕ) (e : EnqueuedAnchor) (c 
   pub within : end ≤ length b
 
 -- ---- the tests
-
--- 20, as the tables say it
-waiting-is : (g : ℕ) → gapPending (gapOf g) ≡ eqb g 1
-unfolding gapPending gapOf
-waiting-is zero = refl
-waiting-is (suc zero) = refl
-waiting-is (suc (suc n)) = ap not (lt-ltb 0 (suc n) (omega arith)) ∙ sym (ne-eqb (suc (suc n)) 1 (λ e. omega arith))
 
 -- 20, 24 and 21 after its tests; the record's length is asked of right lists only
 number-is : (c : Check) (a gap n left size : ℕ) (w ok : Bool) → w ≡ eqb gap 1 → (ok ≡ true → size ≡ 99 + n * 37)
@@ -222,7 +215,7 @@ module _ (s : State) (ks ls cs os : List ℕ) (fk : Fit ks) (fl : Fit ls) (h : c
       outcome-is =
           let gap : Bool = gapPending (gapOf (s .«emit_first_after_gap»)) in
           let short : Bool = ltb (length b - at) (length (recordBytes v here e)) in
-          number-is (t .check) (e .anchor) (s .«emit_first_after_gap») (t .count) (length b - at) (length (recordBytes v here e)) gap (listedFor s ks os l from e t) (waiting-is (s .«emit_first_after_gap»)) (size-is here)
+          number-is (t .check) (e .anchor) (s .«emit_first_after_gap») (t .count) (length b - at) (length (recordBytes v here e)) gap (listedFor s ks os l from e t) (gap-waits (s .«emit_first_after_gap»)) (size-is here)
           ∙ (ap (λ (o : Out ℕ). then o (λ y. refuse gap 20 (refuse (not (listedFor s ks os l from e t)) 24 (refuse short 21 (good (e .anchor)))))) (tested-is s ks ls cs os fk fl held (e .anchor) anchor-used)
           ∙ ap (λ (w : Bool). then (tested v (e .anchor)) (λ y. refuse gap 20 (refuse (not w) 24 (refuse short 21 (good (e .anchor)))))) (right-is here))
 

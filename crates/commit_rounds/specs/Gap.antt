@@ -1,19 +1,17 @@
 -- The gap question (01: commit/mod.rs, `is_once_after_gap`).
-use Prim.Native.Nat.{ℕ, zero, suc}
+use Prim.Native.Nat.{ℕ}
 use mathlib.Core.Path.{_≡_, refl, sym, _∙_, ap}
 use mathlib.Core.List.{List, []}
 use mathlib.Core.Bool.{Bool, true, false}
 use mathlib.Core.Option.{some}
-use native.Mathlib.Omega.{arith}
 use lib.Dec.{eqb}
-use borrow.Author.Tests.{lt-ltb, eq-eqb, ne-eqb}
+use borrow.Author.Tests.{eq-eqb, ne-eqb}
 use Rattle.spec.specs.Store.{Store, withNumbers, withGap}
 use Rattle.spec.specs.Rules.{countsAsStarted}
-use Rattle.spec.specs.History.{gapPending}
 use Rattle.spec.specs.Calls as calls
 use Rattle.spec.specs.Calls.{perform, gapQuestion, flag, withoutBuffer, doGapQuestion, isStart, bufferOf}
 use Rattle.commit_state.specs.declared.state.State.{State}
-use Rattle.commit_state.specs.View.{gapOf, progressOf, confOf}
+use Rattle.commit_state.specs.View.{gapOf, gap-waits, progressOf, confOf}
 use Rattle.commit_state.specs.Back.{askedState}
 use Rattle.tables_test.specs.View.{view, regular}
 use Rattle.models.specs.declared.refusal.Check.the-variants.{Passed}
@@ -33,13 +31,6 @@ putLeft b d = record { answer = Flag b; tables = tables (putBy b (d .state)) (d 
 abbrev pub gapLeft : Tables → Left
 gapLeft d = unlessRefused (tested (countsAsStarted (viewOf d)) Passed) d (putLeft (eqb (d .state .«emit_first_after_gap») 1) d)
 
--- it is waited for at 1 alone
-waits : (g : ℕ) → gapPending (gapOf g) ≡ eqb g 1
-unfolding gapPending gapOf
-waits zero = refl
-waits (suc zero) = refl
-waits (suc (suc g)) = rw (lt-ltb 0 (suc g) (omega arith), ne-eqb (suc (suc g)) 1 (λ e. omega arith)) refl
-
 module _ (s : State) (ks ls cs os : List ℕ) where
   abbrev v : Store
   v = view s ks ls cs os
@@ -50,7 +41,7 @@ module _ (s : State) (ks ls cs os : List ℕ) where
 
   resolution-is : doGapQuestion v ≡ resolution (eqb (s .«emit_first_after_gap») 1)
   unfolding doGapQuestion resolution view progressOf
-  resolution-is = ap resolution (waits (s .«emit_first_after_gap»))
+  resolution-is = ap resolution (gap-waits (s .«emit_first_after_gap»))
 
   put-is : (b : Bool) → outcomeOf (putLeft b (tables s ks ls cs os)) ≡ resolution b
   unfolding outcomeOf answerOf putBy resolution view askedState progressOf gapOf withNumbers regular confOf

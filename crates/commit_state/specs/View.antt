@@ -1,14 +1,18 @@
 -- State and tables read as the store of document 01.
 use Prim.Native.Nat.{ℕ, zero, suc, _+_, _*_, _/_, _%_}
+use mathlib.Core.Path.{_≡_, refl, sym, _∙_, ap}
 use mathlib.Core.List.{List, [], _∷_, map}
-use mathlib.Core.Bool.{Bool, true, _&&_, cond}
+use mathlib.Core.Bool.{Bool, true, not, _&&_, cond}
 use mathlib.Core.Option.{Option, none, some}
 use lib.Dec.{eqb, leb, ltb}
 use lib.ListN.{getD, take}
+use native.Mathlib.Omega.{arith}
+use borrow.Author.Tests.{lt-ltb, ne-eqb}
 use Rattle.laws.specs.Peers.{member}
 use Rattle.spec.specs.Ids.{Ref}
 use Rattle.spec.specs.Store as store
 use Rattle.spec.specs.Store.{Resolution, Point, Phase, unresolved, noRound}
+use Rattle.spec.specs.History.{gapPending}
 use Rattle.models.specs.Digest.{digestAt}
 use Rattle.models.specs.Cert.{flagsOf, bitOf}
 use Rattle.models.specs.Tables.{roundAt, authorAt, digestOf, statusAt, marksAt, evidenceAt, payloadAt, targetAt}
@@ -75,6 +79,13 @@ memoryOf m = record { last = m .last .0; entries = map entryOf (take (m .count) 
 unfoldable pub gapOf : ℕ → Option Bool
 gapOf zero = none
 gapOf (suc n) = some (ltb 0 n)
+
+-- 20: the question is waited for at 1 alone
+pub gap-waits : (g : ℕ) → gapPending (gapOf g) ≡ eqb g 1
+unfolding gapPending gapOf
+gap-waits zero = refl
+gap-waits (suc zero) = refl
+gap-waits (suc (suc n)) = ap not (lt-ltb 0 (suc n) (omega arith)) ∙ sym (ne-eqb (suc (suc n)) 1 (λ e. omega arith))
 
 unfoldable pub phaseOf : ℕ → Phase
 phaseOf x = cond (eqb x 1) store.started (cond (eqb x 2) store.reset store.other)

@@ -9,7 +9,6 @@ use borrow.Author.Tests.{lt-ltb, le-ltb}
 use Rattle.laws.specs.Test.{leOr}
 use Rattle.models.specs.Tables.{statusAt, placeAt}
 use Rattle.models.specs.DagPoint.{caseOf}
-use Rattle.models.specs.declared.dag_point.DagPoint.{DagPoint}
 use Rattle.models.specs.declared.dag_point.Resolved as status
 use Rattle.models.specs.declared.dag_point.Resolved.the-variants as case
 use Rattle.dag_round_keys.specs.declared.look.Look.{Look}

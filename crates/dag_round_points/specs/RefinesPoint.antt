@@ -39,7 +39,7 @@ use Rattle.dag_round_points.specs.Tests.{at-code}
 use Rattle.dag_round_points.specs.Point.{positionFor, missing, pointCode, placeFor}
 
 -- three tests in another order
-turned : (a b c : Bool) → (a && (b && c)) ≡ ((a && c) && b)
+pub turned : (a b c : Bool) → (a && (b && c)) ≡ ((a && c) && b)
 turned true true true = refl
 turned true true false = refl
 turned true false true = refl

@@ -1,25 +1,17 @@
 -- The words of an id that a function is given are below 2 ^ 64.
 use Prim.Native.Nat.{ℕ, zero, suc, _^_, _<_}
-use mathlib.Core.List.{List, [], _∷_, map}
+use mathlib.Core.List.{List, map}
 use native.Mathlib.Omega.{arith}
 use mir.Syntax.{w64}
 use mir.Val.{Val}
 use denote.Plain.{UInt}
-use denote.Array.{each, Array}
-use denote.Shadow.{shadow}
+use denote.Array.{Array}
 use denote.Laws.{Is}
 use denote.Struct.Declared.{row}
 use Rattle.models.proofs.parts.PointId.{the-type}
 use Rattle.models.specs.declared.parts.PointId.{PointId}
-use Rattle.models.specs.Digest.{Fit}
+use Rattle.models.specs.Digest.{Fit, each-fit}
 use Rattle.dag_round_points.specs.Model.{idWords}
-
--- the elements of an array of u64 in a struct, from what owning it tells
-each-fit : (xs : List ℕ) (us : List Val) → shadow (each ℕ (UInt w64 .own) (map (λ v. v) xs) us) → Fit xs
-each-fit [] us e p = omega arith
-each-fit (x ∷ xs) [] e p = absurd e
-each-fit (x ∷ xs) (u ∷ us) e zero = e .0 .1
-each-fit (x ∷ xs) (u ∷ us) e (suc p) = each-fit xs us (e .1) p
 
 -- the array itself
 array-fit : (n : ℕ) (xs : List ℕ) (vs : List Val) → Is (Array (UInt w64) n) (map (λ v. v) xs) vs → Fit xs

@@ -184,8 +184,7 @@ fn find_id(keys: &[u64], order: &[u64], n: usize, id: PointId) -> Found
     }
 }
 
-// The place of the point that an id names, unless a call that names it is refused: the tests of the id, then whether it is named. Only the
-// tests take the state, so that no copy of it is handed on.
+// The place of the point that an id names, unless a call that names it is refused: the tests of the id, then whether it is named.
 pub fn find_named(s: State, keys: &[u64], order: &[u64], id: PointId) -> Found
     requires { ⌜ Ready s (now keys) (now order) ⌝ }
     ensures { λ r. ⌜ r ≡ found (pointCode s (now (keys .entry)) (now (order .entry)) id) (placeFor s (now (keys .entry)) (now (order .entry)) id) ⌝ }

@@ -27,6 +27,7 @@ use Rattle.commit_state.specs.declared.state.State.{State}
 use Rattle.tables_test.specs.View.{view, seen-used, seen-named}
 use Rattle.tables_test.specs.Whole.{places-is}
 use Rattle.tables_test.specs.Refines.{Started, counted}
+use Rattle.dag_round_points.specs.RefinesPoint.{turned}
 use Rattle.info_checks.specs.Form.{peerAt, formed-shaped, shaped-given}
 use Rattle.info_checks.specs.Dangling.{linkWords, foundAt, isDangling, anyDangling}
 
@@ -51,14 +52,6 @@ down x d r l =
     sameOr (x + d) r
     (λ e. eq-eqb (x + d) r e ∙ sym (eq-eqb x (r - d) (omega arith)))
     (λ n. ne-eqb (x + d) r n ∙ sym (ne-eqb x (r - d) (λ e. n (omega arith))))
-
--- the second of three tests made last
-turn : (a b c : Bool) → (a && (b && c)) ≡ ((a && c) && b)
-turn true true true = refl
-turn true true false = refl
-turn true false true = refl
-turn true false false = refl
-turn false b c = refl
 
 -- twice not
 not-not : (b : Bool) → not (not b) ≡ b
@@ -95,7 +88,7 @@ module _ (s : State) (ks ls cs os rs : List ℕ) (fk : Fit ks) (fl : Fit ls) (fr
         let q = placeAt os x in
         let w = linkWords rs j (r - d) in
         ap (λ (p : Point). p .named && fits r (p .id) (leads d (refAt rs j))) (seen-used ks ls cs os (s .count) q (x, k, refl))
-        ∙ (turn (eqb (getD ks (q * 8 + 0) 0 + d) r) (eqb (authorAt ks q) (peerAt rs j)) (eqb (digestAt ks (q * 8 + 2)) (digestAt rs (j * 5 + 1)))
+        ∙ (turned (eqb (getD ks (q * 8 + 0) 0 + d) r) (eqb (authorAt ks q) (peerAt rs j)) (eqb (digestAt ks (q * 8 + 2)) (digestAt rs (j * 5 + 1)))
         ∙ ap (λ z. z && eqb (authorAt ks q) (peerAt rs j))
         (ap₂ _&&_ (down (getD ks (q * 8 + 0) 0) d r l) (ap (eqb (digestAt ks (q * 8 + 2))) (sym (from-digest rs (j * 5 + 1) (r - d) (peerAt rs j))))
         ∙ sym (same-is ks w q 0 fk (from-fit rs (j * 5 + 1) (r - d) (peerAt rs j) fr (omega arith) (fr (j * 5 + 0))))))

@@ -6,7 +6,7 @@ use lib.Dec.{eqb, ltb}
 use lib.Bits.{bitOr, or-mod, or-zero-r, or-lt}
 use native.Mathlib.Omega.{arith}
 use native.Mathlib.Nat.{mod-eq-of-lt, div-div-eq-div-mul}
-use Rattle.laws.specs.Peers.{or-bit}
+use Rattle.laws.specs.Peers.{two-bits, or-bit}
 use Rattle.spec.specs.Store.{Flags, word, bit}
 
 -- the bit of weight w
@@ -72,13 +72,7 @@ unfolding heightOf
 word-of c l = flags-are c (c % 4096) l ∙ omega arith
 
 or-is : (x y : ℕ) → x < 2 → y < 2 → eqb (bitOr x y) 1 ≡ (eqb y 1 || eqb x 1)
-or-is zero zero l m = refl
-or-is zero (suc zero) l m = refl
-or-is (suc zero) zero l m = refl
-or-is (suc zero) (suc zero) l m = refl
-or-is (suc (suc x)) y l m = absurd (omega arith)
-or-is zero (suc (suc y)) l m = absurd (omega arith)
-or-is (suc zero) (suc (suc y)) l m = absurd (omega arith)
+or-is = two-bits (λ x y. eqb (bitOr x y) 1 ≡ (eqb y 1 || eqb x 1)) refl refl refl refl
 
 or-flag : (c m k : ℕ) → eqb (bitOr c m / 2 ^ k % 2) 1 ≡ (eqb (m / 2 ^ k % 2) 1 || eqb (c / 2 ^ k % 2) 1)
 or-flag c m k = ap (λ (x : ℕ). eqb x 1) (or-bit c m k) ∙ or-is (c / 2 ^ k % 2) (m / 2 ^ k % 2) (omega arith) (omega arith)

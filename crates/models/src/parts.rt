@@ -1,9 +1,8 @@
 // Origin: models/point/parts.rs (Round, Digest), models/point/info.rs (PointId).
 // Peers are numbers 0 to 31, sets of them 32 bits.
 ghost use Prim.Native.Nat.{_+_, _-_, _<_, max, min};
-ghost use Rattle.laws.specs.Peers.{member, withPeer};
+ghost use Rattle.laws.specs.Peers.{member};
 ghost use lib.Count.{ones};
-ghost use lib.Dec.{eqb};
 ghost use mathlib.Core.Path.{_≡_};
 
 // A round's number.
@@ -70,19 +69,6 @@ impl Round {
 
 impl OptionRound {
     pub const NONE: OptionRound = OptionRound(0);
-
-    pub fn some(round: Round) -> OptionRound
-        requires { ⌜ round .0 < 4294967295 ⌝ }
-        ensures { λ r. ⌜ r .0 ≡ round .0 + 1 ⌝ }
-    {
-        OptionRound(round.0 + 1)
-    }
-
-    pub fn is_none(self) -> bool
-        ensures { λ r. ⌜ r ≡ eqb (self .0) 0 ⌝ }
-    {
-        self.0 == 0
-    }
 }
 
 // Whether peer k is in the set.

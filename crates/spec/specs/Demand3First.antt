@@ -15,7 +15,7 @@ use Rattle.spec.specs.Store.{Resolution, Point, Progress, Memory, Store,
 use Rattle.spec.specs.Paths.{LinkedTo}
 use Rattle.spec.specs.Rules.{lastRound}
 use Rattle.spec.specs.Chain.{Out, bad, good, EnqueuedAnchor, orZero, lowestWalked, anchorsOf}
-use Rattle.spec.specs.History.{limit, needed, history, linkedCounts, listsOk, inOrder, testAnchor, dequeued, Finished, commitAll, outlookAll}
+use Rattle.spec.specs.History.{limit, history, linkedCounts, listsOk, inOrder, testAnchor, dequeued, Finished, commitAll, outlookAll}
 use Rattle.spec.specs.Calls.{anchors, refused, Outcome, finish, StartArgs, doStart, addRound, doRound, newPoint, nameAt, doName, withPathHeights, resolvedAs, resolveAt, doResolve, setTop, certifyAt, doCertify, commitEnd, doCommit, doOutlook, drained, newBottom, Call, start, resetAll, round, name, resolve, certify, gapQuestion, commit, outlook, remove, drop, perform}
 use Rattle.spec.specs.Links.{linked, resolved-named}
 use Rattle.spec.specs.HeightEquations.{inside}

@@ -10,7 +10,7 @@ use lib.ListN.{length}
 use borrow.Author.Tests.{eq-eqb, not-true}
 use Rattle.laws.specs.Test.{and-l, and-r}
 use Rattle.spec.specs.Ids.{Id}
-use Rattle.spec.specs.Store.{Store, Look, resolvedAt, namedAt, never, roundAt, statusAt, previous, find, lookAt, look, resolved}
+use Rattle.spec.specs.Store.{Store, Look, resolvedAt, namedAt, never, roundAt, statusAt, previous, find, look, resolved}
 use Rattle.spec.specs.Paths.{certified}
 use Rattle.spec.specs.Rules.{isPeer}
 use Rattle.spec.specs.Chain.{Refusal, number, conflict, Out, bad, good, then, refuse, usableInWalk, isCommittable, checkedAs, checkedBy, checked, readyValidPoint, EnqueuedAnchor, Onward, enqueue, toAnchor, toPrevious, atProof, atUsed, visit, walk, unlinked, lowestWalked, emptyWalk, checkOldest, chainFrom, chain, triggerConflict, filtered, placeOf, anchorsOf}
