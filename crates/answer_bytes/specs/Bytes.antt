@@ -5,8 +5,8 @@ use mathlib.Core.List.{List, [], _∷_, _++_, append-nil, append-assoc}
 use native.Mathlib.Omega.{arith}
 use native.Mathlib.Nat.{add-zero, add-suc, mul-assoc, pow-zero, pow-suc}
 use lib.ListN.{getD}
-use Rattle.laws.specs.Bytes.{be, number}
-use Rattle.spec.specs.Ids.{Id}
+use Rattle.laws.specs.Bytes.{be, number, written, be-length, andThen}
+use Rattle.spec.specs.Ids.{Id, idBytes}
 use Rattle.models.specs.Digest.{Fit, words, digestAt}
 use Rattle.models.specs.Tables.{roundAt, authorAt, digestOf}
 
@@ -58,3 +58,11 @@ digest-bytes t p f = rw (add-zero p, sym (twice p), sym (thrice p)) (sym (whole 
         be-join 24 8 _ z c
         ∙ (ap (λ (l : List ℕ). l ++ be 8 z) (be-join 16 8 _ y b ∙ ap (λ (l : List ℕ). l ++ be 8 y) (be-join 8 8 _ x a ∙ ap (λ (k : ℕ). be 8 k ++ be 8 x) (nothing w)))
         ∙ (append-assoc (be 8 w ++ be 8 x) (be 8 y) (be 8 z) ∙ append-assoc (be 8 w) (be 8 x) (be 8 y ++ be 8 z)))
+
+-- round, author and digest of a place, put one after the other, are the bytes of its id
+pub id-put : (ks : List ℕ) (q r a : ℕ) (b b₁ b₂ b₃ : List ℕ) (at e₁ e₂ : ℕ) → r ≡ roundAt ks q → a ≡ authorAt ks q → e₁ ≡ at + 4 → b₁ ≡ written b at (be 4 r) → e₂ ≡ e₁ + 1
+    → b₂ ≡ written b₁ e₁ (be 1 a) → b₃ ≡ written b₂ e₂ (be 32 (digestOf ks q)) → b₃ ≡ written b at (idBytes (placeId ks q))
+unfolding idBytes
+id-put ks q r a b b₁ b₂ b₃ at e₁ e₂ round author x p y n d =
+    andThen b b₁ b₃ at e₁ _ _ 4 (be-length 4 _) x (p ∙ ap (λ (v : ℕ). written b at (be 4 v)) round)
+    (andThen b₁ b₂ b₃ e₁ e₂ _ _ 1 (be-length 1 _) y (n ∙ ap (λ (v : ℕ). written b₁ e₁ (be 1 v)) author) d)

@@ -9,6 +9,12 @@ ghost use Rattle.spec.specs.Ids.{idBytes};
 ghost use Rattle.models.specs.Digest.{digestAt};
 ghost use Rattle.answer_bytes.specs.Bytes.{placeId};
 ghost use Rattle.answer_bytes.specs.Sent.{Room, Sent};
+use models::output::DIGEST_BYTES;
+use models::output::ID_BYTES;
+use models::place::author;
+use models::place::round_word;
+use models::tables::KEY_DIGEST;
+use models::tables::KEY_WORDS;
 
 // The lowest bytes of v, as many as the width.
 pub fn put_number(b: &mut [u8], at: usize, width: usize, v: u64) -> usize
@@ -45,11 +51,11 @@ pub fn put_id(b: &mut [u8], at: usize, keys: &[u64], q: usize) -> usize
     requires { ⌜ (at + 37 ≤ length (now b)) × (q * 8 + 8 ≤ length (now keys)) ⌝ }
     ensures { λ r. ⌜ (r ≡ at + 37) × (now (b .exit) ≡ written (now (b .entry)) at (idBytes (placeId (now (keys .entry)) q))) ⌝ }
 {
-    let round = keys[q * 8 + 0];
-    let author = keys[q * 8 + 1];
+    let round = round_word(keys, q);
+    let by = author(keys, q);
     let a1 = put_number(b, at, 4, round);
-    let a2 = put_number(b, a1, 1, author);
-    put_digest(b, a2, keys, q * 8 + 2)
+    let a2 = put_number(b, a1, 1, by);
+    put_digest(b, a2, keys, q * KEY_WORDS + KEY_DIGEST)
 }
 
 pub fn emit_number(b: &mut [u8], at: usize, write: bool, width: usize, v: u64) -> usize
@@ -69,7 +75,7 @@ pub fn emit_digest(b: &mut [u8], at: usize, write: bool, words: &[u64], p: usize
     if write {
         return put_digest(b, at, words, p);
     }
-    at + 32
+    at + DIGEST_BYTES
 }
 
 pub fn emit_id(b: &mut [u8], at: usize, write: bool, keys: &[u64], q: usize) -> usize
@@ -79,5 +85,5 @@ pub fn emit_id(b: &mut [u8], at: usize, write: bool, keys: &[u64], q: usize) -> 
     if write {
         return put_id(b, at, keys, q);
     }
-    at + 37
+    at + ID_BYTES
 }

@@ -26,7 +26,7 @@ use Rattle.dag_round_keys.specs.Look.{lookAs, lookPlace}
 use Rattle.dag_round_keys.specs.declared.look.Look.{Look}
 use Rattle.dag_round_keys.specs.declared.look.Look.the-variants.{Resolved, Named, Never}
 use Rattle.commit_state.specs.declared.state.State.{State}
-use Rattle.back_walk.specs.Words.{hasPrevious, previousId}
+use Rattle.models.specs.Ids.{hasPrevious, previousId}
 use Rattle.back_chain.specs.RefinesWalk.{walked}
 use Rattle.back_chain.specs.Chain.{noAnchors, chainOut, out-bad}
 use Rattle.back_chain.specs.declared.Chain.{Chain}

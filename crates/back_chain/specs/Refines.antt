@@ -40,7 +40,7 @@ use Rattle.dag_round_points.specs.declared.Found.{Found}
 use Rattle.dag_round_points.specs.declared.Found.the-variants.{At, Refused}
 use Rattle.dag_round_points.specs.Point.{pointCode, placeFor, point-used, point-round}
 use Rattle.dag_round_points.specs.RefinesPoint.{point-is}
-use Rattle.back_walk.specs.Words.{hasPrevious, previousId}
+use Rattle.models.specs.Ids.{hasPrevious, previousId}
 use Rattle.back_walk.specs.Refines.{walkable, round-at, resolved-at, status-at, status-most, certified-at, top-at, kept-at, given-at, previous-at, previous-id, previous-fit}
 use Rattle.back_chain.specs.Chain.{noAnchors, chainOut, chain-none, out-good, out-bad}
 use Rattle.back_chain.specs.RefinesWalk.{walked, walked-is}

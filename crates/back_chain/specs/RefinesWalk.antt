@@ -20,7 +20,7 @@ use Rattle.dag_round_points.specs.Model.{idWords}
 use Rattle.back_walk.specs.declared.EnqueuedAnchor.{EnqueuedAnchor}
 use Rattle.back_walk.specs.declared.Step.{Step}
 use Rattle.back_walk.specs.declared.Step.the-variants.{Pass, End, Bad, Anchor}
-use Rattle.back_walk.specs.Words.{topId}
+use Rattle.models.specs.Ids.{topId}
 use Rattle.back_walk.specs.Model.{stepAt}
 use Rattle.back_walk.specs.Refines.{enqueuedOf, Below, onward, top-fit, visit-is}
 use Rattle.back_chain.specs.Chain.{chainOf, chainOut, chain-none, out-good, out-bad}

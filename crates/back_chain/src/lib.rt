@@ -16,9 +16,6 @@ ghost use Rattle.back_chain.specs.RefinesWalk.{walked};
 ghost use Rattle.back_chain.specs.Model.{lowOf, triggerCode, validOf, walks, chainedFrom, isBelow};
 use back_walk::EnqueuedAnchor;
 use back_walk::Step;
-use back_walk::has_previous;
-use back_walk::previous;
-use back_walk::top_proof;
 use back_walk::visit;
 use commit_state::state::State;
 use dag_round_keys::look::Look;
@@ -29,6 +26,10 @@ use models::cert::Cert;
 use models::dag_point::DagPoint;
 use models::parts::PointId;
 use models::parts::Round;
+use models::place::has_previous;
+use models::place::marks_at;
+use models::place::previous;
+use models::place::top_proof;
 use models::refusal::BROKEN_CHAIN;
 use models::refusal::CHAIN_ENDS_EARLY;
 use models::refusal::Check;
@@ -36,12 +37,14 @@ use models::refusal::NOT_NAMED;
 use models::refusal::Refusal;
 use models::refusal::UNUSABLE;
 use models::refusal::not_valid;
+use models::tables::PEER_SLOTS;
+use models::tables::ROUNDS_MAX;
 
 // The anchors, newest first, unless the trigger or its walk is refused.
 pub struct Chain {
     pub check: Check,
     pub count: usize,
-    pub list: [EnqueuedAnchor; 512],
+    pub list: [EnqueuedAnchor; ROUNDS_MAX],
 }
 
 // No anchors.
@@ -56,7 +59,7 @@ fn no_anchors(check: Check) -> Chain
     Chain {
         check,
         count: 0,
-        list: [empty; 512],
+        list: [empty; ROUNDS_MAX],
     }
 }
 
@@ -214,7 +217,7 @@ fn has_walk(s: State, keys: &[u64], q: usize, round: Round, low: Round) -> bool
     if !is_valid(look) {
         return false;
     }
-    let marks = keys[q * 8 + 7];
+    let marks = marks_at(keys, q);
     if marks / 2 % 2 != 1 {
         return false;
     }
@@ -258,7 +261,7 @@ fn below_bottom(s: State, id: PointId) -> bool
 {
     let round = id.round;
     let bottom = s.bottom;
-    if 32 <= id.author {
+    if PEER_SLOTS <= id.author {
         return false;
     }
     round.0 < bottom.0

@@ -22,17 +22,17 @@ use Rattle.commit_state.specs.declared.state.State.{State}
 use Rattle.tables_test.specs.Model.{shape-says, places-says, range-says}
 use Rattle.tables_test.specs.Refines.{Started}
 use Rattle.dag_round_points.specs.Model.{Ready}
-use Rattle.back_drain.specs.Model.{below, below-le}
+use Rattle.dag_round_order.specs.Span.{below, below-le}
 use Rattle.back_history.specs.Model.{limitOf, missing, marks, Range}
 use Rattle.back_history.specs.RefinesNeeded.{lowestOf, low-high}
 use Rattle.back_history.specs.Picked.{uncommittedAt, uncertifiedAt}
-use Rattle.back_committable.specs.declared.anchor.Span.{Span}
+use Rattle.back_committable.specs.declared.anchor.HistorySpan.{HistorySpan}
 use Rattle.back_committable.specs.declared.anchor.Tested.{Tested}
 use Rattle.back_committable.specs.ModelPoints.{foundFault, Rounds}
 
 -- the limit and the positions of the history of an anchor of round r
-unfoldable pub spanOf : State → List ℕ → List ℕ → ℕ → Span
-spanOf s ks os r = record {
+unfoldable pub historySpan : State → List ℕ → List ℕ → ℕ → HistorySpan
+historySpan s ks os r = record {
   limit = record { 0 = limitOf (s .genesis .0) (s .«commit_history_rounds») r };
   lowest = record { 0 = lowestOf s r };
   low = below ks os (s .count) (lowestOf s r);
@@ -40,27 +40,27 @@ spanOf s ks os r = record {
 }
 
 -- 22; 13 to 15; 17; 18
-unfoldable pub codeOf : State → List ℕ → List ℕ → List ℕ → List Bool → Span → ℕ → Check
+unfoldable pub codeOf : State → List ℕ → List ℕ → List ℕ → List Bool → HistorySpan → ℕ → Check
 codeOf s ks cs os m x r =
     cond (leb r (s .genesis .0)) (failed 22) (orNext (foundFault ks cs os m (x .low) (x .high))
     (cond (missing (s .«full_history_bottom» .0) (x .limit .0) (s .bottom .0)) (failed 17) (cond (any (x .high - x .low) (uncertifiedAt cs os m (x .low))) (failed 18) Passed)))
 
 -- the tests of the anchor a, whose history has these positions
-unfoldable pub testedIn : State → List ℕ → List ℕ → List ℕ → List ℕ → ℕ → Span → Tested
+unfoldable pub testedIn : State → List ℕ → List ℕ → List ℕ → List ℕ → ℕ → HistorySpan → Tested
 testedIn s ks ls cs os a x =
     let m = marks (s .bottom .0) ks ls cs os (x .low) (x .high) a in
     record { check = codeOf s ks cs os m x (roundAt ks a); lowest = x .lowest; low = x .low; high = x .high; count = length (those (x .high - x .low) (uncommittedAt cs os m (x .low))); marks = m }
 
 -- the tests of the anchor a
 unfoldable pub testedOf : State → List ℕ → List ℕ → List ℕ → List ℕ → ℕ → Tested
-testedOf s ks ls cs os a = testedIn s ks ls cs os a (spanOf s ks os (roundAt ks a))
+testedOf s ks ls cs os a = testedIn s ks ls cs os a (historySpan s ks os (roundAt ks a))
 
 -- ---- the steps of the code
 
 -- the limit and the two positions
 pub span-by : (s : State) (ks os : List ℕ) (r : ℕ) (x y : Round) (low high : ℕ) → x .0 ≡ limitOf (s .genesis .0) (s .«commit_history_rounds») r → y .0 ≡ max (x .0) (s .bottom .0)
-    → low ≡ below ks os (s .count) (y .0) → high ≡ below ks os (s .count) (r + 1) → record { limit = x; lowest = y; low = low; high = high } ≡ spanOf s ks os r
-unfolding spanOf
+    → low ≡ below ks os (s .count) (y .0) → high ≡ below ks os (s .count) (r + 1) → record { limit = x; lowest = y; low = low; high = high } ≡ historySpan s ks os r
+unfolding historySpan
 span-by s ks os r x y low high a b c d = λ i. record {
   limit = record { 0 = a i };
   lowest = record { 0 = (b ∙ ap (λ (z : ℕ). max z (s .bottom .0)) a) i };
@@ -68,7 +68,7 @@ span-by s ks os r x y low high a b c d = λ i. record {
   high = d i;
 }
 
-module _ (s : State) (ks cs os : List ℕ) (m : List Bool) (x : Span) (r : ℕ) where
+module _ (s : State) (ks cs os : List ℕ) (m : List Bool) (x : HistorySpan) (r : ℕ) where
   -- at genesis
   pub code-genesis : r ≤ s .genesis .0 → failed 22 ≡ codeOf s ks cs os m x r
   unfolding codeOf
@@ -100,14 +100,14 @@ module _ (s : State) (ks cs os : List ℕ) (m : List Bool) (x : Span) (r : ℕ) 
         code-none t = rw (lt-leb r (s .genesis .0) l, sym e ∙ z, ← h, n, ← g, t) refl
 
 -- all of it
-pub tested-by : (s : State) (ks ls cs os : List ℕ) (a : ℕ) (r : ℕ) (x : Span) (m : List Bool) (c : ℕ) (f : Check) → r ≡ roundAt ks a → x ≡ spanOf s ks os r → m ≡ marks (s .bottom .0) ks ls cs os (x .low) (x .high) a
+pub tested-by : (s : State) (ks ls cs os : List ℕ) (a : ℕ) (r : ℕ) (x : HistorySpan) (m : List Bool) (c : ℕ) (f : Check) → r ≡ roundAt ks a → x ≡ historySpan s ks os r → m ≡ marks (s .bottom .0) ks ls cs os (x .low) (x .high) a
     → c ≡ length (those (x .high - x .low) (uncommittedAt cs os m (x .low))) → f ≡ codeOf s ks cs os m x r
     → record { check = f; lowest = x .lowest; low = x .low; high = x .high; count = c; marks = m } ≡ testedOf s ks ls cs os a
 unfolding testedOf testedIn
 tested-by s ks ls cs os a r x m c f o e d g h =
     (λ i. record { check = (h ∙ ap (codeOf s ks cs os m x) o) i; lowest = x .lowest; low = x .low; high = x .high; count = g i; marks = m })
     ∙ ((λ i. record { check = codeOf s ks cs os (d i) x (roundAt ks a); lowest = x .lowest; low = x .low; high = x .high; count = length (those (x .high - x .low) (uncommittedAt cs os (d i) (x .low))); marks = d i })
-    ∙ ap (testedIn s ks ls cs os a) (e ∙ ap (spanOf s ks os) o))
+    ∙ ap (testedIn s ks ls cs os a) (e ∙ ap (historySpan s ks os) o))
 
 -- ---- what started tables give the code
 
@@ -149,26 +149,26 @@ module _ (s : State) (ks ls cs os : List ℕ) (t : Started s ks ls cs os) where
     span-asked r o = (ready, (genesis-fits, subst (λ x. x ≤ 4_000_000_000) (sym o) (round-most a u)))
 
     -- the positions of its history are scanned
-    pub span-range : Fit ks → Fit ls → (r : ℕ) (x : Span) → r ≡ roundAt ks a → x ≡ spanOf s ks os r → Range cs os (x .low) (x .high)
-    unfolding spanOf
+    pub span-range : Fit ks → Fit ls → (r : ℕ) (x : HistorySpan) → r ≡ roundAt ks a → x ≡ historySpan s ks os r → Range cs os (x .low) (x .high)
+    unfolding historySpan
     span-range fk fl r x o e =
         let (f, g, h) = shape-says ks ls cs os (t .shaped) in
         let k : below ks os (s .count) (roundAt ks a + 1) ≤ s .count = below-le ks os (s .count) (roundAt ks a + 1) in
-        subst (λ (y : Span). Range cs os (y .low) (y .high)) (sym (e ∙ ap (spanOf s ks os) o))
+        subst (λ (y : HistorySpan). Range cs os (y .low) (y .high)) (sym (e ∙ ap (historySpan s ks os) o))
         (low-high s ks ls cs os fk fl t a u, omega (arith, k, t .count-ok), places-says _ (t .places-ok), h, λ i l. t .facts .inside i (omega (arith, k)))
 
     -- what the sweep asks for
-    pub span-ready : Fit ks → Fit ls → (r : ℕ) (x : Span) → r ≡ roundAt ks a → x ≡ spanOf s ks os r
+    pub span-ready : Fit ks → Fit ls → (r : ℕ) (x : HistorySpan) → r ≡ roundAt ks a → x ≡ historySpan s ks os r
         → Range cs os (x .low) (x .high) × ((length ks ≡ length os * 8) × (length ls ≡ length os * 328) × (a < length os))
     span-ready fk fl r x o e = let (f, g, h) = shape-says ks ls cs os (t .shaped) in (span-range fk fl r x o e, (f, g, anchor-there))
 
     -- their rounds are rounds of 01
-    span-rounds : (r : ℕ) (x : Span) → r ≡ roundAt ks a → x ≡ spanOf s ks os r → Rounds ks os (x .high)
-    unfolding spanOf
+    span-rounds : (r : ℕ) (x : HistorySpan) → r ≡ roundAt ks a → x ≡ historySpan s ks os r → Rounds ks os (x .high)
+    unfolding historySpan
     span-rounds r x o e =
         let k : below ks os (s .count) (roundAt ks a + 1) ≤ s .count = below-le ks os (s .count) (roundAt ks a + 1) in
-        subst (λ (y : Span). Rounds ks os (y .high)) (sym (e ∙ ap (spanOf s ks os) o)) (λ p l. round-most (placeAt os p) (p, omega (arith, k), refl))
+        subst (λ (y : HistorySpan). Rounds ks os (y .high)) (sym (e ∙ ap (historySpan s ks os) o)) (λ p l. round-most (placeAt os p) (p, omega (arith, k), refl))
 
     -- what the tests ask for
-    pub code-ready : Fit ks → Fit ls → (r : ℕ) (x : Span) → r ≡ roundAt ks a → x ≡ spanOf s ks os r → Range cs os (x .low) (x .high) × ((length ks ≡ length os * 8) × Rounds ks os (x .high))
+    pub code-ready : Fit ks → Fit ls → (r : ℕ) (x : HistorySpan) → r ≡ roundAt ks a → x ≡ historySpan s ks os r → Range cs os (x .low) (x .high) × ((length ks ≡ length os * 8) × Rounds ks os (x .high))
     code-ready fk fl r x o e = (span-range fk fl r x o e, (ready .0, span-rounds r x o e))

@@ -36,7 +36,7 @@ use Rattle.tables_test.specs.View.{view}
 use Rattle.tables_test.specs.Edges.{resolved-is}
 use Rattle.tables_test.specs.Whole.{places-is}
 use Rattle.tables_test.specs.Refines.{Started}
-use Rattle.back_drain.specs.Model.{below-le}
+use Rattle.dag_round_order.specs.Span.{below-le}
 use Rattle.back_history.specs.Marks.{On}
 use Rattle.back_history.specs.RefinesNeeded.{lowOf, highOf, marksOf, used-point, used-round, used-height, low-high, needed-elim, needed-intro}
 use Rattle.back_history.specs.Refines.{ids-rise}

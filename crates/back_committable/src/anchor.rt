@@ -12,9 +12,8 @@ ghost use Rattle.tables_test.specs.Refines.{Started};
 ghost use Rattle.dag_round_points.specs.Model.{Ready};
 ghost use Rattle.back_history.specs.Model.{Range};
 ghost use Rattle.back_committable.specs.ModelPoints.{Rounds};
-ghost use Rattle.back_committable.specs.Model.{spanOf, codeOf, testedOf};
+ghost use Rattle.back_committable.specs.Model.{historySpan, codeOf, testedOf};
 use crate::fault::history_fault;
-use crate::fault::round_at;
 use back_history::any_uncertified;
 use back_history::count_points;
 use back_history::gather_uncommitted;
@@ -22,14 +21,16 @@ use back_history::history_limit;
 use back_history::rounds_missing;
 use commit_state::state::State;
 use models::parts::Round;
+use models::place::round_at;
 use models::refusal::AT_GENESIS;
 use models::refusal::Check;
 use models::refusal::NOT_CERTIFIED;
 use models::refusal::ROUNDS_MISSING;
 use models::refusal::Refusal;
+use models::tables::PLACES_MAX;
 
 // The positions of a history, from `low` to `high`, its limit and its lowest round.
-pub struct Span {
+pub struct HistorySpan {
     pub limit: Round,
     pub lowest: Round,
     pub low: usize,
@@ -44,23 +45,23 @@ pub struct Tested {
     pub low: usize,
     pub high: usize,
     pub count: usize,
-    pub marks: [bool; 4096],
+    pub marks: [bool; PLACES_MAX],
 }
 
 // The positions of the history of an anchor of this round.
-fn span_of(s: State, keys: &[u64], order: &[u64], round: Round) -> Span
+fn span_of(s: State, keys: &[u64], order: &[u64], round: Round) -> HistorySpan
     requires { ⌜ Ready s (now keys) (now order) ⌝ }
     requires { ⌜ (s .genesis .0 ≤ 4000000000) × (round .0 ≤ 4000000000) ⌝ }
-    ensures { λ r. ⌜ r ≡ spanOf s (now (keys .entry)) (now (order .entry)) (round .0) ⌝ }
+    ensures { λ r. ⌜ r ≡ historySpan s (now (keys .entry)) (now (order .entry)) (round .0) ⌝ }
 {
     let genesis = s.genesis;
     let bottom = s.bottom;
     let limit = history_limit(genesis, s.commit_history_rounds, round);
     let lowest = limit.max(bottom);
     let n = s.count;
-    let low = back_drain::cut(keys, order, n, lowest);
-    let high = back_drain::cut(keys, order, n, round.plus(1));
-    Span {
+    let low = dag_round_order::span::cut(keys, order, n, lowest);
+    let high = dag_round_order::span::cut(keys, order, n, round.plus(1));
+    HistorySpan {
         limit: limit,
         lowest: lowest,
         low: low,
@@ -71,11 +72,11 @@ fn span_of(s: State, keys: &[u64], order: &[u64], round: Round) -> Span
 // What the anchor of this round is refused with.
 fn anchor_code(
     s: State,
-    marks: &[bool; 4096],
+    marks: &[bool; PLACES_MAX],
     keys: &[u64],
     certs: &[u64],
     order: &[u64],
-    span: Span,
+    span: HistorySpan,
     round: Round,
 ) -> Check
     requires { ⌜ Range (now certs) (now order) (span .low) (span .high) ⌝ }

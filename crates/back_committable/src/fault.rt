@@ -11,20 +11,14 @@ use dag_round_keys::look::Look;
 use dag_round_keys::look::look_place;
 use models::cert::Cert;
 use models::dag_point::DagPoint;
-use models::parts::Round;
+use models::place::round_at;
+use models::place::round_word;
 use models::refusal::Check;
 use models::refusal::NEVER_NAMED;
 use models::refusal::POINT_MISSING;
 use models::refusal::Refusal;
 use models::refusal::not_valid;
-
-// The round of place q.
-pub fn round_at(keys: &[u64], q: usize) -> Round
-    requires { ⌜ (q * 8 + 8 ≤ length (now keys)) × (roundAt (now keys) q ≤ 4000000000) ⌝ }
-    ensures { λ r. ⌜ r .0 ≡ roundAt (now (keys .entry)) q ⌝ }
-{
-    Round(keys[q * 8 + 0] as u32)
-}
+use models::tables::PLACES_MAX;
 
 // What the point at place q of a history is refused with: 14, 13 or 15 (`committable_point`). A place in use was named: no 25.
 pub fn committable_point(keys: &[u64], certs: &[u64], q: usize) -> Check
@@ -53,7 +47,7 @@ pub fn committable_point(keys: &[u64], certs: &[u64], q: usize) -> Check
 }
 
 // Whether place q is marked and its point isn't usable.
-fn is_faulty(marks: &[bool; 4096], keys: &[u64], certs: &[u64], q: usize) -> bool
+fn is_faulty(marks: &[bool; PLACES_MAX], keys: &[u64], certs: &[u64], q: usize) -> bool
     requires { ⌜ (q < 4096) × (q * 8 + 8 ≤ length (now keys)) × (roundAt (now keys) q ≤ 4000000000) × (q < length (now certs)) ⌝ }
     ensures { λ r. ⌜ r ≡ faulty (now (keys .entry)) (now (certs .entry)) (now (marks .entry)) q ⌝ }
 {
@@ -77,8 +71,8 @@ fn sooner(keys: &[u64], order: &[u64], none: usize, found: usize, p: usize) -> u
     }
     let i = dag_round_keys::place(order, none, found);
     let j = dag_round_keys::place(order, none, p);
-    let u = keys[i * 8 + 0];
-    let v = keys[j * 8 + 0];
+    let u = round_word(keys, i);
+    let v = round_word(keys, j);
     if u == v {
         return p;
     }
@@ -87,7 +81,7 @@ fn sooner(keys: &[u64], order: &[u64], none: usize, found: usize, p: usize) -> u
 
 // The position from `low` to `high` of the first point that isn't usable, or `high`.
 pub fn first_fault(
-    marks: &[bool; 4096],
+    marks: &[bool; PLACES_MAX],
     keys: &[u64],
     certs: &[u64],
     order: &[u64],
@@ -112,7 +106,7 @@ pub fn first_fault(
 
 // What the history is refused with for its points.
 pub fn history_fault(
-    marks: &[bool; 4096],
+    marks: &[bool; PLACES_MAX],
     keys: &[u64],
     certs: &[u64],
     order: &[u64],

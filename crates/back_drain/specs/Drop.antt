@@ -17,7 +17,8 @@ use Rattle.commit_state.specs.Back.{droppedState}
 use Rattle.commit_state.specs.declared.state.State.{State}
 use Rattle.tables_test.specs.View.{view}
 use Rattle.tables_test.specs.Refines.{counted}
-use Rattle.back_drain.specs.Model.{below, drainBottom}
+use Rattle.back_drain.specs.Model.{drainBottom}
+use Rattle.dag_round_order.specs.Span.{below}
 use Rattle.back_drain.specs.Refines.{drained-view}
 
 -- the store that is read after it, with the first k places of the order gone

@@ -1,60 +1,26 @@
 -- The places of rounds below a new bottom, and the order without them.
 use Prim.Native.Nat.{ℕ, _+_, _-_, _<_, _≤_, max, min}
 use mathlib.Core.Path.{_≡_, sym, ap, subst, _∙_}
-use mathlib.Core.List.{List, _∷_, []}
+use mathlib.Core.List.{List}
 use mathlib.Core.Bool.{_&&_}
 use mathlib.Core.Logic.{_↔_}
 use native.Mathlib.Omega.{arith}
 use lib.Dec.{leb}
 use lib.ListN.{length, take, drop, length-append, length-drop}
 use lib.Seq.{length-take-le}
-use borrow.Author.Tests.{leb-true, leb-false, le-leb}
+use borrow.Author.Tests.{leb-true, le-leb}
 use Rattle.laws.specs.Test.{both, and-l, and-r, same-test, leOr}
-use Rattle.laws.specs.Scan.{first, first-le, first-hit, first-miss}
 use Rattle.models.specs.Tables.{roundAt, placeAt, Used, isUsed, used-is}
-use Rattle.models.specs.Digest.{words}
-use Rattle.dag_round_keys.specs.Key.{key}
-use Rattle.dag_round_keys.specs.Sorted.{Sorted, placeOf, round-place, rounds-rise}
+use Rattle.dag_round_keys.specs.Sorted.{Sorted}
 use Rattle.dag_round_keys.specs.Zero.{emptied, emptied-off}
 use Rattle.dag_round_order.specs.Shift.{drained, drained-at}
+use Rattle.dag_round_order.specs.Span.{below, below-low, below-high}
 use Rattle.commit_state.specs.declared.state.State.{State}
 use Rattle.tables_test.specs.Same.{Same}
 
 -- the new bottom of a drain up to round r: not below the old one, and a round is left
 abbrev pub drainBottom : State → ℕ → ℕ
 drainBottom s r = max (s .bottom .0) (min r (s .top .0))
-
--- how many of the first n places are of rounds below b: the first that isn't, or n
-unfoldable pub below : List ℕ → List ℕ → ℕ → ℕ → ℕ
-below ks os n b = first (λ p. leb b (roundAt ks (placeAt os p))) n
-
--- the least key of round b, as an id of eight words
-abbrev pub leastId : ℕ → List ℕ
-leastId b = b ∷ 0 ∷ 0 ∷ 0 ∷ 0 ∷ 0 ∷ 0 ∷ 0 ∷ []
-
--- where it belongs, the places of lower rounds end
-pub cut-is : (ks os : List ℕ) (n b r : ℕ) → r ≡ placeOf ks os n (key (leastId b) 0) → r ≡ below ks os n b
-unfolding below key words
-cut-is ks os n b r e = e ∙ round-place ks os n b
-
--- it is at most n
-pub below-le : (ks os : List ℕ) (n b : ℕ) → below ks os n b ≤ n
-unfolding below
-below-le ks os n b = first-le _ n
-
--- the places before it are of rounds below b
-pub below-low : (ks os : List ℕ) (n b i : ℕ) → i < below ks os n b → roundAt ks (placeAt os i) < b
-unfolding below
-below-low ks os n b i l = leb-false _ _ (first-miss _ n i l)
-
--- those from it on are not
-pub below-high : (ks os : List ℕ) (n b i : ℕ) → Sorted ks os n → below ks os n b ≤ i → i < n → b ≤ roundAt ks (placeAt os i)
-unfolding below
-below-high ks os n b i s l m =
-    let k : ℕ = below ks os n b in
-    let j : k < n = omega arith in
-    let h : b ≤ roundAt ks (placeAt os k) = leb-true _ _ (first-hit (λ p. leb b (roundAt ks (placeAt os p))) n j) in
-    omega (arith, rounds-rise ks os n k i s l m)
 
 -- the order without its first k places is as long
 pub drained-length : (o : List ℕ) (n k : ℕ) → k ≤ n → n ≤ length o → length (drained o n k) ≡ length o

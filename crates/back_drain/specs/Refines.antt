@@ -19,7 +19,7 @@ use Rattle.dag_round_keys.specs.Zero.{emptied, emptied-length}
 use Rattle.dag_round_keys.specs.Key.{key-same}
 use Rattle.dag_round_keys.specs.Sorted.{Sorted}
 use Rattle.dag_round_order.specs.Shift.{drained, drained-sorted, drained-inside}
-use Rattle.tables_heights.specs.View.{Live}
+use Rattle.models.specs.Live.{Live}
 use Rattle.tables_links.specs.Named.{Links}
 use Rattle.commit_state.specs.Memory.{memoryHolds}
 use Rattle.commit_state.specs.View.{pointAt, window, confOf, progressOf, memoryOf}
@@ -30,7 +30,8 @@ use Rattle.tables_test.specs.View.{seenAt, seen-used, view, regular, wordsFit}
 use Rattle.tables_test.specs.Regular.{regular-intro, phase-same, places-same}
 use Rattle.tables_test.specs.Refines.{Started, counted}
 use Rattle.tables_test.specs.Same.{Same, same-target, same-names, same-cert, same-point, same-fit}
-use Rattle.back_drain.specs.Model.{below, below-le, drained-length, used-kept, is-used-kept, words-kept}
+use Rattle.back_drain.specs.Model.{drained-length, used-kept, is-used-kept, words-kept}
+use Rattle.dag_round_order.specs.Span.{below, below-le}
 
 -- either choice is f
 cond-same : {A : Type 0} (g : Bool) (f : A) → cond g f f ≡ f

@@ -15,7 +15,7 @@ use Rattle.commit_state.specs.Back.{removedState}
 use Rattle.commit_state.specs.declared.state.Memory.{Memory}
 use Rattle.commit_state.specs.declared.state.State.{State}
 use Rattle.tables_test.specs.View.{view}
-use Rattle.back_drain.specs.Model.{below}
+use Rattle.dag_round_order.specs.Span.{below}
 use Rattle.back_drain.specs.Refines.{drained-view}
 
 module _ (s : State) (ks ls cs os : List ℕ) (fk : Fit ks) (fl : Fit ls) (h : countsAsStarted (view s ks ls cs os) ≡ true) (b : ℕ) (low : s .bottom .0 ≤ b) (m : Memory) (holds : memoryHolds m ≡ true) where

@@ -4,22 +4,10 @@ ghost use mathlib.Core.Path.{_≡_};
 ghost use Prim.Native.Nat.{_*_, _≤_};
 ghost use lib.ListN.{length};
 ghost use Rattle.models.specs.Tables.{Inside};
-ghost use Rattle.dag_round_keys.specs.Sorted.{Sorted};
 ghost use Rattle.dag_round_order.specs.Shift.{drained};
 ghost use Rattle.dag_round_keys.specs.Zero.{emptied};
-ghost use Rattle.back_drain.specs.Model.{below};
-use models::parts::Round;
-
-// How many of the first n places are of rounds below `bottom`: they stand first in the order.
-pub fn cut(keys: &[u64], order: &[u64], n: usize, bottom: Round) -> usize
-    requires { ⌜ (length (now keys) ≡ length (now order) * 8) × (n ≤ length (now order)) × Inside (now order) n (length (now order)) ⌝ }
-    requires { ⌜ Sorted (now keys) (now order) n ⌝ }
-    ensures { λ r. ⌜ r ≡ below (now (keys .entry)) (now (order .entry)) n (bottom .0) ⌝ }
-{
-    let round = bottom.0 as u64;
-    let least = [round, 0, 0, 0, 0, 0, 0, 0];
-    dag_round_keys::seek(keys, order, n, &least)
-}
+use models::tables::KEY_WORDS;
+use models::tables::LINK_WORDS;
 
 // Zeroes the places in the first k cells of the order and takes them out.
 pub fn drain_upto(
@@ -37,8 +25,8 @@ pub fn drain_upto(
     ensures certs { λ _. ⌜ now (certs .exit) ≡ emptied (now (certs .entry)) 1 (now (order .entry)) k ⌝ }
     ensures order { λ _. ⌜ now (order .exit) ≡ drained (now (order .entry)) n k ⌝ }
 {
-    dag_round_keys::zero_places(keys, 8, order, k);
-    dag_round_keys::zero_places(links, 328, order, k);
+    dag_round_keys::zero_places(keys, KEY_WORDS, order, k);
+    dag_round_keys::zero_places(links, LINK_WORDS, order, k);
     dag_round_keys::zero_places(certs, 1, order, k);
     dag_round_order::drain(order, n, k);
 }

@@ -9,7 +9,7 @@ use lib.ListN.{length, getD, set, replicate, length-set, length-replicate, getD-
 use lib.Seq.{getD-set-same, getD-set-other}
 use Rattle.laws.specs.Test.{byTest, clash, sameOr, leOr}
 use Rattle.models.specs.Tables.{placeAt, targetAt}
-use Rattle.tables_heights.specs.View.{reach}
+use Rattle.models.specs.Live.{reach}
 use Rattle.back_history.specs.Down.{downFrom}
 use Rattle.back_history.specs.Model.{put, put-none, put-place, put-out, marked, marked-length, isUncommitted, handOn, swept, alone}
 

@@ -11,7 +11,7 @@ use borrow.Author.Tests.{eq-eqb, ne-eqb, le-leb, lt-leb}
 use Rattle.laws.specs.Test.{byTest}
 use Rattle.models.specs.Cert.{flagsOf}
 use Rattle.models.specs.Tables.{placeAt, targetAt, Inside}
-use Rattle.tables_heights.specs.View.{reach}
+use Rattle.models.specs.Live.{reach}
 use Rattle.back_history.specs.Down.{downFrom, down-next}
 
 -- 01, back.rs: "limit = the larger of genesis + 1 and anchor − H"
@@ -87,9 +87,9 @@ unfolding put
 put-out m t e l = rw (ne-eqb t 0 e, lt-leb t 4096 l) refl
 
 -- one link more
-pub marked-more : (ls : List ℕ) (m g r : List Bool) (q k : ℕ) → g ≡ marked ls m q k → r ≡ put g (targetAt ls q k) → r ≡ marked ls m q (k + 1)
+pub marked-more : (ls : List ℕ) (m g r : List Bool) (q k t : ℕ) → g ≡ marked ls m q k → t ≡ targetAt ls q k → r ≡ put g t → r ≡ marked ls m q (k + 1)
 unfolding marked
-marked-more ls m g r q k e f = rw (add-one k) (f ∙ rw e refl)
+marked-more ls m g r q k t e x f = rw (add-one k) (f ∙ rw (e, x) refl)
 
 -- all links
 pub marked-end : (ls : List ℕ) (m g : List Bool) (q k n : ℕ) → g ≡ marked ls m q k → k ≤ n → n ≤ k → g ≡ marked ls m q n

@@ -26,7 +26,7 @@ use Rattle.commit_state.specs.declared.state.State.{State}
 use Rattle.tables_test.specs.View.{view}
 use Rattle.tables_test.specs.Whole.{places-is, facts-wf}
 use Rattle.tables_test.specs.Refines.{Started}
-use Rattle.back_drain.specs.Model.{below-le}
+use Rattle.dag_round_order.specs.Span.{below-le}
 use Rattle.back_history.specs.Model.{limitOf, missing, isUncommitted}
 use Rattle.back_history.specs.RefinesNeeded.{lowOf, highOf, marksOf, used-point, used-named, used-round, used-done, used-height, needed-elim, needed-intro}
 use Rattle.back_history.specs.Picked.{uncommittedAt, isLow, uncertifiedAt}

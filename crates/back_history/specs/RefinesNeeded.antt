@@ -20,7 +20,7 @@ use Rattle.models.specs.Cert.{heightOf}
 use Rattle.models.specs.Digest.{Fit}
 use Rattle.models.specs.Tables.{roundAt, statusAt, placeAt, Used}
 use Rattle.dag_round_keys.specs.Sorted.{rounds-rise}
-use Rattle.tables_heights.specs.View.{reach}
+use Rattle.models.specs.Live.{reach}
 use Rattle.tables_heights.specs.Refines.{Leads}
 use Rattle.tables_links.specs.Named.{links-fall}
 use Rattle.commit_state.specs.View.{pointAt, confOf}
@@ -31,7 +31,7 @@ use Rattle.tables_test.specs.View.{view, seenAt}
 use Rattle.tables_test.specs.Whole as whole
 use Rattle.tables_test.specs.Heights as heightsAre
 use Rattle.tables_test.specs.Refines.{Started}
-use Rattle.back_drain.specs.Model.{below, below-le, below-low, below-high}
+use Rattle.dag_round_order.specs.Span.{below, below-le, below-low, below-high}
 use Rattle.back_history.specs.Down.{downFrom}
 use Rattle.back_history.specs.Model.{limitOf, isDone, isUncommitted, handOn, swept, swept-length, alone, marks}
 use Rattle.back_history.specs.Marks.{On, marked-keeps, marked-sets, marked-only, swept-keeps, alone-length, alone-on, alone-only}

@@ -9,6 +9,9 @@ ghost use Rattle.back_history.specs.Model.{limitOf, missing, put, marked
 ghost use Rattle.back_history.specs.Picked.{uncommittedAt, uncertifiedAt};
 use models::cert::Cert;
 use models::parts::Round;
+use models::place::target;
+use models::tables::PLACES_MAX;
+use models::tables::PLACES_MAX_WORD;
 
 // The lowest round of the history of an anchor: H rounds below it, above genesis.
 pub fn history_limit(genesis: Round, rounds: u32, anchor: Round) -> Round
@@ -31,31 +34,31 @@ pub fn rounds_missing(full: Round, limit: Round, bottom: Round) -> bool
 }
 
 // Marks the place of a target word: 0 for no link, else the place plus 1.
-fn mark_target(marks: &mut [bool; 4096], word: u64)
+fn mark_target(marks: &mut [bool; PLACES_MAX], word: u64)
     ensures { λ _. ⌜ now (marks .exit) ≡ put (now (marks .entry)) word ⌝ }
 {
     if word == 0 {
         return;
     }
-    if word <= 4096 {
+    if word <= PLACES_MAX_WORD {
         marks[(word - 1) as usize] = true;
     }
 }
 
 // Marks the places that the first m links of place q lead to.
-fn mark_links(marks: &mut [bool; 4096], links: &[u64], q: usize, m: usize)
+fn mark_links(marks: &mut [bool; PLACES_MAX], links: &[u64], q: usize, m: usize)
     requires { ⌜ (m ≤ 64) × (q * 328 + 328 ≤ length (now links)) ⌝ }
     ensures { λ _. ⌜ now (marks .exit) ≡ marked (now (links .entry)) (now (marks .entry)) q m ⌝ }
 {
     let mut k: usize = 0;
     while k < m {
-        mark_target(marks, links[q * 328 + 8 + k]);
+        mark_target(marks, target(links, q, k));
         k += 1;
     }
 }
 
 // Whether place q is marked and not committed.
-pub fn is_uncommitted(marks: &[bool; 4096], certs: &[u64], q: usize) -> bool
+pub fn is_uncommitted(marks: &[bool; PLACES_MAX], certs: &[u64], q: usize) -> bool
     requires { ⌜ (q < 4096) × (q < length (now certs)) ⌝ }
     ensures { λ r. ⌜ r ≡ isUncommitted (now (certs .entry)) (now (marks .entry)) q ⌝ }
 {
@@ -68,7 +71,7 @@ pub fn is_uncommitted(marks: &[bool; 4096], certs: &[u64], q: usize) -> bool
 
 // From position `high` down to `low`: a marked place that is not committed marks the places that its live links lead to.
 fn sweep(
-    marks: &mut [bool; 4096],
+    marks: &mut [bool; PLACES_MAX],
     keys: &[u64],
     links: &[u64],
     certs: &[u64],
@@ -86,7 +89,7 @@ fn sweep(
         p -= 1;
         let q = dag_round_keys::place(order, high, p);
         if is_uncommitted(marks, certs, q) {
-            mark_links(marks, links, q, tables_heights::live_links(keys, bottom, q));
+            mark_links(marks, links, q, models::place::live_links(keys, bottom, q));
         }
     }
 }
@@ -101,12 +104,12 @@ pub fn gather_uncommitted(
     low: usize,
     high: usize,
     anchor: usize,
-) -> [bool; 4096]
+) -> [bool; PLACES_MAX]
     requires { ⌜ Range (now certs) (now order) low high ⌝ }
     requires { ⌜ (length (now keys) ≡ length (now order) * 8) × (length (now links) ≡ length (now order) * 328) × (anchor < length (now order)) ⌝ }
     ensures { λ r. ⌜ r ≡ marks (bottom .0) (now (keys .entry)) (now (links .entry)) (now (certs .entry)) (now (order .entry)) low high anchor ⌝ }
 {
-    let mut marks = [false; 4096];
+    let mut marks = [false; PLACES_MAX];
     marks[anchor] = true;
     sweep(&mut marks, keys, links, certs, order, bottom, low, high);
     marks
@@ -114,7 +117,7 @@ pub fn gather_uncommitted(
 
 // Whether a point of the history has the height 0.
 pub fn any_uncertified(
-    marks: &[bool; 4096],
+    marks: &[bool; PLACES_MAX],
     certs: &[u64],
     order: &[u64],
     low: usize,
@@ -139,7 +142,7 @@ pub fn any_uncertified(
 
 // How many points the history has.
 pub fn count_points(
-    marks: &[bool; 4096],
+    marks: &[bool; PLACES_MAX],
     certs: &[u64],
     order: &[u64],
     low: usize,

@@ -8,15 +8,14 @@ use native.Mathlib.Numerals.{add-one}
 use native.Mathlib.Nat.{add-zero, add-suc}
 use lib.ListN.{length, take, drop}
 use lib.Seq.{drop-drop}
-use Rattle.laws.specs.Test.{both, and-no, and-yes, leOr}
+use Rattle.laws.specs.Test.{both, and-no, and-yes}
 use Rattle.laws.specs.Lists.{weigh, weigh-append}
 use Rattle.spec.specs.History.{downFrom, eachOnce, listsOk}
 use Rattle.spec.specs.OrderInRound.{lists-more, down-more}
 use Rattle.models.specs.Tables.{Inside}
 use Rattle.dag_round_keys.specs.Sorted.{Sorted}
-use Rattle.back_drain.specs.Model.{below, below-le, below-low, below-high}
-use Rattle.inspector_counters.specs.Count.{spanOf}
-use Rattle.inspector_counters.specs.declared.round.Span.{Span}
+use Rattle.dag_round_order.specs.Span.{below, below-le, spanOf, span-rises}
+use Rattle.dag_round_order.specs.declared.span.Span.{Span}
 use Rattle.back_order.specs.Linked.{Run, linkedBy}
 
 -- how many places of round r are marked, of the n used ones
@@ -37,16 +36,10 @@ pub record Fits (ks os : List ℕ) (n : ℕ) (m : List Bool) (r : ℕ) (l : List
 -- the positions of a round, as its scan wants them
 pub run-of : (ks os : List ℕ) (n r : ℕ) (x : Span) → n ≤ length os → length os ≤ 4096 → Inside os n (length os) → Sorted ks os n → x ≡ spanOf ks os n r → Run os (x .low) (x .high)
 unfolding spanOf
-run-of ks os n r x a b c s e = subst (λ (y : Span). Run os (y .low) (y .high)) (sym e) (rises, omega (arith, a, top), b, λ i l. c i (omega (arith, l, top)))
+run-of ks os n r x a b c s e = subst (λ (y : Span). Run os (y .low) (y .high)) (sym e) (span-rises ks os n r s, omega (arith, a, top), b, λ i l. c i (omega (arith, l, top)))
   where
     top : below ks os n (r + 1) ≤ n
     top = below-le ks os n (r + 1)
-
-    rises : below ks os n r ≤ below ks os n (r + 1)
-    rises =
-        leOr (below ks os n r) (below ks os n (r + 1)) (λ l. l)
-        (λ l. let k : below ks os n r ≤ n = below-le ks os n r in
-        absurd (omega (arith, below-low ks os n r (below ks os n (r + 1)) l, below-high ks os n (r + 1) (below ks os n (r + 1)) s (omega arith) (omega arith))))
 
 -- how many they are
 pub count-by : (ks os : List ℕ) (n : ℕ) (m : List Bool) (r c : ℕ) (x : Span) → x ≡ spanOf ks os n r → c ≡ length (linkedBy os m (x .low) (x .high - x .low)) → c ≡ countBy ks os n m r

@@ -10,7 +10,7 @@ use Rattle.laws.specs.Test.{byTest}
 use Rattle.laws.specs.Lists.{keep, weigh}
 use Rattle.spec.specs.History.{listsOk}
 use Rattle.spec.specs.OrderInRound.{lists-head}
-use Rattle.back_drain.specs.Model.{below}
+use Rattle.dag_round_order.specs.Span.{below}
 use Rattle.back_history.specs.Model.{isDone}
 use Rattle.back_order.specs.Linked.{linkedBy}
 use Rattle.back_order.specs.Counts.{countBy, countsBy}

@@ -21,10 +21,9 @@ use Rattle.commit_state.specs.declared.state.State.{State}
 use Rattle.tables_test.specs.View.{view}
 use Rattle.tables_test.specs.Whole.{places-is}
 use Rattle.tables_test.specs.Refines.{Started}
-use Rattle.back_drain.specs.Model.{below, below-le, below-low, below-high}
+use Rattle.dag_round_order.specs.Span.{below, below-le, below-low, below-high, span-round}
 use Rattle.back_history.specs.RefinesNeeded.{lowestOf, marksOf, used-named, used-round, used-done, lowest-is, low-is, high-is, needed-elim, needed-intro}
 use Rattle.back_history.specs.Refines.{ordered-one, picked-elim, picked-intro, picked-pairs, well, ids-rise}
-use Rattle.inspector_counters.specs.Places.{high-le, round-at, round-used}
 use Rattle.back_order.specs.Linked.{linkedBy}
 use Rattle.back_order.specs.Counts.{countBy, countsBy}
 use Rattle.back_order.specs.Drawn.{outBy, ranksBy, drawnBy}
@@ -80,7 +79,7 @@ module _ (s : State) (ks ls cs os : List ℕ) (fk : Fit ks) (fl : Fit ls) (t : S
 
     -- the round at one of its positions, in the store
     round-is : (i : ℕ) → low ≤ i → i < high → store.roundAt v (placeAt os i) ≡ r
-    round-is i l h = used-round s ks ls cs os fk fl t (placeAt os i) (round-used s ks ls cs os fk fl t r i h) ∙ round-at s ks ls cs os fk fl t r i l h
+    round-is i l h = used-round s ks ls cs os fk fl t (placeAt os i) (i, omega (arith, h, below-le ks os n (r + 1)), refl) ∙ span-round ks os n r i (t .facts .sorted) l h
 
     -- the marked places rise by digest
     linked-rises : Pairs upward (linkedBy os m low (high - low))
@@ -89,7 +88,7 @@ module _ (s : State) (ks ls cs os : List ℕ) (fk : Fit ks) (fl : Fit ls) (t : S
         picked-pairs upward os (λ q. getD m q false) low (high - low)
         (λ i j l k. ⊎-elim
         (λ h. absurd (omega (arith, h, round-is (low + i) (omega arith) (omega arith), round-is (low + j) (omega arith) (omega arith))))
-        (λ h. h .1) (ids-rise s ks ls cs os fk fl t (low + i) (low + j) (omega arith) (omega (arith, k, high-le s ks ls cs os fk fl t r))))
+        (λ h. h .1) (ids-rise s ks ls cs os fk fl t (low + i) (low + j) (omega arith) (omega (arith, k, below-le ks os n (r + 1)))))
 
     module _ (lo : lowestOf s (roundAt ks a) ≤ r) (hi : r ≤ roundAt ks a) where
       -- a marked place of the round is needed
@@ -98,8 +97,8 @@ module _ (s : State) (ks ls cs os : List ℕ) (fk : Fit ks) (fl : Fit ls) (t : S
       list-intro q k =
           let (j, l, e, o) = picked-elim os (λ q. getD m q false) low (high - low) q k in
           let h : low + j < high = omega arith in
-          let u : low + j < n = omega (arith, h, high-le s ks ls cs os fk fl t r) in
-          let is : roundAt ks (placeAt os (low + j)) ≡ r = round-at s ks ls cs os fk fl t r (low + j) (omega arith) h in
+          let u : low + j < n = omega (arith, h, below-le ks os n (r + 1)) in
+          let is : roundAt ks (placeAt os (low + j)) ≡ r = span-round ks os n r (low + j) (t .facts .sorted) (omega arith) h in
           subst (λ x. List·Memᴰ x (linkedIn v a r)) (sym e)
           (linked-intro v a r (placeAt os (low + j))
           (subst (λ x. placeAt os (low + j) < x) (sym (places-is s ks ls cs os fk fl (t .shaped))) (t .facts .inside (low + j) u))

@@ -18,7 +18,7 @@ use Rattle.models.specs.Tables.{roundAt, placeAt, Used}
 use Rattle.commit_state.specs.declared.state.State.{State}
 use Rattle.tables_test.specs.View.{view}
 use Rattle.tables_test.specs.Refines.{Started}
-use Rattle.back_drain.specs.Model.{below}
+use Rattle.dag_round_order.specs.Span.{below}
 use Rattle.back_history.specs.RefinesNeeded.{lowestOf, marksOf, used-named}
 use Rattle.back_history.specs.Refines.{well}
 use Rattle.back_order.specs.Linked.{linkedBy}

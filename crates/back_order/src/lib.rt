@@ -12,11 +12,15 @@ ghost use Rattle.dag_round_keys.specs.Sorted.{Sorted};
 ghost use Rattle.back_order.specs.Linked.{Run, linkedBy};
 ghost use Rattle.back_order.specs.Picks.{pickFrom};
 ghost use Rattle.back_order.specs.Counts.{countBy, countsBy};
-use inspector_counters::round::span_at;
+use dag_round_order::span::span_at;
 use models::parts::Round;
+use models::tables::PLACES_MAX;
+
+// The ranks that a byte can say.
+const RANKS_MAX: usize = 256;
 
 // How many places are marked, of the positions from `low` to `high`.
-pub fn count_linked(marks: &[bool; 4096], order: &[u64], low: usize, high: usize) -> usize
+pub fn count_linked(marks: &[bool; PLACES_MAX], order: &[u64], low: usize, high: usize) -> usize
     requires { ⌜ Run (now order) low high ⌝ }
     ensures { λ r. ⌜ r ≡ length (linkedBy (now (order .entry)) (now (marks .entry)) low (high - low)) ⌝ }
 {
@@ -34,7 +38,7 @@ pub fn count_linked(marks: &[bool; 4096], order: &[u64], low: usize, high: usize
 
 // The first marked position from `at` on, or `high`: positions of a round rise by digest, so it is "the needed point of least digest
 // not yet picked", those below `at` being picked.
-pub fn pick(marks: &[bool; 4096], order: &[u64], at: usize, high: usize) -> usize
+pub fn pick(marks: &[bool; PLACES_MAX], order: &[u64], at: usize, high: usize) -> usize
     requires { ⌜ Run (now order) at high ⌝ }
     ensures { λ r. ⌜ r ≡ pickFrom (now (order .entry)) (now (marks .entry)) at high ⌝ }
 {
@@ -50,7 +54,7 @@ pub fn pick(marks: &[bool; 4096], order: &[u64], at: usize, high: usize) -> usiz
 }
 
 // The place of rank v among the marked ones of a round: "without a buffer of points", by v + 1 picks.
-pub fn ranked(marks: &[bool; 4096], order: &[u64], low: usize, high: usize, v: usize) -> usize
+pub fn ranked(marks: &[bool; PLACES_MAX], order: &[u64], low: usize, high: usize, v: usize) -> usize
     requires { ⌜ Run (now order) low high ⌝ }
     requires { ⌜ v < length (linkedBy (now order) (now marks) low (high - low)) ⌝ }
     ensures { λ r. ⌜ r ≡ getD (linkedBy (now (order .entry)) (now (marks .entry)) low (high - low)) v 0 ⌝ }
@@ -81,7 +85,7 @@ pub fn each_once(lists: &[u8], from: usize, n: usize) -> bool
     if lists.len() - from < n {
         return false;
     }
-    let mut seen = [false; 256];
+    let mut seen = [false; RANKS_MAX];
     let mut k: usize = 0;
     while k < n {
         let v = byte_at(lists, from + k);
@@ -102,7 +106,7 @@ pub fn count_round(
     keys: &[u64],
     order: &[u64],
     n: usize,
-    marks: &[bool; 4096],
+    marks: &[bool; PLACES_MAX],
     round: Round,
 ) -> usize
     requires { ⌜ (length (now keys) ≡ length (now order) * 8) × (n ≤ length (now order)) × (length (now order) ≤ 4096) × Inside (now order) n (length (now order)) ⌝ }
@@ -124,7 +128,7 @@ pub fn lists_fit(
     keys: &[u64],
     order: &[u64],
     n: usize,
-    marks: &[bool; 4096],
+    marks: &[bool; PLACES_MAX],
     lists: &[u8],
     from: usize,
     round: Round,

@@ -7,7 +7,7 @@ use native.Mathlib.Omega.{arith}
 use lib.Dec.{eqb, leb, ltb}
 use lib.ListN.{length, getD}
 use borrow.Author.Tests.{eq-eqb, ne-eqb, le-leb, lt-leb, lt-ltb, le-ltb, not-true, not-false}
-use Rattle.models.specs.Tables.{authorAt, statusAt, marksAt, Used}
+use Rattle.models.specs.Tables.{authorAt, statusAt, marksAt, Used, proofRoundAt, proofAuthorAt}
 use Rattle.models.specs.DagPoint.{caseOf, valid-status}
 use Rattle.models.specs.Cert.{heightOf}
 use Rattle.models.specs.Refusal.{failed, conflicting, notValid}
@@ -19,7 +19,6 @@ use Rattle.models.specs.declared.refusal.Refusal.{Refusal}
 use Rattle.models.specs.declared.refusal.Refusal.the-variants.{Number}
 use Rattle.models.specs.declared.refusal.Check.{Check}
 use Rattle.models.specs.declared.refusal.Check.the-variants.{Passed, Failed}
-use Rattle.tables_links.specs.Words.{proofRoundAt, proofAuthorAt}
 use Rattle.commit_state.specs.View.{recordOf}
 use Rattle.commit_state.specs.declared.state.State.{State}
 use Rattle.dag_round_keys.specs.Look.{lookFor, look-told}
@@ -31,7 +30,7 @@ use Rattle.dag_round_points.specs.declared.Found.{Found}
 use Rattle.dag_round_points.specs.declared.Found.the-variants.{At, Refused}
 use Rattle.back_walk.specs.declared.Step.{Step}
 use Rattle.back_walk.specs.declared.Step.the-variants.{Pass, End, Bad, Anchor}
-use Rattle.back_walk.specs.Words.{idFrom, hasPrevious, previousId, topId, Placed, Topped}
+use Rattle.models.specs.Ids.{idFrom, hasPrevious, previousId, topId, Placed, Topped}
 
 -- what keys, certificate words and order must be for the walk to read them
 abbrev pub Walkable : State → List ℕ → List ℕ → List ℕ → Type 0

@@ -19,7 +19,7 @@ use Rattle.spec.specs.Chain as chain
 use Rattle.spec.specs.Chain.{number, Out, bad, good, then, Onward, checkedAs, checkedBy, usableInWalk, readyValidPoint, enqueue, toAnchor, toPrevious, atUsed}
 use Rattle.models.specs.Cert.{bitOf, flagsOf, heightOf}
 use Rattle.models.specs.Digest.{Fit, words, digestAt}
-use Rattle.models.specs.Tables.{roundAt, authorAt, statusAt, marksAt, Used, targetAt, used-is}
+use Rattle.models.specs.Tables.{roundAt, authorAt, statusAt, marksAt, Used, targetAt, used-is, proofRoundAt}
 use Rattle.models.specs.Parts.{idOf}
 use Rattle.models.specs.DagPoint.{caseOf, isValid, valid-is}
 use Rattle.models.specs.Refusal.{refusalOf, unlessFailed, checkedAs-not}
@@ -30,7 +30,6 @@ use Rattle.models.specs.declared.parts.PointId.{PointId}
 use Rattle.models.specs.declared.refusal.Refusal.the-variants.{Number}
 use Rattle.models.specs.declared.refusal.Check.{Check}
 use Rattle.models.specs.declared.refusal.Check.the-variants.{Passed, Failed}
-use Rattle.tables_links.specs.Words.{proofRoundAt}
 use Rattle.dag_round_keys.specs.Id as id
 use Rattle.dag_round_keys.specs.Look.{lookFor, look-told}
 use Rattle.dag_round_keys.specs.declared.look.Look.{Look}
@@ -54,7 +53,7 @@ use Rattle.dag_round_points.specs.declared.Found.{Found}
 use Rattle.dag_round_points.specs.declared.Found.the-variants.{At, Refused}
 use Rattle.back_walk.specs.declared.Step.{Step}
 use Rattle.back_walk.specs.declared.Step.the-variants.{Pass, End, Bad, Anchor}
-use Rattle.back_walk.specs.Words.{idFrom, hasPrevious, previousId, topId}
+use Rattle.models.specs.Ids.{idFrom, hasPrevious, previousId, topId}
 use Rattle.back_walk.specs.Model.{Walkable, Linked, judgeOf, neededAt, neededOf, needed, needed-at, proofOf, proofAt, anchorOf, anchorAt, usedAt, atProof, markedStep, stepAt}
 
 -- the place of a needed point, or what it is refused with

@@ -1,10 +1,8 @@
 // Origin: dag/commit/back.rs (anchor_chain, chained_proof, ready_valid_point), dag/commit/mod.rs (EnqueuedAnchor).
 // One round of the walk from a trigger down to its anchors.
 ghost use mathlib.Core.Path.{_≡_};
-ghost use Prim.Native.Nat.{_+_, _*_, _<_, _≤_};
-ghost use lib.ListN.{length};
+ghost use Prim.Native.Nat.{_+_, _*_, _<_};
 ghost use Rattle.models.specs.Tables.{Used};
-ghost use Rattle.back_walk.specs.Words.{idFrom, hasPrevious, previousId, topId, Placed, Topped};
 ghost use Rattle.back_walk.specs.Model.{judgeOf, needed, proofAt, anchorAt, usedAt, stepAt, Walkable, Linked};
 use commit_state::state::State;
 use dag_round_keys::look::Look;
@@ -12,15 +10,19 @@ use dag_round_keys::look::look_up;
 use dag_round_points::Found;
 use models::cert::Cert;
 use models::dag_point::DagPoint;
-use models::parts::Digest;
 use models::parts::PointId;
 use models::parts::Round;
+use models::place::has_previous;
+use models::place::marks_at;
+use models::place::previous;
+use models::place::top_proof;
 use models::refusal::BROKEN_CHAIN;
 use models::refusal::Check;
 use models::refusal::NEVER_NAMED;
 use models::refusal::POINT_MISSING;
 use models::refusal::Refusal;
 use models::refusal::not_valid;
+use models::tables::ROUND_SLOTS;
 
 // An anchor of the chain: its place, its proof's, and the round of the anchor's top proof (`EnqueuedAnchor`). A place is below 4,096, and
 // the chain is an array by value: so 16 bits.
@@ -36,51 +38,6 @@ pub enum Step {
     End,
     Bad(Refusal),
     Anchor(EnqueuedAnchor),
-}
-
-// The id with this round and author and the digest in the four words from `at` on.
-fn id_from(t: &[u64], at: usize, round: Round, author: u32) -> PointId
-    requires { ⌜ at + 4 ≤ length (now t) ⌝ }
-    ensures { λ r. ⌜ r ≡ idFrom (now (t .entry)) at (round .0) author ⌝ }
-{
-    let x = t[at + 0];
-    let y = t[at + 1];
-    let z = t[at + 2];
-    let w = t[at + 3];
-    PointId {
-        round,
-        author,
-        digest: Digest([x, y, z, w]),
-    }
-}
-
-// Whether the point at place q has a previous point: an include under its own author.
-pub fn has_previous(keys: &[u64], links: &[u64], q: usize) -> bool
-    requires { ⌜ Placed (now keys) (now links) q ⌝ }
-    ensures { λ r. ⌜ r ≡ hasPrevious (now (keys .entry)) (now (links .entry)) q ⌝ }
-{
-    let k = laws::slot(dag_round_keys::author(keys, q));
-    0 < tables_links::target(links, q, k)
-}
-
-// The id of that point, which is of this round.
-pub fn previous(keys: &[u64], links: &[u64], q: usize, round: Round) -> PointId
-    requires { ⌜ Placed (now keys) (now links) q ⌝ }
-    ensures { λ r. ⌜ r ≡ previousId (now (keys .entry)) (now (links .entry)) q (round .0) ⌝ }
-{
-    let author = dag_round_keys::author(keys, q);
-    let k = laws::slot(author);
-    id_from(links, q * 328 + 72 + k * 4, round, author as u32)
-}
-
-// The id of the top proof of the point at place q.
-pub fn top_proof(links: &[u64], q: usize) -> PointId
-    requires { ⌜ Topped (now links) q ⌝ }
-    ensures { λ r. ⌜ r ≡ topId (now (links .entry)) q ⌝ }
-{
-    let round = links[q * 328 + 1] as u32;
-    let author = links[q * 328 + 2] as u32;
-    id_from(links, q * 328 + 3, Round(round), author)
 }
 
 // What a resolved point of this round is refused with in the walk, which needs a valid one: 13 or 15.
@@ -133,7 +90,7 @@ fn chained_proof(
     match found {
         Found::Refused(r) => Found::Refused(r),
         Found::At(p) => {
-            if keys[p * 8 + 7] % 2 == 0 {
+            if marks_at(keys, p) % 2 == 0 {
                 return Found::Refused(Refusal::Number(BROKEN_CHAIN));
             }
             if !has_previous(keys, links, p) {
@@ -207,7 +164,7 @@ pub fn visit(
     if x.0 < round.0 {
         return Step::Bad(Refusal::Number(BROKEN_CHAIN));
     }
-    let record = s.rounds[(x.0 % 512) as usize];
+    let record = s.rounds[(x.0 % ROUND_SLOTS) as usize];
     let used = record.used_anchor_proof;
     if used != 0 {
         return at_used(used - 1, id.author);

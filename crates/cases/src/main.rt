@@ -13,12 +13,24 @@ use commit_state::state::Entry;
 use commit_state::state::Memory;
 use commit_state::state::RoundRecord;
 use commit_state::state::State;
+use models::cert::HEIGHTS;
 use models::info::PointInfo;
 use models::parts::Digest;
 use models::parts::OptionRound;
 use models::parts::PointId;
 use models::parts::Round;
 use models::refusal::Refusal;
+use models::tables::DIGEST_WORDS;
+use models::tables::KEY_WORDS;
+use models::tables::LINK_WORDS;
+use models::tables::REF_WORDS;
+use models::tables::ROUND_POINTS_MAX;
+use models::tables::ROUNDS_MAX;
+
+// Places of the tables of K9, and of those of K4 and K5.
+const K9_PLACES: usize = 4;
+
+const K4_PLACES: usize = 5;
 
 fn write(text: &[u8]) {
     let _all = io::write_all(1, text);
@@ -73,9 +85,9 @@ fn noise() -> State {
     };
     let entry = Entry {
         author: 9,
-        digest: Digest([9; 4]),
+        digest: Digest([9; DIGEST_WORDS]),
         has_previous: 1,
-        previous: Digest([9; 4]),
+        previous: Digest([9; DIGEST_WORDS]),
         unreferenced_by: 9,
     };
     State {
@@ -91,11 +103,11 @@ fn noise() -> State {
         full_history_bottom: Round(9),
         first_executable: Round(9),
         emit_first_after_gap: 9,
-        rounds: [empty; 512],
+        rounds: [empty; ROUNDS_MAX],
         memory: Memory {
             last: Round(9),
             count: 9,
-            entries: [entry; 128],
+            entries: [entry; ROUND_POINTS_MAX],
         },
     }
 }
@@ -121,10 +133,10 @@ fn with_rounds(
 
 // K9: bottom 20, top 30, drop to 40: bottom 30, no. The tables are full of noise before the start.
 fn k9() {
-    let mut keys = [9u64; 32];
-    let mut links = [9u64; 1312];
-    let mut certs = [9u64; 4];
-    let mut order = [9u64; 4];
+    let mut keys = [9u64; K9_PLACES * KEY_WORDS];
+    let mut links = [9u64; K9_PLACES * LINK_WORDS];
+    let mut certs = [9u64; K9_PLACES];
+    let mut order = [9u64; K9_PLACES];
     let with = StartArgs {
         genesis: Round(10),
         commit_history_rounds: 2,
@@ -175,7 +187,7 @@ fn with_point(
         cause: false,
         top_proof: id_of(0),
         evidence: 0,
-        includes: refs.len() / 5,
+        includes: refs.len() / REF_WORDS,
         witness: 0,
         payload_len: 0,
         payload_bytes: 0,
@@ -219,17 +231,17 @@ fn with_chain(
 // The height of each place, in their order.
 fn write_heights(certs: &[u64]) {
     for i in 0..certs.len() {
-        write_number(certs[i] % 4096);
+        write_number(certs[i] % HEIGHTS);
     }
 }
 
 // K4: H 3, top at 20: height 4; 3 at 19, 2 at 18, 1 at 17, 0 at 16. K5: tops 20 and 18 both reach 17: 3. Heights are written from the
 // point of round 16 up.
 fn k4_and_k5() {
-    let mut keys = [9u64; 40];
-    let mut links = [9u64; 1640];
-    let mut certs = [9u64; 5];
-    let mut order = [9u64; 5];
+    let mut keys = [9u64; K4_PLACES * KEY_WORDS];
+    let mut links = [9u64; K4_PLACES * LINK_WORDS];
+    let mut certs = [9u64; K4_PLACES];
+    let mut order = [9u64; K4_PLACES];
     let with = StartArgs {
         genesis: Round(10),
         commit_history_rounds: 3,
@@ -242,7 +254,7 @@ fn k4_and_k5() {
     let started = init(noise(), &mut keys, &mut links, &mut certs, &mut order, with);
     let first = started.answer;
     write_answer(first);
-    let none = [0u64; 5];
+    let none = [0u64; REF_WORDS];
     let s = with_rounds(started.state, &keys, &links, &certs, &order, 17, 21);
     let low = with_point(
         s,

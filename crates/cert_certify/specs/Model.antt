@@ -1,6 +1,7 @@
 -- What the code does (models/cert.rs).
 use Prim.Native.Nat.{ℕ, zero, suc, _+_, _-_, _≤_, _<_}
 use mathlib.Core.Path.{_≡_, refl, sym, _∙_, ap, subst}
+use mathlib.Core.Logic.{⊎-elim}
 use mathlib.Core.Bool.{cond}
 use mathlib.Core.List.{List}
 use native.Mathlib.Omega.{arith}
@@ -8,10 +9,11 @@ use native.Mathlib.Numerals.{add-one}
 use lib.Dec.{eqb, ltb}
 use lib.ListN.{getD, set, length, length-set, replicate}
 use borrow.Author.Tests.{eq-eqb, ne-eqb, lt-ltb, le-ltb}
-use Rattle.laws.specs.Test.{byTest, sameOr}
+use Rattle.laws.specs.Test.{byTest, sameOr, le-or-lt}
 use Rattle.models.specs.Cert.{heightOf, withHeight}
 use Rattle.models.specs.Tables.{targetAt, dist}
-use Rattle.tables_heights.specs.View.{reach, heightAt}
+use Rattle.tables_heights.specs.View.{heightAt}
+use Rattle.models.specs.Live.{reach}
 
 -- the certificate words, the queue and its end
 pub record Work : Type 0 where
@@ -99,17 +101,17 @@ module _ (w : Work) (a h d : ℕ) where
       (λ t. rw (f, t) (refl, refl)))
 
 -- link k of place p, where all links fit
-pub open-at : (ls : List ℕ) (w u : Work) (p m k h : ℕ) → Open ls w p m → u ≡ handed (targetAt ls p) (heightAt (w .certs) p) w k → h ≡ heightOf (getD (w .certs) p 0) → k < m
-    → Fits u (targetAt ls p k) h (dist k)
+pub open-at : (ls : List ℕ) (w u : Work) (p m k h t : ℕ) → Open ls w p m → u ≡ handed (targetAt ls p) (heightAt (w .certs) p) w k → h ≡ heightOf (getD (w .certs) p 0) → t ≡ targetAt ls p k → k < m
+    → Fits u t h (dist k)
 unfolding heightOf
-open-at ls w u p m k h o e f l = rw f (subst (λ v. Fits v (targetAt ls p k) (heightAt (w .certs) p) (dist k)) (sym e) (o k l))
+open-at ls w u p m k h t o e f x l = rw (f, x) (subst (λ v. Fits v (targetAt ls p k) (heightAt (w .certs) p) (dist k)) (sym e) (o k l))
 
 -- the links of a place
 module _ (a : ℕ → ℕ) (h : ℕ) (w : Work) where
   -- one link more
-  pub handed-more : (u v : Work) (k d g : ℕ) → u ≡ handed a h w k → d ≡ dist k → g ≡ h → v ≡ deeper u (a k) g d → v ≡ handed a h w (k + 1)
+  pub handed-more : (u v : Work) (k d g t : ℕ) → u ≡ handed a h w k → d ≡ dist k → g ≡ h → t ≡ a k → v ≡ deeper u t g d → v ≡ handed a h w (k + 1)
   unfolding handed
-  handed-more u v k d g p e f q = rw (add-one k) (q ∙ rw (p, e, f) refl)
+  handed-more u v k d g t p e f x q = rw (add-one k) (q ∙ rw (p, e, f, x) refl)
 
   -- all m links
   pub handed-end : (u : Work) (k m : ℕ) → u ≡ handed a h w k → k ≤ m → m ≤ k → u ≡ handed a h w m
@@ -175,3 +177,18 @@ module _ (b : ℕ) (ks ls : List ℕ) (w : Work) where
   pub settled-at : (u : Work) (f : ℕ) → u ≡ visited b ks ls w f → f ≤ 4096 → u .tail ≤ f → u .certs ≡ propagated b ks ls w
   unfolding propagated
   settled-at u f e l m = ap (λ v. v .certs) (e ∙ sym (visited-stays f 4096 (rw (← e) m) l))
+
+-- ---- where every link has what is handed on
+
+-- the links of a place change nothing
+pub handed-same : (a : ℕ → ℕ) (h : ℕ) (w : Work) (m : ℕ) → ((k : ℕ) → k < m → 0 < a k → h ≤ heightAt (w .certs) (a k - 1) + dist k) → (k : ℕ) → k ≤ m → handed a h w k ≡ w
+unfolding handed heightOf
+handed-same a h w m f zero l = refl
+handed-same a h w m f (suc k) l =
+    ap (λ (u : Work). deeper u (a k) h (dist k)) (handed-same a h w m f k (omega arith))
+    ∙ sym (⊎-elim (λ z. deeper-none w (a k) h (dist k) (omega arith)) (λ z. deeper-same w (a k) h (dist k) _ refl (λ e. omega arith) (f k (omega arith) z)) (le-or-lt (a k) 0))
+
+-- the first entry of a queue
+pub first-visited : (b : ℕ) (ks ls : List ℕ) (w : Work) → 0 < w .tail → visited b ks ls w 1 ≡ passed b ks ls w (getD (w .queue) 0 0)
+unfolding visited
+first-visited b ks ls w l = visited-next b ks ls w 0 l

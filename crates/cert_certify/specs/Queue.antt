@@ -1,6 +1,6 @@
 -- The places in the queue, and one place more.
-use Prim.Native.Nat.{ℕ, zero, suc, _+_, _*_, _/_, _≤_, _<_}
-use mathlib.Core.Path.{_≡_, refl, sym, _∙_}
+use Prim.Native.Nat.{ℕ, zero, suc, _+_, _-_, _*_, _/_, _≤_, _<_}
+use mathlib.Core.Path.{_≡_, refl, sym, _∙_, ap}
 use mathlib.Core.Logic.{_⊎_, inl, inr, _≢_}
 use mathlib.Core.List.{List}
 use mathlib.Core.Bool.{true, cond}
@@ -12,10 +12,11 @@ use borrow.Author.Tests.{lt-ltb, le-ltb}
 use Rattle.laws.specs.Test.{byTest, clash, sameOr, leOr}
 use Rattle.laws.specs.Scan.{those, those-yes, those-most}
 use Rattle.models.specs.Cert.{withHeight}
-use Rattle.models.specs.Tables.{placeAt, Used, isUsed, used-is}
+use Rattle.models.specs.Tables.{placeAt, Used, isUsed, used-is, targetAt, dist}
+use Rattle.models.specs.Live.{reach}
 use Rattle.tables_heights.specs.View.{heightAt}
 use Rattle.tables_test.specs.Count.{positions-fewer}
-use Rattle.cert_certify.specs.Model.{Work, queued, start}
+use Rattle.cert_certify.specs.Model.{Work, queued, passed, visited, propagated, start, traversed, visited-stays, handed-same, first-visited}
 
 -- place p is in the queue
 abbrev pub Queued : Work → ℕ → Type 0
@@ -168,3 +169,11 @@ module _ (cs : List ℕ) (q : ℕ) where
   pub start-queued : Queued (start cs q) q
   unfolding start
   start-queued = (0, omega arith, start-entry)
+
+-- nothing is handed on from a place whose links have it
+pub traversed-same : (b : ℕ) (ks ls cs : List ℕ) (q : ℕ) → ((k : ℕ) → k < reach b ks q → 0 < targetAt ls q k → heightAt cs q ≤ heightAt cs (targetAt ls q k - 1) + dist k) → traversed b ks ls cs q ≡ cs
+unfolding traversed propagated start passed
+traversed-same b ks ls cs q f =
+    let w : Work = start cs q in
+    let one : visited b ks ls w 1 ≡ w = first-visited b ks ls w (omega arith) ∙ (ap (passed b ks ls w) (start-entry cs q) ∙ handed-same (targetAt ls q) (heightAt cs q) w (reach b ks q) f (reach b ks q) (omega arith)) in
+    ap (λ (v : Work). v .certs) (visited-stays b ks ls w 1 4096 (omega (arith, ap (λ (v : Work). v .tail) one)) (omega arith) ∙ one)

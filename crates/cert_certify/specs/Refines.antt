@@ -10,7 +10,8 @@ use Rattle.laws.specs.Test.{leOr}
 use Rattle.spec.specs.Paths.{Path, heightFrom}
 use Rattle.spec.specs.Graph.{append, along, path-down}
 use Rattle.models.specs.Tables.{roundAt, placeAt, Used, dist}
-use Rattle.tables_heights.specs.View.{reach, heightAt, topAt}
+use Rattle.tables_heights.specs.View.{heightAt, topAt}
+use Rattle.models.specs.Live.{reach}
 use Rattle.tables_heights.specs.Refines.{Leads, Top, Heights}
 use Rattle.cert_certify.specs.Model.{Work, passed, visited, propagated, start, traversed, visited-next, visited-stays}
 use Rattle.cert_certify.specs.Queue.{Queued, Grows, queuedOr, grows-queued, start-queued}

@@ -1,13 +1,13 @@
 -- The tables that a certificate leaves are read as the store that it leaves (01: cert.rs).
-use Prim.Native.Nat.{ℕ, suc, _+_, _≤_, _<_}
+use Prim.Native.Nat.{ℕ, suc, _+_, _-_, _≤_, _<_}
 use mathlib.Core.Path.{_≡_, refl, sym, _∙_, ap, subst}
 use mathlib.Core.List.{List}
 use mathlib.Core.Bool.{true}
 use mathlib.Core.Logic.{inl, inr, ⊎-elim, _≢_}
 use native.Mathlib.Omega.{arith}
 use lib.Dec.{eqb}
-use lib.ListN.{length, getD, length-set}
-use lib.Seq.{getD-set-same, getD-set-other}
+use lib.ListN.{length, getD, set, length-set}
+use lib.Seq.{getD-set-same, getD-set-other, set-getD}
 use borrow.Author.Tests.{eq-eqb, ne-eqb}
 use Rattle.laws.specs.Test.{sameOr}
 use Rattle.spec.specs.Store.{Flags, word}
@@ -16,10 +16,11 @@ use Rattle.spec.specs.Rules.{countsAsStarted}
 use Rattle.spec.specs.Chain.{good}
 use Rattle.spec.specs.Calls.{setTop, certifyAt, doCertify}
 use Rattle.models.specs.Parts.{idOf}
-use Rattle.models.specs.Cert.{flagsOf, heightOf, topped}
+use Rattle.models.specs.Cert.{flagsOf, heightOf, topped, word-of}
 use Rattle.models.specs.Digest.{Fit}
-use Rattle.models.specs.Tables.{Used, used-is}
+use Rattle.models.specs.Tables.{Used, used-is, targetAt, dist}
 use Rattle.models.specs.declared.parts.PointId.{PointId}
+use Rattle.models.specs.Live.{reach}
 use Rattle.tables_heights.specs.View.{heightAt}
 use Rattle.tables_heights.specs.Refines.{Top, Heights}
 use Rattle.commit_state.specs.View.{pointAt}
@@ -37,6 +38,8 @@ use Rattle.dag_round_points.specs.RefinesPoint.{point-is}
 use Rattle.cert_certify.specs.Word.{flags-word, height-word, word-small}
 use Rattle.cert_certify.specs.Settled.{cert-small, shape-certs, regular-certs, rooted, placed, settled-from}
 use Rattle.cert_certify.specs.On.{handed-on}
+use Rattle.cert_certify.specs.Model.{traversed}
+use Rattle.cert_certify.specs.Queue.{traversed-same}
 use Rattle.cert_certify.specs.ModelCertify.{toppedCerts, certifiedCerts, Certifiable}
 
 module _ (s : State) (ks ls cs os : List ℕ) (fk : Fit ks) (fl : Fit ls) (h : countsAsStarted (view s ks ls cs os) ≡ true) where
@@ -185,6 +188,27 @@ module _ (s : State) (ks ls cs os : List ℕ) (fk : Fit ks) (fl : Fit ls) (h : c
     certified-view =
         settled-from s ks ls ds os q shape-after regular-after small u fk fl (low-of s ks ls cs os fk fl (t .shaped) (t .facts .ids)) (λ p x. t .facts .words p x .named .status) tops met but ks ls cs (t .shaped) (t .regulated)
         (λ p. setTop (eqb p q) (view s ks ls cs os .pt p)) points (view s ks ls cs os .heights)
+
+    -- a top holds a top's height, and its word has the top bit
+    own-word : Top cs os n q → word (topped (flagsOf (getD cs q 0))) (H + 1) ≡ getD cs q 0
+    unfolding topped flagsOf heightOf
+    own-word to =
+        let e : H + 1 ≡ heightAt cs q = omega (arith, capped q u, heightsAre q u .bound q to here) in
+        let f : topped (flagsOf (getD cs q 0)) ≡ flagsOf (getD cs q 0) = λ j. record { top = sym (to .1) j; started = flagsOf (getD cs q 0) .started; completed = flagsOf (getD cs q 0) .completed; committed = flagsOf (getD cs q 0) .committed } in
+        (λ j. word (f j) (e j)) ∙ word-of (getD cs q 0) (cert-small ks ls cs q (t .fits q u))
+
+    -- "A second certificate changes nothing.": every word stays
+    pub certified-again : Top cs os n q → certifiedCerts s ks ls cs q ≡ cs
+    unfolding certifiedCerts toppedCerts
+    certified-again to =
+        ap (λ (x : List ℕ). traversed (s .bottom .0) ks ls x q) (ap (set cs q) (own-word to) ∙ set-getD cs q 0)
+        ∙ traversed-same (s .bottom .0) ks ls cs q (λ k l z. on k l z)
+      where
+        on : (k : ℕ) → k < reach (s .bottom .0) ks q → 0 < targetAt ls q k → heightAt cs q ≤ heightAt cs (targetAt ls q k - 1) + dist k
+        on k l z =
+            let x : ℕ = targetAt ls q k - 1 in
+            let e : targetAt ls q k ≡ suc x = omega arith in
+            omega (arith, root .falls q k x u l e .1, handed-on (s .bottom .0) H ks ls cs os n q root heightsAre q x (record { from = u; which = k; live = l; to = e }))
 
   -- the call 'certify': refused with a number, or the store after it
   pub certify-is : (i : PointId) → Fit (idWords i) → doCertify (view s ks ls cs os) (idOf i) ≡ unless (pointCode s ks os i) (good (certifyAt (view s ks ls cs os) (placeFor s ks os i)))

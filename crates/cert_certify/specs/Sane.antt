@@ -10,7 +10,8 @@ use Rattle.spec.specs.Paths.{Path, here}
 use Rattle.spec.specs.Graph.{Down, along, path-down, snoc}
 use Rattle.models.specs.Cert.{heightOf}
 use Rattle.models.specs.Tables.{roundAt, placeAt, Inside, Used, targetAt, dist}
-use Rattle.tables_heights.specs.View.{reach, heightAt}
+use Rattle.tables_heights.specs.View.{heightAt}
+use Rattle.models.specs.Live.{reach}
 use Rattle.tables_heights.specs.Refines.{Leads, Falls}
 use Rattle.cert_certify.specs.Model.{Work, queued, deeper, handed, passed, visited, start, Fits, Open, Ready, deeper-none, deeper-up, deeper-same, visited-next, visited-end}
 use Rattle.cert_certify.specs.Queue.{Queued, Once, Grows, queue-most, queue-room, grows-same, grows-queued, grows-twice, queued-cases, queued-last, queued-once, queued-other, queued-word, queued-grows, start-cells, start-only}

@@ -13,6 +13,9 @@ use commit_state::state::State;
 use models::cert::Cert;
 use models::parts::Height;
 use models::parts::Round;
+use models::place::target;
+use models::tables::PEERS_MAX;
+use models::tables::PLACES_MAX;
 
 // A link with the target word `target`, d rounds down from a place of height h: its target rises to h - d if it is lower, and is
 // queued. Returns the new end of the queue.
@@ -62,9 +65,9 @@ fn certify_deps(
     let mut end = tail;
     let mut k: usize = 0;
     while k < m {
-        let target = links[p * 328 + 8 + k];
-        let d = (1 + k / 32) as u16;
-        end = certify_deeper(certs, queue, end, target, h, d);
+        let word = target(links, p, k);
+        let d = (1 + k / PEERS_MAX) as u16;
+        end = certify_deeper(certs, queue, end, word, h, d);
         k += 1;
     }
     end
@@ -87,7 +90,7 @@ fn certify_queued(keys: &[u64], links: &[u64], certs: &mut [u64], queue: &mut [u
     let mut head: usize = 0;
     while head < tail {
         let p = slot(queue[head]);
-        let m = tables_heights::live_links(keys, bottom, p);
+        let m = models::place::live_links(keys, bottom, p);
         tail = certify_deps(links, certs, queue, tail, p, m);
         head += 1;
     }
@@ -99,7 +102,7 @@ pub fn traverse_certify(keys: &[u64], links: &[u64], certs: &mut [u64], q: usize
     requires { ⌜ Placed (bottom .0) (now keys) (now links) (now certs) q ⌝ }
     ensures { λ _. ⌜ now (certs .exit) ≡ traversed (bottom .0) (now (keys .entry)) (now (links .entry)) (now (certs .entry)) q ⌝ }
 {
-    let mut queue = [0u16; 4096];
+    let mut queue = [0u16; PLACES_MAX];
     queue[0] = q as u16;
     certify_queued(keys, links, certs, &mut queue, bottom);
 }

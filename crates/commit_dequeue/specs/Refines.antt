@@ -29,13 +29,13 @@ use Rattle.commit_state.specs.declared.state.State.{State}
 use Rattle.tables_test.specs.Model.{shape-says, places-says}
 use Rattle.tables_test.specs.View.{view}
 use Rattle.tables_test.specs.Refines.{Started, counted}
-use Rattle.back_drain.specs.Model.{below-le}
+use Rattle.dag_round_order.specs.Span.{below-le}
 use Rattle.back_history.specs.Model.{isUncommitted}
 use Rattle.back_history.specs.Picked.{uncommittedAt}
 use Rattle.back_history.specs.RefinesNeeded.{named-used, low-high}
 use Rattle.back_history.specs.Refines.{well, in-elim, in-intro}
 use Rattle.back_committable.specs.declared.anchor.Tested as code
-use Rattle.back_committable.specs.Model.{spanOf, testedIn, testedOf}
+use Rattle.back_committable.specs.Model.{historySpan, testedIn, testedOf}
 use Rattle.back_committable.specs.Refines.{tested-is, tested-count}
 use Rattle.back_order.specs.Drawn.{drawnBy}
 use Rattle.back_order.specs.Refines.{counts-are, rest-is}
@@ -96,17 +96,17 @@ module _ (s : State) (ks ls cs os : List ℕ) (fk : Fit ks) (fl : Fit ls) (h : c
 
   -- the positions are those of used places
   high-le : t .high ≤ s .count
-  unfolding testedOf testedIn spanOf
+  unfolding testedOf testedIn historySpan
   high-le = below-le ks os (s .count) (roundAt ks (e .anchor) + 1)
 
   -- from the lower to the higher
   low-le : t .low ≤ t .high
-  unfolding testedOf testedIn spanOf
+  unfolding testedOf testedIn historySpan
   low-le = low-high s ks ls cs os fk fl held (e .anchor) anchor-used
 
   -- the marks say what is in the history
   picks : Picks v (e .anchor) os (s .count) (t .marks) cs (t .low) (t .high)
-  unfolding testedOf testedIn spanOf isPicked isUncommitted
+  unfolding testedOf testedIn historySpan isPicked isUncommitted
   picks j l =
       same-test _ _
       (λ k. let (i, lo, hi, d, w) = in-elim s ks ls cs os fk fl held (e .anchor) anchor-used (placeAt os j) k in
@@ -122,7 +122,7 @@ module _ (s : State) (ks ls cs os : List ℕ) (fk : Fit ks) (fl : Fit ls) (h : c
 
   -- how many points its rounds have
   counted-is : countsFor s ks os (t .marks) (t .lowest .0) (e .anchor) ≡ linkedCounts v (e .anchor)
-  unfolding testedOf testedIn spanOf
+  unfolding testedOf testedIn historySpan
   counted-is = counts-are s ks ls cs os fk fl held (e .anchor) anchor-used
 
   -- its lists are right
@@ -136,12 +136,12 @@ module _ (s : State) (ks ls cs os : List ℕ) (fk : Fit ks) (fl : Fit ls) (h : c
 
     -- the number of points that come out
     drawn-count : t .count ≡ length (drawnBy ks os (s .count) cs (t .marks) (roundsBy (roundAt ks (e .anchor)) (t .lowest .0)) l)
-    unfolding testedOf testedIn spanOf
+    unfolding testedOf testedIn historySpan
     drawn-count = count-is ∙ sym (drawn-length s ks ls cs os fk fl h e anchor-used proof-used (t .marks) (t .low) (t .high) high-le picks l (sym (right-is l) ∙ ok))
 
     -- the record
     record-same : Tested v (e .anchor) → recordFor s ks cs os (t .marks) (t .lowest .0) l e (lenFor ls cs os t) (bytesFor ls cs os t) ≡ recordBytes v l e
-    unfolding recordFor testedOf testedIn spanOf
+    unfolding recordFor testedOf testedIn historySpan
     record-same = record-is s ks ls cs os fk fl h e anchor-used proof-used (t .marks) (t .low) (t .high) high-le picks l (sym (right-is l) ∙ ok)
 
   -- ---- what the code is given
@@ -161,7 +161,7 @@ module _ (s : State) (ks ls cs os : List ℕ) (fk : Fit ks) (fl : Fit ls) (h : c
 
   -- no more points than places
   count-most : t .count ≤ 4096
-  unfolding testedOf testedIn spanOf
+  unfolding testedOf testedIn historySpan
   count-most =
       let a : length (those (t .high - t .low) (uncommittedAt cs os (t .marks) (t .low))) ≤ t .high - t .low = those-most _ _ in
       omega (arith, a, high-le, held .count-ok, places-says _ (held .places-ok))
@@ -235,7 +235,7 @@ module _ (s : State) (ks ls cs os : List ℕ) (fk : Fit ks) (fl : Fit ls) (h : c
 
         -- the lists after it
         rest-same : drop (from + sizeFor s ks os (t .marks) (t .lowest .0) (e .anchor)) l ≡ afterLists v (e .anchor) here
-        unfolding testedOf testedIn spanOf
+        unfolding testedOf testedIn historySpan
         rest-same = rest-is s ks ls cs os fk fl held (e .anchor) anchor-used l from _ refl
 
         -- its last byte

@@ -13,6 +13,7 @@ use crate::one::dequeue_anchor;
 use back_walk::EnqueuedAnchor;
 use commit_state::state::State;
 use models::refusal::Check;
+use models::tables::ROUNDS_MAX;
 
 // What stopped the anchors, if anything did; the state and the number of finished anchors.
 pub struct All {
@@ -31,7 +32,7 @@ pub fn commit_all(
     order: &[u64],
     lists: &[u8],
     b: &mut [u8],
-    list: [EnqueuedAnchor; 512],
+    list: [EnqueuedAnchor; ROUNDS_MAX],
     count: usize,
 ) -> All
     requires { ⌜ countsAsStarted (view s (now keys) (now links) (now certs) (now order)) ≡ true ⌝ }

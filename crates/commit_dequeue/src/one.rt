@@ -15,17 +15,20 @@ ghost use Rattle.output_record.specs.ModelState.{afterState};
 ghost use Rattle.commit_dequeue.specs.Model.{Listing, Drawable, Placed, numberFor, countsFor, sizeFor, recordFor, stepOf, oneOf};
 ghost use Rattle.commit_dequeue.specs.Refines.{Says};
 use back_committable::anchor::test_anchor;
-use back_committable::fault::round_at;
 use back_order::Listed;
 use back_order::lists_fit;
 use back_walk::EnqueuedAnchor;
 use commit_state::state::State;
+use models::output::ID_BYTES;
+use models::output::RECORD_BYTES;
 use models::parts::Round;
+use models::place::round_at;
 use models::refusal::BAD_LISTS;
 use models::refusal::Check;
 use models::refusal::GAP_QUESTION;
 use models::refusal::NO_ROOM;
 use models::refusal::Refusal;
+use models::tables::PLACES_MAX;
 use output_record::after::after_anchor;
 use output_record::after::mark_all;
 use output_record::record::executable;
@@ -57,7 +60,7 @@ fn number_for(check: Check, gap: u32, listed: bool, count: usize, left: usize) -
     if !listed {
         return Check::Failed(Refusal::Number(BAD_LISTS));
     }
-    if left < 99 + count * 37 {
+    if left < RECORD_BYTES + count * ID_BYTES {
         return Check::Failed(Refusal::Number(NO_ROOM));
     }
     Check::Passed
@@ -71,7 +74,7 @@ fn list_anchor(
     lists: &[u8],
     from: usize,
     e: EnqueuedAnchor,
-    marks: &[bool; 4096],
+    marks: &[bool; PLACES_MAX],
     lowest: Round,
 ) -> Listed
     requires { ⌜ Listing s (now keys) (now order) (enqueuedOf e) ⌝ }
@@ -94,7 +97,7 @@ fn put_anchor(
     b: &mut [u8],
     at: usize,
     e: EnqueuedAnchor,
-    marks: &[bool; 4096],
+    marks: &[bool; PLACES_MAX],
     lowest: Round,
     count: usize,
     sums: PayloadSums,
@@ -144,7 +147,7 @@ fn next_state(s: State, keys: &[u64], certs: &[u64], e: EnqueuedAnchor) -> State
     let proof = e.proof as usize;
     let ar = round_at(keys, anchor);
     let pr = round_at(keys, proof);
-    let author = dag_round_keys::author(keys, anchor) as u32;
+    let author = models::place::author(keys, anchor) as u32;
     after_anchor(s, ar, pr, author)
 }
 

@@ -35,7 +35,7 @@ use Rattle.back_history.specs.RefinesNeeded.{named-used, used-point, used-round
 use Rattle.back_order.specs.Counts.{countBy, countsBy, counts-more}
 use Rattle.back_order.specs.Refines.{counts-are}
 use Rattle.back_committable.specs.declared.anchor.Tested.{Tested}
-use Rattle.back_committable.specs.Model.{spanOf, testedIn, testedOf, anchor-words, span-asked}
+use Rattle.back_committable.specs.Model.{historySpan, testedIn, testedOf, anchor-words, span-asked}
 use Rattle.back_committable.specs.Refines.{tested-count}
 use Rattle.answer_bytes.specs.Bytes.{placeId}
 
@@ -99,11 +99,11 @@ module _ (s : State) (ks ls cs os : List ℕ) (fk : Fit ks) (fl : Fit ls) (h : c
     module _ (y : Tested) (is : y ≡ testedOf s ks ls cs os a) where
       -- 37 bytes, 4, and 4 for each round
       pub look-size : 41 + (r + 1 - y .lowest .0) * 4 ≡ lookSize v a
-      unfolding lookSize testedOf testedIn spanOf
+      unfolding lookSize testedOf testedIn historySpan
       look-size = ap₂ (λ (p q : ℕ). 41 + (p - q) * 4) (ap (λ (z : ℕ). z + 1) (o ∙ sym (used-round s ks ls cs os fk fl t a used)) ∙ add-one _) (ap (λ (z : Tested). z .lowest .0) is ∙ sym (lowest-is s ks ls cs os fk fl t a used))
 
       counts-is : countsBy ks os (s .count) (y .marks) (downFrom r (r + 1 - y .lowest .0)) ≡ linkedCounts v a
-      unfolding testedOf testedIn spanOf
+      unfolding testedOf testedIn historySpan
       counts-is =
           ap₂ (λ (z : Tested) (q : ℕ). countsBy ks os (s .count) (z .marks) (downFrom q (q + 1 - z .lowest .0))) is o
           ∙ counts-are s ks ls cs os fk fl t a used

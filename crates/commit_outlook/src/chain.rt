@@ -19,6 +19,7 @@ use crate::look::put_look;
 use back_walk::EnqueuedAnchor;
 use commit_state::state::State;
 use models::refusal::Check;
+use models::tables::ROUNDS_MAX;
 
 // The tests of the `count` anchors of the list, which has the newest first, with `room` bytes for them; up to the first that is refused.
 pub fn look_all(
@@ -27,7 +28,7 @@ pub fn look_all(
     links: &[u64],
     certs: &[u64],
     order: &[u64],
-    list: [EnqueuedAnchor; 512],
+    list: [EnqueuedAnchor; ROUNDS_MAX],
     count: usize,
     room: usize,
 ) -> Check
@@ -60,7 +61,7 @@ pub fn put_looks(
     certs: &[u64],
     order: &[u64],
     b: &mut [u8],
-    list: [EnqueuedAnchor; 512],
+    list: [EnqueuedAnchor; ROUNDS_MAX],
     count: usize,
 )
     requires { ⌜ countsAsStarted (view s (now keys) (now links) (now certs) (now order)) ≡ true ⌝ }
@@ -86,7 +87,7 @@ pub fn look_chain(
     certs: &[u64],
     order: &[u64],
     b: &mut [u8],
-    list: [EnqueuedAnchor; 512],
+    list: [EnqueuedAnchor; ROUNDS_MAX],
     count: usize,
 ) -> Check
     requires { ⌜ countsAsStarted (view s (now keys) (now links) (now certs) (now order)) ≡ true ⌝ }

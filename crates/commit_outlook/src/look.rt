@@ -22,14 +22,17 @@ ghost use Rattle.commit_outlook.specs.Look.{lookAt};
 use answer_bytes::put_id;
 use answer_bytes::put_number;
 use back_committable::anchor::test_anchor;
-use back_committable::fault::round_at;
 use back_order::count_round;
 use back_walk::EnqueuedAnchor;
 use commit_state::state::State;
+use models::output::COUNT_BYTES;
+use models::output::LOOK_BYTES;
 use models::parts::Round;
+use models::place::round_at;
 use models::refusal::Check;
 use models::refusal::NO_ROOM;
 use models::refusal::Refusal;
+use models::tables::PLACES_MAX;
 
 // The tests of one anchor, and the number of its bytes.
 pub struct Look {
@@ -45,7 +48,7 @@ fn look_size(round: Round, lowest: Round) -> usize
     let above = round.plus(1);
     let rounds = above.minus(lowest.0);
     let n = rounds.0 as usize;
-    41 + n * 4
+    LOOK_BYTES + n * COUNT_BYTES
 }
 
 // One anchor, with `left` bytes of the buffer left.
@@ -94,7 +97,7 @@ fn put_counts(
     keys: &[u64],
     order: &[u64],
     n: usize,
-    marks: &[bool; 4096],
+    marks: &[bool; PLACES_MAX],
     round: Round,
     lowest: Round,
 ) -> usize

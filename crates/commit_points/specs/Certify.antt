@@ -16,7 +16,8 @@ use Rattle.dag_round_points.specs.declared.Found.the-variants.{At, Refused}
 use Rattle.dag_round_points.specs.Model.{idWords}
 use Rattle.dag_round_points.specs.Point.{pointCode, placeFor, point-used}
 use Rattle.cert_certify.specs.ModelCertify.{certifiedCerts, Certifiable}
-use Rattle.cert_certify.specs.RefinesCertify.{certifiable, certified-view, certify-is}
+use Rattle.cert_certify.specs.RefinesCertify.{certifiable, certified-view, certified-again, certify-is}
+use Rattle.tables_heights.specs.View.{topAt}
 use Rattle.models.specs.Refusal.{numbered, numbered-passed}
 use Rattle.models.specs.declared.refusal.Refusal.{Refusal}
 use Rattle.models.specs.declared.refusal.Refusal.the-variants.{Number}
@@ -48,6 +49,14 @@ module _ (i : PointId) (d : Tables) (fk : Fit (d .keys)) (fl : Fit (d .links)) (
       did-done (certify (idOf i)) (certifyLeft i) d (certifiedTables i d) check refl refl t
       (call-tested (viewOf d) (certify (idOf i)) _ _ t refl refl refl (λ h. certify-is (d .state) (d .keys) (d .links) (d .certs) (d .order) fk fl h i fi ∙ unless-numbered _ _))
       (λ e. let (h, z) = tested-yes _ _ e in certified-view (d .state) (d .keys) (d .links) (d .certs) (d .order) fk fl h q (point-used (d .state) (d .keys) (d .order) i (numbered-passed _ z)))
+
+  -- "A second certificate changes nothing.": of a top the call is done, and leaves state and tables word for word
+  pub certify-again : countsAsStarted (viewOf d) ≡ true → pointCode (d .state) (d .keys) (d .order) i ≡ 0 → topAt (d .certs) q ≡ true → certifyLeft i d ≡ doneWith d
+  unfolding tested numbered
+  certify-again h z to =
+      let u = point-used (d .state) (d .keys) (d .order) i z in
+      sym (left-done check d (doneWith (certifiedTables i d)) (rw (h, z) refl) (doneWith d)
+      (ap (λ (cs : List ℕ). doneWith (tables (d .state) (d .keys) (d .links) cs (d .order))) (sym (certified-again (d .state) (d .keys) (d .links) (d .certs) (d .order) fk fl h q u (u, to)))))
 
   -- ---- one law for each way out of the code, and for what it is given
 

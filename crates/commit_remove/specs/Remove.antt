@@ -27,7 +27,8 @@ use Rattle.commit_state.specs.declared.state.State.{State}
 use Rattle.commit_state.specs.View.{optionOf, confOf, progressOf}
 use Rattle.commit_state.specs.Back.{removedState}
 use Rattle.tables_test.specs.View.{view}
-use Rattle.back_drain.specs.Model.{below, drainBottom}
+use Rattle.back_drain.specs.Model.{drainBottom}
+use Rattle.dag_round_order.specs.Span.{below}
 use Rattle.back_drain.specs.Remove.{remove-view}
 use Rattle.inspector_inspect.specs.After.{memoryLeft, memory-left}
 use Rattle.inspector_answer.specs.Answered.{Answered}

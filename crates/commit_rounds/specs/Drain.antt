@@ -18,7 +18,7 @@ use Rattle.commit_state.specs.Numbers.{confHolds, roundsHold}
 use Rattle.tables_test.specs.Model.{passed, shape-says, range-says}
 use Rattle.tables_test.specs.View.{view}
 use Rattle.tables_test.specs.Refines.{counted}
-use Rattle.back_drain.specs.Model.{below}
+use Rattle.dag_round_order.specs.Span.{below}
 use Rattle.commit_answer.specs.Answer.{Tables, tables}
 
 -- how many places go with the rounds below b

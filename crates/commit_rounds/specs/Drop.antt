@@ -11,7 +11,8 @@ use Rattle.dag_round_keys.specs.Zero.{emptied}
 use Rattle.dag_round_order.specs.Shift.{drained}
 use Rattle.commit_state.specs.declared.state.State.{State}
 use Rattle.commit_state.specs.Back.{droppedState}
-use Rattle.back_drain.specs.Model.{below, drainBottom}
+use Rattle.back_drain.specs.Model.{drainBottom}
+use Rattle.dag_round_order.specs.Span.{below}
 use Rattle.back_drain.specs.Drop.{drop-view, drop-answer, drop-buffer}
 use Rattle.models.specs.declared.refusal.Check.the-variants.{Passed}
 use Rattle.commit_answer.specs.declared.answer.Answer.the-variants.{Flag}

@@ -8,7 +8,6 @@ ghost use Rattle.commit_answer.specs.Answer.{Did, tables, left};
 ghost use Rattle.commit_rounds.specs.Gap.{gapLeft};
 ghost use Rattle.commit_rounds.specs.Round.{roundCheck, withRound, roundLeft};
 ghost use Rattle.commit_rounds.specs.Drop.{dropLeft};
-use back_drain::cut;
 use back_drain::drain_upto;
 use commit_answer::answer::Answer;
 use commit_answer::answer::Outcome;
@@ -17,12 +16,15 @@ use commit_state::back::ask_state;
 use commit_state::back::drop_state;
 use commit_state::back::extend_state;
 use commit_state::state::State;
+use dag_round_order::span::cut;
 use models::parts::Round;
 use models::refusal::Check;
 use models::refusal::FULL;
 use models::refusal::ROUND_AHEAD;
 use models::refusal::Refusal;
 use models::refusal::WRONG_PHASE;
+use models::tables::ROUND_MAX;
+use models::tables::ROUND_SLOTS;
 use tables_test::counts_as_started;
 
 // The gap question: yes if it is waited for, and then it is put.
@@ -60,13 +62,13 @@ fn check_round(bottom: Round, top: Round, round: Round) -> Check
     if top.0 + 1 < round.0 {
         return Check::Failed(Refusal::Number(ROUND_AHEAD));
     }
-    if 4000000000 < round.0 {
+    if ROUND_MAX < round.0 {
         return Check::Failed(Refusal::Number(ROUND_AHEAD));
     }
     if round.0 <= top.0 {
         return Check::Passed;
     }
-    if 512 <= top.0 + 1 - bottom.0 {
+    if ROUND_SLOTS <= top.0 + 1 - bottom.0 {
         return Check::Failed(Refusal::Number(FULL));
     }
     Check::Passed

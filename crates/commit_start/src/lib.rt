@@ -30,6 +30,7 @@ use models::refusal::BAD_START;
 use models::refusal::Check;
 use models::refusal::Refusal;
 use models::refusal::WRONG_PHASE;
+use models::tables::ROUND_MAX;
 use tables_test::counts_as_started;
 use tables_test::places_hold;
 use tables_test::shape_holds;
@@ -54,10 +55,10 @@ fn begins(with: StartArgs, places: usize) -> bool
     if !conf_holds(with.commit_history_rounds, with.deduplicate_rounds) {
         return false;
     }
-    if 4000000000 < genesis.0 {
+    if ROUND_MAX < genesis.0 {
         return false;
     }
-    if 4000000000 < bottom.0 {
+    if ROUND_MAX < bottom.0 {
         return false;
     }
     if bottom.0 < genesis.0 {

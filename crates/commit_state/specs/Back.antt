@@ -15,7 +15,7 @@ use Rattle.models.specs.declared.parts.Round.{Round}
 use Rattle.models.specs.declared.parts.OptionRound.{OptionRound}
 use Rattle.commit_state.specs.declared.state.Memory.{Memory}
 use Rattle.commit_state.specs.declared.state.State.{State}
-use Rattle.commit_state.specs.State.{noRecord}
+use Rattle.commit_state.specs.State.{noMemory, noRecord}
 use Rattle.commit_state.specs.declared.back.StartArgs.{StartArgs}
 use Rattle.commit_state.specs.declared.back.UsedAuthor.{UsedAuthor}
 use Rattle.commit_state.specs.declared.back.UsedAuthor.the-variants.{Nobody, Peer}
@@ -119,9 +119,10 @@ begun-is m b full first gap word u p q r = rw (q, r, p, u) refl
 abbrev zeroRound : Round
 zeroRound = record { 0 = 0 }
 
-unfoldable pub clearedState : State → State
-clearedState s = record {
-  phase = 2;
+-- all but the phase and the inspector's memory is 0
+abbrev pub emptyState : ℕ → Memory → State
+emptyState phase m = record {
+  phase = phase;
   count = 0;
   genesis = zeroRound;
   «commit_history_rounds» = 0;
@@ -134,8 +135,15 @@ clearedState s = record {
   «first_executable» = zeroRound;
   «emit_first_after_gap» = 0;
   rounds = replicate 512 noRecord;
-  memory = s .memory;
+  memory = m;
 }
+
+-- a state that no call has written
+unfoldable pub unstartedState : State
+unstartedState = emptyState 0 noMemory
+
+unfoldable pub clearedState : State → State
+clearedState s = emptyState 2 (s .memory)
 
 unfoldable pub extendedState : State → ℕ → State
 extendedState s peers = record {

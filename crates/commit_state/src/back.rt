@@ -2,14 +2,18 @@
 // What the calls do to the state.
 ghost use mathlib.Core.Path.{_≡_};
 ghost use Prim.Native.Nat.{_+_, _<_, _≤_};
-ghost use Rattle.commit_state.specs.Back.{Starts, begunState, clearedState, extendedState, askedState, droppedState, removedState, fullBottom, firstOf, armedOf, usedOf, usedWord};
+ghost use Rattle.commit_state.specs.Back.{Starts, begunState, emptyState, unstartedState, clearedState, extendedState, askedState, droppedState, removedState, fullBottom, firstOf, armedOf, usedOf, usedWord};
 ghost use Rattle.spec.specs.Rules.{usedOk};
 ghost use mathlib.Core.Bool.{true};
 use crate::state::Memory;
 use crate::state::RoundRecord;
 use crate::state::State;
+use crate::state::empty_memory;
 use models::parts::OptionRound;
 use models::parts::Round;
+use models::tables::PEER_SLOTS;
+use models::tables::ROUND_SLOTS;
+use models::tables::ROUNDS_MAX;
 
 // The author of a used mark.
 pub enum UsedAuthor {
@@ -33,7 +37,7 @@ pub fn used_ok(used: UsedAuthor) -> bool
 {
     match used {
         UsedAuthor::Nobody => true,
-        UsedAuthor::Peer(author) => author < 32,
+        UsedAuthor::Peer(author) => author < PEER_SLOTS,
     }
 }
 
@@ -95,8 +99,8 @@ pub fn init_state(memory: Memory, with: StartArgs) -> State
         peers: 0,
         used_anchor_proof: 0,
     };
-    let mut rounds = [empty; 512];
-    rounds[(b % 512) as usize] = RoundRecord {
+    let mut rounds = [empty; ROUNDS_MAX];
+    rounds[(b % ROUND_SLOTS) as usize] = RoundRecord {
         peers: with.peers,
         used_anchor_proof: word,
     };
@@ -118,17 +122,16 @@ pub fn init_state(memory: Memory, with: StartArgs) -> State
     }
 }
 
-// The state after a reset: the inspector's memory stays.
-pub fn reset_state(s: State) -> State
-    ensures { λ r. ⌜ r ≡ clearedState s ⌝ }
+// A state in which all but the phase and the inspector's memory is 0.
+fn empty_state(phase: u32, memory: Memory) -> State
+    ensures { λ r. ⌜ r ≡ emptyState phase memory ⌝ }
 {
     let empty = RoundRecord {
         peers: 0,
         used_anchor_proof: 0,
     };
-    let memory = s.memory;
     State {
-        phase: 2,
+        phase,
         count: 0,
         genesis: Round(0),
         commit_history_rounds: 0,
@@ -140,9 +143,25 @@ pub fn reset_state(s: State) -> State
         full_history_bottom: Round(0),
         first_executable: Round(0),
         emit_first_after_gap: 0,
-        rounds: [empty; 512],
+        rounds: [empty; ROUNDS_MAX],
         memory,
     }
+}
+
+// The state that no call has written: all zeros.
+pub fn unstarted() -> State
+    ensures { λ r. ⌜ r ≡ unstartedState ⌝ }
+{
+    let memory = empty_memory();
+    empty_state(0, memory)
+}
+
+// The state after a reset: the inspector's memory stays.
+pub fn reset_state(s: State) -> State
+    ensures { λ r. ⌜ r ≡ clearedState s ⌝ }
+{
+    let memory = s.memory;
+    empty_state(2, memory)
 }
 
 // One round more, above the top.
@@ -153,7 +172,7 @@ pub fn extend_state(s: State, peers: u32) -> State
     let top = s.top;
     let above = top.0 + 1;
     let mut next = s;
-    next.rounds[(above % 512) as usize] = RoundRecord {
+    next.rounds[(above % ROUND_SLOTS) as usize] = RoundRecord {
         peers,
         used_anchor_proof: 0,
     };

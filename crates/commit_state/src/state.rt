@@ -9,6 +9,13 @@ use models::parts::Digest;
 use models::parts::Height;
 use models::parts::OptionRound;
 use models::parts::Round;
+use models::tables::DIGEST_WORDS;
+use models::tables::PEER_LAST;
+use models::tables::PEER_SLOTS;
+use models::tables::ROUND_MAX;
+use models::tables::ROUND_POINTS_MAX;
+use models::tables::ROUND_SLOTS;
+use models::tables::ROUNDS_MAX;
 
 // A retained round: its peers, and the author of its used mark plus 1, or 0 for none.
 #[repr(C)]
@@ -32,7 +39,7 @@ pub struct Entry {
 pub struct Memory {
     pub last: Round,
     pub count: usize,
-    pub entries: [Entry; 128],
+    pub entries: [Entry; ROUND_POINTS_MAX],
 }
 
 // phase: 1 started, 2 reset, other numbers neither. count: the number of used places. Rounds from bottom to top are retained, round r in
@@ -51,7 +58,7 @@ pub struct State {
     pub full_history_bottom: Round,
     pub first_executable: Round,
     pub emit_first_after_gap: u32,
-    pub rounds: [RoundRecord; 512],
+    pub rounds: [RoundRecord; ROUNDS_MAX],
     pub memory: Memory,
 }
 
@@ -70,17 +77,23 @@ pub fn empty_memory() -> Memory
 {
     let entry = Entry {
         author: 0,
-        digest: Digest([0; 4]),
+        digest: Digest([0; DIGEST_WORDS]),
         has_previous: 0,
-        previous: Digest([0; 4]),
+        previous: Digest([0; DIGEST_WORDS]),
         unreferenced_by: 0,
     };
     Memory {
         last: Round(0),
         count: 0,
-        entries: [entry; 128],
+        entries: [entry; ROUND_POINTS_MAX],
     }
 }
+
+// H at most.
+const HISTORY_MAX: u32 = 255;
+
+// The rounds to deduplicate at most.
+const DEDUPLICATE_MAX: u32 = 65535;
 
 // Start's ranges of H and of the rounds to deduplicate.
 pub fn conf_holds(history: u32, deduplicate: u32) -> bool
@@ -89,10 +102,10 @@ pub fn conf_holds(history: u32, deduplicate: u32) -> bool
     if history == 0 {
         return false;
     }
-    if 255 < history {
+    if HISTORY_MAX < history {
         return false;
     }
-    deduplicate <= 65535
+    deduplicate <= DEDUPLICATE_MAX
 }
 
 // Whether the rounds lie in their ranges, and at most 512 are retained.
@@ -108,10 +121,10 @@ pub fn range_holds(genesis: Round, bottom: Round, top: Round) -> bool
     if t < b {
         return false;
     }
-    if 4000000000 < t {
+    if ROUND_MAX < t {
         return false;
     }
-    t - b < 512
+    t - b < ROUND_SLOTS
 }
 
 // Whether the used marks of the n rounds from bottom on are authors.
@@ -123,9 +136,9 @@ pub fn used_hold(s: State, n: u32) -> bool
     let b = bottom.0;
     let mut k: u32 = 0;
     while k < n {
-        let i = ((b + k) % 512) as usize;
+        let i = ((b + k) % ROUND_SLOTS) as usize;
         let x = s.rounds[i];
-        if 32 < x.used_anchor_proof {
+        if PEER_SLOTS < x.used_anchor_proof {
             return false;
         }
         k += 1;
@@ -151,13 +164,13 @@ pub fn memory_holds(m: Memory) -> bool
     ensures { λ r. ⌜ r ≡ memoryHolds m ⌝ }
 {
     let n = m.count;
-    if 128 < n {
+    if ROUND_POINTS_MAX < n {
         return false;
     }
     let mut i: usize = 0;
     while i < n {
         let x = m.entries[i];
-        if 31 < x.author {
+        if PEER_LAST < x.author {
             return false;
         }
         if i + 1 < n {

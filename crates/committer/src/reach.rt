@@ -3,7 +3,7 @@
 ghost use Rattle.game.specs.Model.{gameOf, Numbers};
 use game::reach_of;
 
-// refused: 31, or 0 for none. forced: 1 for yes.
+// refused: 31, or 0 for none. forced: 1 for yes, 0 for no and where refused.
 #[repr(C)]
 pub struct Reached {
     pub refused: u32,

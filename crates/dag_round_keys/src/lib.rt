@@ -4,7 +4,7 @@
 ghost use mathlib.Core.Path.{_≡_};
 ghost use Prim.Native.Nat.{_+_, _*_, _<_, _≤_, _/_};
 ghost use lib.ListN.{length, getD};
-ghost use Rattle.models.specs.Tables.{placeAt, Inside, roundAt, authorAt, statusAt, marksAt};
+ghost use Rattle.models.specs.Tables.{placeAt, Inside};
 ghost use Rattle.dag_round_keys.specs.Fill.{copied, zeroed};
 ghost use Rattle.dag_round_keys.specs.Zero.{emptied};
 ghost use lib.Dec.{eqb, ltb};
@@ -12,9 +12,11 @@ ghost use Rattle.dag_round_keys.specs.Key.{key, before};
 ghost use Rattle.dag_round_keys.specs.Sorted.{isInside, Sorted, isSorted, placeOf, standing, pointAt};
 ghost use Rattle.dag_round_keys.specs.Id.{idFrom};
 ghost use Rattle.models.specs.Digest.{digestAt};
-ghost use Rattle.models.specs.DagPoint.{caseOf};
-use models::dag_point::Resolved;
-use models::dag_point::of_status;
+use models::place::author;
+use models::tables::DIGEST_WORDS;
+use models::tables::KEY_DIGEST;
+use models::tables::KEY_ROUND;
+use models::tables::KEY_WORDS;
 
 pub mod look;
 
@@ -67,53 +69,13 @@ pub fn zero_places(t: &mut [u64], width: usize, order: &[u64], k: usize)
     }
 }
 
-// The author of place i.
-pub fn author(keys: &[u64], i: usize) -> u64
-    requires { ⌜ i * 8 + 8 ≤ length (now keys) ⌝ }
-    ensures { λ r. ⌜ r ≡ authorAt (now (keys .entry)) i ⌝ }
-{
-    keys[i * 8 + 1]
-}
-
-// The round of place i.
-pub fn round_word(keys: &[u64], i: usize) -> u64
-    requires { ⌜ i * 8 + 8 ≤ length (now keys) ⌝ }
-    ensures { λ r. ⌜ r ≡ roundAt (now (keys .entry)) i ⌝ }
-{
-    keys[i * 8 + 0]
-}
-
-// The marks of place i.
-pub fn marks_at(keys: &[u64], i: usize) -> u64
-    requires { ⌜ i * 8 + 8 ≤ length (now keys) ⌝ }
-    ensures { λ r. ⌜ r ≡ marksAt (now (keys .entry)) i ⌝ }
-{
-    keys[i * 8 + 7]
-}
-
-// The status of place i; 0 if its point is not resolved.
-pub fn status(keys: &[u64], i: usize) -> u64
-    requires { ⌜ i * 8 + 8 ≤ length (now keys) ⌝ }
-    ensures { λ r. ⌜ r ≡ statusAt (now (keys .entry)) i ⌝ }
-{
-    keys[i * 8 + 6]
-}
-
-// The case of the point at place i; none if it is named and not resolved.
-pub fn case_at(keys: &[u64], i: usize) -> Resolved
-    requires { ⌜ i * 8 + 8 ≤ length (now keys) ⌝ }
-    ensures { λ r. ⌜ r ≡ caseOf (statusAt (now (keys .entry)) i) ⌝ }
-{
-    of_status(keys[i * 8 + 6])
-}
-
 // Whether the digest in the four words of a from i on is the one in those of b from j on.
 pub fn same_digest(a: &[u64], i: usize, b: &[u64], j: usize) -> bool
     requires { ⌜ (i + 4 ≤ length (now a)) × (j + 4 ≤ length (now b)) ⌝ }
     ensures { λ r. ⌜ r ≡ eqb (digestAt (now (a .entry)) i) (digestAt (now (b .entry)) j) ⌝ }
 {
     let mut k: usize = 0;
-    while k < 4 {
+    while k < DIGEST_WORDS {
         let x = a[i + k];
         let y = b[j + k];
         if x != y {
@@ -125,7 +87,7 @@ pub fn same_digest(a: &[u64], i: usize, b: &[u64], j: usize) -> bool
 }
 
 // The id with this round and author and the digest in the four words from `at` on, as the words of a place.
-pub fn id_at(t: &[u64], at: usize, round: u64, author: u64) -> [u64; 8]
+pub fn id_at(t: &[u64], at: usize, round: u64, author: u64) -> [u64; KEY_WORDS]
     requires { ⌜ at + 4 ≤ length (now t) ⌝ }
     ensures { λ r. ⌜ r ≡ idFrom (now (t .entry)) at round author ⌝ }
 {
@@ -142,7 +104,7 @@ pub fn digest_less(a: &[u64], i: usize, b: &[u64], j: usize) -> bool
     ensures { λ r. ⌜ r ≡ ltb (digestAt (now (a .entry)) i) (digestAt (now (b .entry)) j) ⌝ }
 {
     let mut k: usize = 0;
-    while k < 4 {
+    while k < DIGEST_WORDS {
         let x = a[i + k];
         let y = b[j + k];
         if x != y {
@@ -158,14 +120,14 @@ pub fn less(a: &[u64], i: usize, b: &[u64], j: usize) -> bool
     requires { ⌜ (i * 8 + 8 ≤ length (now a)) × (j * 8 + 8 ≤ length (now b)) ⌝ }
     ensures { λ r. ⌜ r ≡ before (key (now (a .entry)) i) (key (now (b .entry)) j) ⌝ }
 {
-    let x = i * 8;
-    let y = j * 8;
-    let u = a[x + 0];
-    let v = b[y + 0];
+    let x = i * KEY_WORDS;
+    let y = j * KEY_WORDS;
+    let u = a[x + KEY_ROUND];
+    let v = b[y + KEY_ROUND];
     if u != v {
         return u < v;
     }
-    digest_less(a, x + 2, b, y + 2)
+    digest_less(a, x + KEY_DIGEST, b, y + KEY_DIGEST)
 }
 
 // Whether the first n cells hold places below `places`.

@@ -22,7 +22,7 @@ pub fn look_place(keys: &[u64], i: usize) -> Look
     requires { ⌜ i * 8 + 8 ≤ length (now keys) ⌝ }
     ensures { λ r. ⌜ r ≡ lookPlace (now (keys .entry)) i ⌝ }
 {
-    let case = crate::case_at(keys, i);
+    let case = models::place::case_at(keys, i);
     match case {
         Resolved::Case(p) => Look::Resolved(i, p),
         Resolved::Nothing => Look::Named(i),

@@ -1,3 +1,5 @@
 pub mod Shift
 pub mod Free
 pub mod Store
+pub mod Marks
+pub mod Span

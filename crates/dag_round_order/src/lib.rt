@@ -1,5 +1,6 @@
 // Origin: dag/dag_round.rs (add_dependency), dag/commit/back.rs (drain_upto).
-// `order` holds the used places in its first n cells. A place is put in, the first are taken out, a free one is found, a point is written.
+// `order` holds the used places in its first n cells. A place is put in, the first are taken out, a free one is found, a point is written,
+// the used places are marked; the positions of a round are found (span).
 ghost use mathlib.Core.Path.{_≡_};
 ghost use Prim.Native.Nat.{_+_, _*_, _/_, _<_, _≤_};
 ghost use lib.ListN.{length};
@@ -8,7 +9,12 @@ ghost use Rattle.dag_round_keys.specs.Sorted.{Sorted, placeOf};
 ghost use Rattle.dag_round_order.specs.Shift.{inserted, drained};
 ghost use Rattle.dag_round_order.specs.Free.{firstFree};
 ghost use Rattle.dag_round_order.specs.Store.{stored};
+ghost use Rattle.dag_round_order.specs.Marks.{marked};
 ghost use Rattle.models.specs.Tables.{Inside};
+use models::tables::KEY_WORDS;
+use models::tables::PLACES_MAX;
+
+pub mod span;
 
 // Puts the place in at position `at`: the cells from there to n move up by one.
 pub fn insert(order: &mut [u64], n: usize, at: usize, place: u64)
@@ -42,7 +48,7 @@ pub fn free_place(order: &[u64], n: usize, places: usize) -> usize
     requires { ⌜ (n ≤ length (now order)) × ((places ≤ 4096) × Inside (now order) n places) ⌝ }
     ensures { λ r. ⌜ r ≡ firstFree (now (order .entry)) n places ⌝ }
 {
-    let mut seen = [false; 4096];
+    let mut seen = [false; PLACES_MAX];
     let mut p: usize = 0;
     while p < n {
         let s = laws::slot(order[p]);
@@ -67,6 +73,20 @@ pub fn put(keys: &mut [u64], order: &mut [u64], n: usize, s: usize, id: &[u64])
     ensures order { λ _. ⌜ now (order .exit) ≡ inserted (now (order .entry)) n (placeOf (now (keys .entry)) (now (order .entry)) n (key (now (id .entry)) 0)) s ⌝ }
 {
     let at = dag_round_keys::seek(keys, order, n, id);
-    dag_round_keys::copy_words(keys, s * 8, id, 0, 8);
+    dag_round_keys::copy_words(keys, s * KEY_WORDS, id, 0, KEY_WORDS);
     insert(order, n, at, s as u64);
+}
+
+// Marks the first n places of the order.
+pub fn mark(marks: &mut [bool], order: &[u64], n: usize)
+    requires { ⌜ (length (now order) ≤ length (now marks)) × (n ≤ length (now order)) ⌝ }
+    requires { ⌜ Inside (now order) n (length (now order)) ⌝ }
+    ensures { λ _. ⌜ now (marks .exit) ≡ marked (now (marks .entry)) (now (order .entry)) n ⌝ }
+{
+    let mut i: usize = 0;
+    while i < n {
+        let p = dag_round_keys::place(order, n, i);
+        marks[p] = true;
+        i += 1;
+    }
 }

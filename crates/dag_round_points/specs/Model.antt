@@ -100,14 +100,14 @@ unfolding idWords
 words-eight i = refl
 
 -- another round
-pub version-not : (ks : List ℕ) (r a q : ℕ) → (roundAt ks q ≡ r → ⊥) → false ≡ isVersion ks r a q
+pub version-not : (ks : List ℕ) (r a q x : ℕ) → x ≡ roundAt ks q → (x ≡ r → ⊥) → false ≡ isVersion ks r a q
 unfolding isVersion
-version-not ks r a q d = sym (and-no _ (ne-eqb (roundAt ks q) r d))
+version-not ks r a q x e d = sym (and-no _ (ne-eqb (roundAt ks q) r (λ h. d (e ∙ h))))
 
 -- the same round
-pub version-by : (ks : List ℕ) (r a q : ℕ) → roundAt ks q ≡ r → eqb (authorAt ks q) a ≡ isVersion ks r a q
+pub version-by : (ks : List ℕ) (r a q x y : ℕ) → x ≡ roundAt ks q → y ≡ authorAt ks q → x ≡ r → eqb y a ≡ isVersion ks r a q
 unfolding isVersion
-version-by ks r a q e = sym (and-yes (eq-eqb (roundAt ks q) r e) refl)
+version-by ks r a q x y e f h = rw f (sym (and-yes (eq-eqb (roundAt ks q) r (sym e ∙ h)) refl))
 
 -- one position more, which passes
 pub count-yes : (f : ℕ → Bool) (i c : ℕ) → c ≡ length (those i f) → f i ≡ true → c + 1 ≡ length (those (i + 1) f)

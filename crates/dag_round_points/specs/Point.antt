@@ -9,7 +9,7 @@ use lib.ListN.{length, getD}
 use borrow.Author.Tests.{le-ltb}
 use Rattle.laws.specs.Test.{leOr, and-l, cond-no}
 use Rattle.laws.specs.Scan.{first-hit}
-use Rattle.models.specs.Tables.{roundAt, statusAt, placeAt, Inside, Used}
+use Rattle.models.specs.Tables.{roundAt, statusAt, placeAt, Inside, Used, inside-keys}
 use Rattle.models.specs.DagPoint.{caseOf}
 use Rattle.models.specs.declared.dag_point.Resolved as status
 use Rattle.models.specs.declared.dag_point.Resolved.the-variants as case
@@ -24,7 +24,6 @@ use Rattle.dag_round_keys.specs.Look.{lookAs, lookPlace, lookFor}
 use Rattle.dag_round_keys.specs.declared.look.Look.{Look}
 use Rattle.dag_round_keys.specs.declared.look.Look.the-variants.{Resolved, Named, Never}
 use Rattle.commit_state.specs.declared.state.State.{State}
-use Rattle.tables_test.specs.Model.{inside-keys}
 use Rattle.dag_round_points.specs.Model.{Ready, idWords, orElse, idCode, words-eight, else-zero}
 use Rattle.dag_round_points.specs.Codes.{found, found-next}
 use Rattle.dag_round_points.specs.declared.Found.{Found}

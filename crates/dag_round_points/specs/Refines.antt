@@ -26,7 +26,7 @@ use Rattle.dag_round_keys.specs.Sorted.{Sorted, keyAt, placeOf, place-le, stand
 use Rattle.dag_round_order.specs.Free.{free-is-free}
 use Rattle.dag_round_order.specs.Shift.{inserted, inserted-inside}
 use Rattle.dag_round_order.specs.Store.{stored, stored-length, stored-other, stored-own, key-own, put-sorted}
-use Rattle.tables_heights.specs.View.{Live}
+use Rattle.models.specs.Live.{Live}
 use Rattle.tables_links.specs.Named.{Links}
 use Rattle.commit_state.specs.View.{resolutionAt, pointAt, roundsOf, confOf, progressOf, memoryOf}
 use Rattle.commit_state.specs.declared.state.State.{State}

@@ -17,6 +17,7 @@ use dag_round_keys::look::Look;
 use dag_round_keys::look::look_up;
 use models::parts::PointId;
 use models::parts::Round;
+use models::place::round_word;
 use models::refusal::Check;
 use models::refusal::DIGEST_NAMED;
 use models::refusal::FIFTH_DIGEST;
@@ -25,6 +26,10 @@ use models::refusal::NOT_A_PEER;
 use models::refusal::NOT_NAMED;
 use models::refusal::NOT_RETAINED;
 use models::refusal::Refusal;
+use models::tables::KEY_WORDS;
+use models::tables::PEER_SLOTS;
+use models::tables::ROUND_SLOTS;
+use models::tables::VERSIONS_MAX;
 
 // Where a point stands, or is to stand, or why it is refused.
 pub enum Found {
@@ -33,7 +38,7 @@ pub enum Found {
 }
 
 // The id as the words of a place that is named.
-pub fn id_words(id: PointId) -> [u64; 8]
+pub fn id_words(id: PointId) -> [u64; KEY_WORDS]
     ensures { λ r. ⌜ r ≡ idWords id ⌝ }
 {
     let round = id.round;
@@ -49,8 +54,8 @@ fn is_version(keys: &[u64], q: usize, round: Round, author: u32) -> bool
     requires { ⌜ q * 8 + 8 ≤ length (now keys) ⌝ }
     ensures { λ r. ⌜ r ≡ isVersion (now (keys .entry)) (round .0) author q ⌝ }
 {
-    let r = keys[q * 8 + 0];
-    let a = keys[q * 8 + 1];
+    let r = round_word(keys, q);
+    let a = models::place::author(keys, q);
     if r != round.0 as u64 {
         return false;
     }
@@ -84,7 +89,7 @@ pub fn check_id(s: State, id: PointId) -> Check
     let top = s.top;
     let r = round.0;
     let author = id.author;
-    if 32 <= author {
+    if PEER_SLOTS <= author {
         return Check::Failed(Refusal::Number(NOT_A_PEER));
     }
     if r < bottom.0 {
@@ -93,7 +98,7 @@ pub fn check_id(s: State, id: PointId) -> Check
     if top.0 < r {
         return Check::Failed(Refusal::Number(NOT_RETAINED));
     }
-    let x = s.rounds[(r % 512) as usize];
+    let x = s.rounds[(r % ROUND_SLOTS) as usize];
     if !models::parts::has_peer(x.peers, author) {
         return Check::Failed(Refusal::Number(NOT_A_PEER));
     }
@@ -113,7 +118,7 @@ fn check_table(keys: &[u64], order: &[u64], n: usize, id: PointId) -> Found
         return Found::Refused(Refusal::Number(DIGEST_NAMED));
     }
     let count = versions(keys, order, n, id.round, id.author);
-    if 4 <= count {
+    if VERSIONS_MAX <= count {
         return Found::Refused(Refusal::Number(FIFTH_DIGEST));
     }
     let places = order.len();

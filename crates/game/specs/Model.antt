@@ -1,7 +1,7 @@
 -- What `reach_of` answers.
 use Prim.Native.Nat.{ℕ}
 use mathlib.Core.Path.{_≡_}
-use mathlib.Core.Logic.{_↔_}
+use mathlib.Core.Logic.{_↔_, _⊎_}
 use mathlib.Core.Bool.{Bool, true, false, cond}
 use Rattle.laws.specs.Peers.{member}
 use Rattle.spec.specs.Game.{Game, Force, Prevent, gameOk}
@@ -30,8 +30,9 @@ pub record Answers (g : Game) (reach d : ℕ) (r : Reach) : Type 0 where
   pub forced : (r ≡ Forced) ↔ ((gameOk g reach d ≡ true) × Force g d (member reach))
   pub prevented : (r ≡ Prevented) ↔ ((gameOk g reach d ≡ true) × Prevent g d (member reach))
 
--- the same in two numbers: the refusal's, 0 for none; 1 for forced
+-- the same in two numbers: the refusal's, 0 for none; 1 for forced, else 0, so 0 where refused
 pub record Numbers (g : Game) (reach d m f : ℕ) : Type 0 where
   pub refused : m ≡ cond (gameOk g reach d) 0 31
+  pub yes-or-no : (f ≡ 0) ⊎ (f ≡ 1)
   pub forced : (f ≡ 1) ↔ ((gameOk g reach d ≡ true) × Force g d (member reach))
   pub prevented : ((m ≡ 0) × (f ≡ 0)) ↔ ((gameOk g reach d ≡ true) × Prevent g d (member reach))

@@ -1,6 +1,7 @@
 -- The answer by counts is that over the sides' choices.
 use Prim.Native.Nat.{ℕ, _+_, _-_, _^_, _≤_, _<_}
 use mathlib.Core.Path.{_≡_, refl, sym, _∙_}
+use mathlib.Core.Logic.{inl, inr}
 use mathlib.Core.Bool.{Bool, true, false, _&&_, cond}
 use native.Mathlib.Omega.{arith}
 use lib.Bits.{bitXor}
@@ -105,6 +106,7 @@ numbers g reach d Forced m f a em ef =
     let (good, w) = a .forced .0 refl in
     record {
       refused = rw good em;
+      yes-or-no = inr ef;
       forced = (λ _. (good, w), λ _. ef);
       prevented = (λ (_, z). absurd (omega arith), λ z. absurd (forced-prevented (a .prevented .1 z)));
     }
@@ -112,6 +114,7 @@ numbers g reach d Prevented m f a em ef =
     let (good, w) = a .prevented .0 refl in
     record {
       refused = rw good em;
+      yes-or-no = inl ef;
       forced = (λ z. absurd (omega arith), λ z. absurd (forced-prevented (sym (a .forced .1 z))));
       prevented = (λ _. (good, w), λ _. (em, ef));
     }
@@ -119,6 +122,7 @@ numbers g reach d Refused m f a em ef =
     let bad = a .refused .0 refl in
     record {
       refused = rw bad em;
+      yes-or-no = inl ef;
       forced = (λ z. absurd (omega arith), λ (t, _). absurd (clash t bad));
       prevented = (λ (z, _). absurd (omega arith), λ (t, _). absurd (clash t bad));
     }

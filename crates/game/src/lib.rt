@@ -8,6 +8,11 @@ use laws::and;
 use laws::or;
 use models::parts::has_peer;
 use models::parts::peer_count;
+use models::tables::PEER_LAST;
+use models::tables::PEER_SLOTS;
+
+// Coming rounds at most.
+const DISTANCE_MAX: u32 = 255;
 
 // Keepers can force the reach, spoilers can prevent it, or the game is refused.
 pub enum Reach {
@@ -46,7 +51,7 @@ fn within(a: u32, b: u32) -> bool
 {
     let mut ok = true;
     let mut k: u32 = 0;
-    while k < 32 {
+    while k < PEER_SLOTS {
         ok = and(or(!has_peer(a, k), has_peer(b, k)), ok);
         k += 1;
     }
@@ -57,7 +62,7 @@ fn within(a: u32, b: u32) -> bool
 fn game_ok(peers: u32, keepers: u32, q: u32, reach: u32, author: u32, distance: u32) -> bool
     ensures { λ r. ⌜ r ≡ gameOk (gameOf peers keepers q author) reach distance ⌝ }
 {
-    if 31 < author {
+    if PEER_LAST < author {
         return false;
     }
     let n = peer_count(peers);
@@ -66,7 +71,7 @@ fn game_ok(peers: u32, keepers: u32, q: u32, reach: u32, author: u32, distance: 
     let sets = and(within(keepers, peers), within(reach, peers));
     and(
         counts,
-        and(peer, and(sets, and(0 < distance, distance <= 255))),
+        and(peer, and(sets, and(0 < distance, distance <= DISTANCE_MAX))),
     )
 }
 

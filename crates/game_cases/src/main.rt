@@ -2,6 +2,8 @@
 // Solved games of keepers and spoilers, a line each, and games that are refused.
 use game::Reach;
 use game::reach_of;
+use models::tables::PEER_LAST;
+use models::tables::PEER_SLOTS;
 
 const ALL: u32 = 0xFFFF_FFFF;
 
@@ -34,10 +36,10 @@ fn first(n: u32) -> u32 {
     if n == 0 {
         return 0;
     }
-    if 31 < n {
+    if PEER_LAST < n {
         return ALL;
     }
-    ALL >> (32 - n)
+    ALL >> (PEER_SLOTS - n)
 }
 
 // n peers, the first k of them keepers, the first r reaching: distances 1, 2, 3 and 255 to an anchor of that author.

@@ -14,13 +14,19 @@ use commit_state::state::State;
 use models::dag_point::Resolved;
 use models::info::PointInfo;
 use models::parts::Round;
+use models::tables::PEER_SLOTS;
+use models::tables::PEER_SLOTS_WORD;
+use models::tables::PEERS_MAX;
+use models::tables::REF_DIGEST;
+use models::tables::REF_PEER;
+use models::tables::REF_WORDS;
 
 // The peer of link j.
 pub fn peer(refs: &[u64], j: usize) -> u64
     requires { ⌜ j * 5 + 5 ≤ length (now refs) ⌝ }
     ensures { λ r. ⌜ r ≡ peerAt (now (refs .entry)) j ⌝ }
 {
-    refs[j * 5 + 0]
+    refs[j * REF_WORDS + REF_PEER]
 }
 
 // Whether the peers of m links, from link `from` on, rise and are below 32.
@@ -35,7 +41,7 @@ fn rises(refs: &[u64], from: usize, m: usize) -> bool
         if next < low {
             return false;
         }
-        if 32 <= next {
+        if PEER_SLOTS_WORD <= next {
             return false;
         }
         low = next + 1;
@@ -102,7 +108,7 @@ fn given_ok(round: Round, info: PointInfo, refs: &[u64]) -> bool
         return false;
     }
     let top = info.top_proof;
-    if 32 <= top.author {
+    if PEER_SLOTS <= top.author {
         return false;
     }
     let bare = is_bare(i, w, info.evidence);
@@ -116,13 +122,13 @@ pub fn well_formed(round: Round, info: PointInfo, refs: &[u64]) -> bool
 {
     let i = info.includes;
     let w = info.witness;
-    if 32 < i {
+    if PEERS_MAX < i {
         return false;
     }
-    if 32 < w {
+    if PEERS_MAX < w {
         return false;
     }
-    if refs.len() != (i + w) * 5 {
+    if refs.len() != (i + w) * REF_WORDS {
         return false;
     }
     given_ok(round, info, refs)
@@ -141,7 +147,12 @@ pub fn find_link(
     requires { ⌜ j * 5 + 5 ≤ length (now refs) ⌝ }
     ensures { λ r. ⌜ r ≡ foundAt s (now (keys .entry)) (now (order .entry)) (now (refs .entry)) j (round .0) ⌝ }
 {
-    let words = dag_round_keys::id_at(refs, j * 5 + 1, round.0 as u64, peer(refs, j));
+    let words = dag_round_keys::id_at(
+        refs,
+        j * REF_WORDS + REF_DIGEST,
+        round.0 as u64,
+        peer(refs, j),
+    );
     dag_round_keys::find_point(keys, order, s.count, &words)
 }
 

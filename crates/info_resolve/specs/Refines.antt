@@ -22,7 +22,8 @@ use Rattle.models.specs.declared.dag_point.DagPoint.{DagPoint}
 use Rattle.models.specs.declared.dag_point.Resolved.{Resolved}
 use Rattle.models.specs.declared.dag_point.Resolved.the-variants.{Case, Nothing}
 use Rattle.models.specs.declared.info.PointInfo.{PointInfo}
-use Rattle.tables_heights.specs.View.{heightAt, topAt, reach, reach-live, reach-unresolved}
+use Rattle.tables_heights.specs.View.{heightAt, topAt}
+use Rattle.models.specs.Live.{reach, reach-live, reach-unresolved}
 use Rattle.tables_heights.specs.Refines.{Leads}
 use Rattle.commit_state.specs.declared.state.State.{State}
 use Rattle.tables_test.specs.Model.{shape, shape-says, places-says, rounds-says}

@@ -17,6 +17,7 @@ use models::cert::Cert;
 use models::dag_point::Resolved;
 use models::info::PointInfo;
 use models::parts::Round;
+use models::place::status;
 use models::refusal::BAD_INFO;
 use models::refusal::Check;
 use models::refusal::LINK_NOT_NAMED;
@@ -37,8 +38,8 @@ pub fn check_resolution(
     requires { ⌜ (q < length (now order)) × (roundAt (now keys) q ≡ round .0) ⌝ }
     ensures { λ r. ⌜ r ≡ numbered (infoCode s (now (keys .entry)) (now (order .entry)) q info (now (refs .entry))) ⌝ }
 {
-    let status = keys[q * 8 + 6];
-    if status != 0 {
+    let word = status(keys, q);
+    if word != 0 {
         return Check::Failed(Refusal::Number(RESOLVED));
     }
     if !well_formed(round, info, refs) {

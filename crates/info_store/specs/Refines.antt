@@ -18,16 +18,15 @@ use Rattle.spec.specs.Calls.{resolvedAs}
 use Rattle.models.specs.Cert.{bitOf, flagsOf}
 use Rattle.models.specs.Digest.{Fit, digestAt}
 use Rattle.models.specs.Info.{infoOf}
-use Rattle.models.specs.Tables.{roundAt, digestOf, statusAt, marksAt, evidenceAt, payloadAt, placeAt, Used, isUsed, targetAt, dist}
+use Rattle.models.specs.Tables.{roundAt, digestOf, statusAt, marksAt, evidenceAt, payloadAt, placeAt, Used, isUsed, targetAt, dist, proofRoundAt}
 use Rattle.models.specs.declared.info.PointInfo.{PointInfo}
 use Rattle.dag_round_keys.specs.Fill.{zeroed, filled-length, filled-in, filled-off}
 use Rattle.dag_round_keys.specs.Digest.{digest-alike}
 use Rattle.dag_round_keys.specs.Key.{key, words-same}
 use Rattle.dag_round_keys.specs.Sorted.{Sorted}
-use Rattle.tables_heights.specs.View.{Live}
+use Rattle.models.specs.Live.{Live}
 use Rattle.tables_links.specs.Links.{digAt}
 use Rattle.tables_links.specs.Named.{Names, Links}
-use Rattle.tables_links.specs.Words.{proofRoundAt}
 use Rattle.commit_state.specs.View.{resolutionAt, givenAt, pointAt}
 use Rattle.commit_state.specs.declared.state.State.{State}
 use Rattle.tables_test.specs.Model.{shape, shape-says}

@@ -14,6 +14,17 @@ ghost use Rattle.info_store.specs.Model.{marksOf, headWords, targetOf, l
 use commit_state::state::State;
 use models::info::PointInfo;
 use models::parts::Round;
+use models::tables::DIGEST_WORDS;
+use models::tables::HEAD_WORDS;
+use models::tables::KEY_MARKS;
+use models::tables::KEY_STATUS;
+use models::tables::KEY_WORDS;
+use models::tables::LINK_DIGESTS;
+use models::tables::LINK_TARGETS;
+use models::tables::LINK_WORDS;
+use models::tables::PEER_SLOTS;
+use models::tables::REF_DIGEST;
+use models::tables::REF_WORDS;
 
 // The bit of weight w, if it is set.
 fn weight(w: u64, set: bool) -> u64
@@ -33,7 +44,7 @@ fn marks(proof: bool, trigger: bool, cause: bool) -> u64
 }
 
 // The evidence, the top proof and the payload, as the first words of a place.
-fn head_words(info: PointInfo) -> [u64; 8]
+fn head_words(info: PointInfo) -> [u64; HEAD_WORDS]
     ensures { λ r. ⌜ r ≡ headWords info ⌝ }
 {
     let top = info.top_proof;
@@ -79,8 +90,14 @@ fn put_link(links: &mut [u64], q: usize, k: usize, target: u64, refs: &[u64], j:
     requires { ⌜ (q * 328 + 328 ≤ length (now links)) × (k < 64) × (j * 5 + 5 ≤ length (now refs)) ⌝ }
     ensures { λ _. ⌜ now (links .exit) ≡ linkPut (now (links .entry)) q k target (now (refs .entry)) j ⌝ }
 {
-    links[q * 328 + 8 + k] = target;
-    dag_round_keys::copy_words(links, q * 328 + 72 + k * 4, refs, j * 5 + 1, 4);
+    links[q * LINK_WORDS + LINK_TARGETS + k] = target;
+    dag_round_keys::copy_words(
+        links,
+        q * LINK_WORDS + LINK_DIGESTS + k * DIGEST_WORDS,
+        refs,
+        j * REF_WORDS + REF_DIGEST,
+        DIGEST_WORDS,
+    );
 }
 
 // Writes the m lent links from `from` on, which lead d rounds down from this round, into place q.
@@ -102,7 +119,7 @@ fn put_links(
     ensures { λ _. ⌜ now (links .exit) ≡ linksPut (targetOf s (now (keys .entry)) (now (order .entry)) (now (refs .entry)) d (round .0))
         (now (links .entry)) q ((d - 1) * 32) (now (refs .entry)) from m ⌝ }
 {
-    let base = ((d - 1) * 32) as usize;
+    let base = ((d - 1) * PEER_SLOTS) as usize;
     let mut i: usize = 0;
     while i < m {
         let j = from + i;
@@ -132,8 +149,8 @@ fn store_links(
     let i = info.includes;
     let w = info.witness;
     let head = head_words(info);
-    dag_round_keys::zero_words(links, q * 328, 328);
-    dag_round_keys::copy_words(links, q * 328, &head, 0, 8);
+    dag_round_keys::zero_words(links, q * LINK_WORDS, LINK_WORDS);
+    dag_round_keys::copy_words(links, q * LINK_WORDS, &head, 0, HEAD_WORDS);
     put_links(s, keys, links, order, q, refs, 0, i, 1, round);
     put_links(s, keys, links, order, q, refs, i, w, 2, round);
 }
@@ -144,8 +161,8 @@ fn store_status(keys: &mut [u64], q: usize, info: PointInfo)
     ensures { λ _. ⌜ now (keys .exit) ≡ storedKeys (now (keys .entry)) q info ⌝ }
 {
     let word = marks(info.proof, info.trigger, info.cause);
-    keys[q * 8 + 6] = info.status as u64;
-    keys[q * 8 + 7] = word;
+    keys[q * KEY_WORDS + KEY_STATUS] = info.status as u64;
+    keys[q * KEY_WORDS + KEY_MARKS] = word;
 }
 
 // Writes what a resolution gives into place q, of a point of this round: status and marks, evidence, top proof,

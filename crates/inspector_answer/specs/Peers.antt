@@ -1,27 +1,37 @@
 -- The stats of the peers as bytes (01: "Remove's answer", "per peer, rising by number").
-use Prim.Native.Nat.{ℕ, suc, _+_, _≤_, _<_}
+use Prim.Native.Nat.{ℕ, _+_, _*_, _%_, _^_, _≤_, _<_}
 use mathlib.Core.Path.{_≡_, refl, sym, ap, subst, _∙_}
 use mathlib.Core.List.{List, [], _∷_, _++_}
-use mathlib.Core.Bool.{Bool}
+use mathlib.Core.Bool.{Bool, true, false}
 use mathlib.Core.Option.{Option}
 use native.Mathlib.Numerals.{add-one}
+use lib.Bits.{bitOr}
+use lib.Count.{ones}
 use lib.ListN.{length, getD}
 use borrow.Author.Tests.{eq-eqb, ne-eqb}
 use Rattle.laws.specs.Bytes.{be, be-length}
 use Rattle.laws.specs.Lists.{joined, upTo}
-use Rattle.laws.specs.Scan.{those, those-yes, those-no}
+use Rattle.laws.specs.Scan.{those}
 use Rattle.spec.specs.Inspect as inspect
 use Rattle.spec.specs.Inspect.{Counters, Stats, counterList, score, statsBytes, isSome}
 use Rattle.stats.specs.Counters.{countersOf}
 use Rattle.stats.specs.PeerStats.{statsOf, noStats}
 use Rattle.stats.specs.declared.peer_stats.MempoolPeerStats.{MempoolPeerStats}
 use Rattle.answer_bytes.specs.Sent.{Room, Sent, sent-none, sent-then}
+use Rattle.inspector_references.specs.Sets.{unionOf, union-yes, union-no, union-ones, one-shifted}
 use Rattle.inspector_events.specs.Told.{Open, upto-split, open-left, open-rest, open-first, open-all}
 use Rattle.inspector_events.specs.Passing.{upto-front}
 
 -- what the cells hold of peer a
 abbrev pub peerOf : List MempoolPeerStats → ℕ → Option Stats
 peerOf l a = statsOf (getD l a (noStats (record { 0 = 0 })))
+
+-- the set of the peers below k that have stats, and that of all
+abbrev pub withStatsTo : List MempoolPeerStats → ℕ → ℕ
+withStatsTo l k = unionOf (λ a. isSome (peerOf l a)) (λ a. 2 ^ a) k
+
+unfoldable pub withStats : List MempoolPeerStats → ℕ
+withStats l = withStatsTo l 32
 
 -- the number of peers that have stats, and those of each
 unfoldable pub peersBytes : (ℕ → Option Stats) → List ℕ
@@ -132,23 +142,20 @@ module _ (w : Bool) (b : List ℕ) (at a : ℕ) (t : MempoolPeerStats) where
 
 -- ---- all peers
 
--- as many as have stats: of none
-pub peers-none : (l : List MempoolPeerStats) → 0 ≡ length (those 0 (λ a. isSome (peerOf l a)))
-unfolding those
-peers-none l = refl
-
--- one peer more: it has stats, or not
-module _ (l : List MempoolPeerStats) (k n : ℕ) (h : n ≡ length (those k (λ a. isSome (peerOf l a)))) where
-  pub peers-yes : (r : ℕ) → (getD l k (noStats (record { 0 = 0 })) .«filled_rounds» ≡ 0 → ⊥) → r ≡ n + 1 → r ≡ length (those (k + 1) (λ a. isSome (peerOf l a)))
+-- a peer that the loop takes in, or passes over
+module _ (l : List MempoolPeerStats) (k g r : ℕ) (h : g ≡ withStatsTo l k) where
+  pub with-yes : (x : ℕ) → (getD l k (noStats (record { 0 = 0 })) .«filled_rounds» ≡ 0 → ⊥) → x ≡ 1 * 2 ^ k % 2 ^ 32 → k < 32 → r ≡ bitOr g x → r ≡ withStatsTo l (k + 1)
   unfolding statsOf isSome
-  peers-yes r d e = e ∙ (add-one n ∙ rw (add-one k) (ap suc h ∙ sym (those-yes k (λ a. isSome (peerOf l a)) (rw (ne-eqb _ 0 d) refl))))
+  with-yes x d e m q = union-yes (λ a. isSome (peerOf l a)) (λ a. 2 ^ a) k g r h true (sym (rw (ne-eqb _ 0 d) refl)) x refl (e ∙ one-shifted 32 k m) q
 
-  pub peers-no : (r : ℕ) → getD l k (noStats (record { 0 = 0 })) .«filled_rounds» ≡ 0 → r ≡ n → r ≡ length (those (k + 1) (λ a. isSome (peerOf l a)))
+  pub with-no : getD l k (noStats (record { 0 = 0 })) .«filled_rounds» ≡ 0 → r ≡ g → r ≡ withStatsTo l (k + 1)
   unfolding statsOf isSome
-  peers-no r d e = e ∙ (h ∙ rw (add-one k) (sym (those-no k (λ a. isSome (peerOf l a)) (rw (eq-eqb _ 0 d) refl))))
+  with-no d q = union-no (λ a. isSome (peerOf l a)) (λ a. 2 ^ a) k g r h false (sym (rw (eq-eqb _ 0 d) refl)) refl q
 
-  pub peers-end : (m : ℕ) → k ≡ m → n ≡ length (those m (λ a. isSome (peerOf l a)))
-  peers-end m e = h ∙ ap (λ i. length (those i (λ a. isSome (peerOf l a)))) e
+-- their number is that of the ones
+pub with-ones : (l : List MempoolPeerStats) (s n : ℕ) → s ≡ withStats l → n ≡ ones s → n ≡ length (those 32 (λ a. isSome (peerOf l a)))
+unfolding withStats
+with-ones l s n e h = h ∙ (ap ones e ∙ union-ones 32 (λ a. isSome (peerOf l a)))
 
 module _ (w : Bool) (b : List ℕ) (at : ℕ) (f : ℕ → Option Stats) (n : ℕ) (h : n ≡ length (those 32 (λ a. isSome (f a)))) where
   -- their number first

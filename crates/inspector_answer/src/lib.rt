@@ -28,6 +28,8 @@ use inspector_inspect::first_shown;
 use inspector_rounds::emit_signer_rounds;
 use inspector_rounds::inspect_rounds;
 use models::parts::Round;
+use models::tables::PEERS_MAX;
+use models::tables::ROUNDS_MAX;
 use stats::peer_stats::MempoolPeerStats;
 use stats::ranges::Since;
 
@@ -35,7 +37,7 @@ pub mod faults;
 pub mod peers;
 
 // The stats of the peers, and the number of events.
-fn emit_head(stats: [MempoolPeerStats; 32], count: usize, b: &mut [u8], write: bool) -> usize
+fn emit_head(stats: [MempoolPeerStats; PEERS_MAX], count: usize, b: &mut [u8], write: bool) -> usize
     requires { ⌜ Open write (now b) 0 (headBytes (peerOf stats) count) ⌝ }
     ensures { λ r. ⌜ Sent write (now (b .entry)) 0 (headBytes (peerOf stats) count) r (now (b .exit)) ⌝ }
 {
@@ -77,7 +79,7 @@ fn emit_answer(
     order: &[u64],
     first: Round,
     low: Round,
-    stats: [MempoolPeerStats; 32],
+    stats: [MempoolPeerStats; PEERS_MAX],
     count: usize,
     signers: &[u64],
     b: &mut [u8],
@@ -124,7 +126,7 @@ pub fn answer_remove(
         (sinceOf «stats_since») (now (b .entry)) r (now (b .exit)) ⌝ }
 {
     let first = first_shown(s, keys, links, certs, order);
-    let mut signers: [u64; 512] = [0; 512];
+    let mut signers: [u64; ROUNDS_MAX] = [0; ROUNDS_MAX];
     let found = inspect_rounds(
         s,
         keys,

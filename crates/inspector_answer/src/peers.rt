@@ -1,17 +1,19 @@
 // Origin: dag/commit/inspector.rs (take_stats), models/stats.rs (MempoolPeerStats).
 // The stats of the peers as bytes, written or only counted.
 ghost use mathlib.Core.Path.{_≡_};
-ghost use lib.ListN.{getD, length};
 ghost use Rattle.laws.specs.Bytes.{be};
 ghost use Rattle.laws.specs.Lists.{joined};
-ghost use Rattle.laws.specs.Scan.{those};
-ghost use Rattle.spec.specs.Inspect.{counterList, statsBytes, isSome};
+ghost use Rattle.spec.specs.Inspect.{counterList, statsBytes};
 ghost use Rattle.stats.specs.Counters.{countersOf};
 ghost use Rattle.stats.specs.PeerStats.{statsOf};
 ghost use Rattle.answer_bytes.specs.Sent.{Sent};
 ghost use Rattle.inspector_events.specs.Told.{Open};
-ghost use Rattle.inspector_answer.specs.Peers.{peerOf, peersBytes};
+ghost use Rattle.inspector_answer.specs.Peers.{peerOf, peersBytes, withStats};
 use answer_bytes::emit_number;
+use models::parts::peer_count;
+use models::tables::PEER_SLOTS;
+use models::tables::PEERS_MAX;
+use stats::COUNTERS;
 use stats::MempoolPeerCounters;
 use stats::peer_stats::MempoolPeerStats;
 
@@ -23,7 +25,7 @@ fn emit_counters(b: &mut [u8], at: usize, write: bool, counters: MempoolPeerCoun
     let counts = counters.counts();
     let mut out = at;
     let mut k: usize = 0;
-    while k < 9 {
+    while k < COUNTERS {
         out = emit_number(b, out, write, 2, counts[k] as u64);
         k += 1;
     }
@@ -49,31 +51,36 @@ fn emit_peer(b: &mut [u8], at: usize, write: bool, peer: u32, stats: MempoolPeer
     emit_number(b, end, write, 4, score as u64)
 }
 
-// How many peers have stats.
-fn count_peers(stats: [MempoolPeerStats; 32]) -> u64
-    ensures { λ r. ⌜ r ≡ length (those 32 (λ a. isSome (peerOf stats a))) ⌝ }
+// The peers that have stats, as a set.
+fn peers_with_stats(stats: [MempoolPeerStats; PEERS_MAX]) -> u32
+    ensures { λ r. ⌜ r ≡ withStats stats ⌝ }
 {
-    let mut n: u64 = 0;
+    let mut peers: u32 = 0;
     let mut k: usize = 0;
-    while k < 32 {
+    while k < PEERS_MAX {
         let peer = stats[k];
         if peer.filled_rounds != 0 {
-            n += 1;
+            peers = peers | (1 << k as u32);
         }
         k += 1;
     }
-    n
+    peers
 }
 
 // The number of peers that have stats, and those of each, by rising number of the peer.
-pub fn emit_stats(stats: [MempoolPeerStats; 32], b: &mut [u8], at: usize, write: bool) -> usize
+pub fn emit_stats(
+    stats: [MempoolPeerStats; PEERS_MAX],
+    b: &mut [u8],
+    at: usize,
+    write: bool,
+) -> usize
     requires { ⌜ Open write (now b) at (peersBytes (peerOf stats)) ⌝ }
     ensures { λ r. ⌜ Sent write (now (b .entry)) at (peersBytes (peerOf stats)) r (now (b .exit)) ⌝ }
 {
-    let peers = count_peers(stats);
-    let mut out = emit_number(b, at, write, 1, peers);
+    let peers = peer_count(peers_with_stats(stats));
+    let mut out = emit_number(b, at, write, 1, peers as u64);
     let mut k: u32 = 0;
-    while k < 32 {
+    while k < PEER_SLOTS {
         out = emit_peer(b, out, write, k, stats[k as usize]);
         k += 1;
     }

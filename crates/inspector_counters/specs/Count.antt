@@ -7,7 +7,7 @@ use native.Mathlib.Omega.{arith}
 use lib.Dec.{ltb}
 use lib.ListN.{length}
 use borrow.Author.Tests.{eq-eqb, ne-eqb, lt-ltb}
-use Rattle.laws.specs.Test.{byTest, leOr, and-no, and-yes}
+use Rattle.laws.specs.Test.{byTest, and-no, and-yes}
 use Rattle.laws.specs.Scan.{those, those-same}
 use Rattle.laws.specs.Lists.{has, keep, keep-append, count, upTo}
 use Rattle.spec.specs.Store.{Store}
@@ -19,19 +19,15 @@ use Rattle.commit_state.specs.declared.state.State.{State}
 use Rattle.tables_test.specs.Model.{shape-says, places-says}
 use Rattle.tables_test.specs.View.{view}
 use Rattle.tables_test.specs.Refines.{Started}
-use Rattle.back_drain.specs.Model.{below, below-le, below-low, below-high}
+use Rattle.dag_round_order.specs.Span.{below-le, span-rises, spanOf}
 use Rattle.back_history.specs.Model.{Range}
 use Rattle.back_history.specs.Refines.{one, picked}
 use Rattle.inspector_counters.specs.Places.{between, lowOf, highOf, round-used, places-in}
 use Rattle.inspector_counters.specs.Tests.{versionAt, inspected, chosen, passes, testOf, passes-is}
-use Rattle.inspector_counters.specs.declared.round.Span.{Span}
+use Rattle.dag_round_order.specs.declared.span.Span.{Span}
 use Rattle.inspector_counters.specs.declared.tests.PointTest.{PointTest}
 use Rattle.inspector_counters.specs.declared.tests.Version.{Version}
 use Rattle.inspector_counters.specs.declared.tests.Passed.{Passed}
-
--- the positions of round r, of the first n
-unfoldable pub spanOf : List ℕ → List ℕ → ℕ → ℕ → Span
-spanOf ks os n r = record { low = below ks os n r; high = below ks os n (r + 1) }
 
 -- the place at position low + k is by the author a and passes test w
 unfoldable pub passesAt : List ℕ → List ℕ → List ℕ → ℕ → PointTest → ℕ → ℕ → Bool
@@ -79,13 +75,7 @@ pub span-range : (ks cs os : List ℕ) (n r : ℕ) (x : Span) → x ≡ spanOf k
 unfolding spanOf
 span-range ks cs os n r x e so l few same inside =
     subst (λ (y : Span). Range cs os (y .low) (y .high)) (sym e)
-    (leOr low high (λ h. h) (λ h. absurd (omega (arith, below-low ks os n r high h, below-high ks os n (r + 1) high so (omega arith) (omega (arith, h, below-le ks os n r))))), omega (arith, below-le ks os n (r + 1), l), few, same, λ i h. inside i (omega (arith, h, below-le ks os n (r + 1))))
-  where
-    low : ℕ
-    low = below ks os n r
-
-    high : ℕ
-    high = below ks os n (r + 1)
+    (span-rises ks os n r so, omega (arith, below-le ks os n (r + 1), l), few, same, λ i h. inside i (omega (arith, h, below-le ks os n (r + 1))))
 
 module _ (s : State) (ks ls cs os : List ℕ) (fk : Fit ks) (fl : Fit ls) (t : Started s ks ls cs os) (r : ℕ) where
   -- the store
@@ -129,11 +119,6 @@ module _ (s : State) (ks ls cs os : List ℕ) (fk : Fit ks) (fl : Fit ls) (t : S
       ∙ (sym (keep-between (of (testOf w v) v a) os low (high - low)) ∙ ap (keep (of (testOf w v) v a)) (sym (places-in s ks ls cs os fk fl t r)))
 
 -- ---- the steps of the code
-
--- the two ends
-pub span-is : (ks os : List ℕ) (n r next low high : ℕ) → next ≡ r + 1 → low ≡ below ks os n r → high ≡ below ks os n next → record { low = low; high = high } ≡ spanOf ks os n r
-unfolding spanOf
-span-is ks os n r next low high h e d = λ i. record { low = e i; high = (d ∙ ap (below ks os n) h) i }
 
 module _ (ks cs : List ℕ) (a : ℕ) (w : PointTest) (q : ℕ) where
   -- another author

@@ -23,7 +23,7 @@ use Rattle.commit_state.specs.declared.state.State.{State}
 use Rattle.tables_test.specs.View.{view}
 use Rattle.tables_test.specs.Whole.{places-is}
 use Rattle.tables_test.specs.Refines.{Started}
-use Rattle.back_drain.specs.Model.{below, below-le, below-low, below-high}
+use Rattle.dag_round_order.specs.Span.{below, below-le, below-low, below-high, span-round}
 use Rattle.back_history.specs.RefinesNeeded.{named-used, used-named, used-round}
 use Rattle.back_history.specs.Refines.{ordered-one, one, picked, picked-elim, picked-intro, picked-pairs, well, ids-rise}
 
@@ -83,7 +83,7 @@ module _ (s : State) (ks ls cs os : List ℕ) (fk : Fit ks) (fl : Fit ls) (t : S
 
   -- the round at one of its positions
   pub round-at : (i : ℕ) → low ≤ i → i < high → roundAt ks (placeAt os i) ≡ r
-  round-at i l h = omega (arith, below-high ks os n r i (t .facts .sorted) l (omega (arith, h, high-le)), below-low ks os n (r + 1) i h)
+  round-at i l h = span-round ks os n r i (t .facts .sorted) l h
 
   -- in the store
   round-is : (i : ℕ) → low ≤ i → i < high → store.roundAt v (placeAt os i) ≡ r

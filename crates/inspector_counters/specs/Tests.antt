@@ -76,10 +76,10 @@ passes ks cs a w q = eqb (authorAt ks q) a && chosen w (inspected (versionAt ks 
 -- ---- the steps of the code
 
 -- what is read, from its parts
-pub version-is : (ks cs : List ℕ) (q : ℕ) (x : Look) (g p : Bool) → x ≡ lookPlace ks q → g ≡ ltb 0 (heightOf (getD cs q 0)) → p ≡ hasProof (getD cs q 0)
-    → record { look = x; certified = g; proved = p; cause = bitOf 4 (marksAt ks q) } ≡ versionAt ks cs q
+pub version-is : (ks cs : List ℕ) (q m : ℕ) (x : Look) (g p : Bool) → m ≡ marksAt ks q → x ≡ lookPlace ks q → g ≡ ltb 0 (heightOf (getD cs q 0)) → p ≡ hasProof (getD cs q 0)
+    → record { look = x; certified = g; proved = p; cause = bitOf 4 m } ≡ versionAt ks cs q
 unfolding versionAt
-version-is ks cs q x g p d e h = λ i. record { look = d i; certified = e i; proved = h i; cause = bitOf 4 (marksAt ks q) }
+version-is ks cs q m x g p f d e h = λ i. record { look = d i; certified = e i; proved = h i; cause = bitOf 4 (f i) }
 
 -- the tests of each case, from what none passes
 module _ (n : Passed) (x : DagPoint) (g p m : Bool) (e : n ≡ nothing) where

@@ -46,5 +46,5 @@ pub fn peer_counters(counts: PointCounts, leader: bool, references: u16) -> Memp
         ill_formed_points: counts.ill_formed,
         references_skipped: 0,
     };
-    stats::skipped_added(counters, references)
+    counters.add_references_skipped(references)
 }

@@ -8,6 +8,7 @@ ghost use Rattle.back_history.specs.Model.{Range};
 ghost use Rattle.inspector_counters.specs.Counts.{Few, noCounts, counting, Counted};
 use crate::tests::Passed;
 use crate::tests::version_at;
+use models::tables::PEERS_MAX;
 
 pub struct PointCounts {
     pub found: u16,
@@ -63,17 +64,17 @@ pub fn round_counts(
     order: &[u64],
     low: usize,
     high: usize,
-) -> [PointCounts; 32]
+) -> [PointCounts; PEERS_MAX]
     requires { ⌜ Range (now certs) (now order) low high ⌝ }
     requires { ⌜ length (now keys) ≡ length (now order) * 8 ⌝ }
     ensures { λ r. ⌜ Counted (now (keys .entry)) (now (certs .entry)) (now (order .entry)) low (high - low) r ⌝ }
 {
-    let mut counts = [PointCounts::new(); 32];
+    let mut counts = [PointCounts::new(); PEERS_MAX];
     let mut k: usize = 0;
     while k < high - low {
         let q = dag_round_keys::place(order, high, low + k);
-        let author = laws::slot(keys[q * 8 + 1]);
-        if author < 32 {
+        let author = laws::slot(models::place::author(keys, q));
+        if author < PEERS_MAX {
             let version = version_at(keys, certs, q);
             let passed = version.inspect();
             let cell = counts[author];

@@ -1,7 +1,5 @@
 // Origin: dag/commit/inspector.rs, models/stats.rs (MempoolPeerCounters).
-// The points of one round: the tests of one (tests), which points they are (round), how many of each author pass (counts), and the
-// counters that follow (counters).
+// The points of one round: the tests of one (tests), how many of each author pass (counts), and the counters that follow (counters).
 pub mod counters;
 pub mod counts;
-pub mod round;
 pub mod tests;

@@ -3,12 +3,13 @@
 ghost use mathlib.Core.Path.{_≡_};
 ghost use Prim.Native.Nat.{_+_, _*_, _<_, _≤_};
 ghost use lib.ListN.{length};
-ghost use Rattle.inspector_counters.specs.Tests.{nothing, versionAt, inspectCase, inspected, chosen};
+ghost use Rattle.inspector_counters.specs.Tests.{nothing, versionAt, inspectCase, inspected, chosen, passes};
 use dag_round_keys::look::Look;
 use dag_round_keys::look::look_place;
 use laws::and;
 use models::cert::Cert;
 use models::dag_point::DagPoint;
+use models::place::marks_at;
 
 // The inspector's tests of a point.
 pub enum PointTest {
@@ -76,7 +77,7 @@ pub fn version_at(keys: &[u64], certs: &[u64], q: usize) -> Version
     requires { ⌜ (q * 8 + 8 ≤ length (now keys)) × (q < length (now certs)) ⌝ }
     ensures { λ r. ⌜ r ≡ versionAt (now (keys .entry)) (now (certs .entry)) q ⌝ }
 {
-    let marks = keys[q * 8 + 7];
+    let marks = marks_at(keys, q);
     let cert = Cert(certs[q]);
     let look = look_place(keys, q);
     let certified = cert.is_certified();
@@ -135,4 +136,18 @@ impl Version {
             Look::Never => Passed::new(),
         }
     }
+}
+
+// Whether the point at place q is by this author and passes the test.
+pub fn passes(keys: &[u64], certs: &[u64], q: usize, author: u32, test: PointTest) -> bool
+    requires { ⌜ (q * 8 + 8 ≤ length (now keys)) × (q < length (now certs)) ⌝ }
+    ensures { λ r. ⌜ r ≡ passes (now (keys .entry)) (now (certs .entry)) author test q ⌝ }
+{
+    let by = models::place::author(keys, q);
+    if by != author as u64 {
+        return false;
+    }
+    let version = version_at(keys, certs, q);
+    let passed = version.inspect();
+    passed.by(test)
 }

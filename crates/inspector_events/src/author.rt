@@ -16,9 +16,11 @@ use crate::emitted::Emitted;
 use answer_bytes::emit_digest;
 use answer_bytes::emit_id;
 use answer_bytes::emit_number;
-use inspector_counters::round::passes;
 use inspector_counters::tests::PointTest;
+use inspector_counters::tests::passes;
 use models::parts::Round;
+use models::tables::KEY_DIGEST;
+use models::tables::KEY_WORDS;
 
 // The event of this kind with the id at place q.
 pub fn emit_single(
@@ -91,7 +93,7 @@ fn emit_digests(
     while k < high - low {
         let q = dag_round_keys::place(order, high, low + k);
         if passes(keys, certs, q, author, PointTest::Found) {
-            let at = emit_digest(b, out.at, write, keys, q * 8 + 2);
+            let at = emit_digest(b, out.at, write, keys, q * KEY_WORDS + KEY_DIGEST);
             out = Emitted {
                 at,
                 count: out.count + 1,

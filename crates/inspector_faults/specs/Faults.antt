@@ -8,10 +8,11 @@ use lib.ListN.{length, getD}
 use borrow.Author.Tests.{le-ltb}
 use Rattle.laws.specs.Lists.{upTo}
 use Rattle.spec.specs.Inspect.{Event, eventBytes}
-use Rattle.inspector_counters.specs.Count.{countOf, spanOf}
+use Rattle.inspector_counters.specs.Count.{countOf}
+use Rattle.dag_round_order.specs.Span.{spanOf}
 use Rattle.inspector_counters.specs.Counts.{noCounts, countsTo, Counted}
 use Rattle.inspector_counters.specs.declared.counts.PointCounts.{PointCounts}
-use Rattle.inspector_counters.specs.declared.round.Span.{Span}
+use Rattle.dag_round_order.specs.declared.span.Span.{Span}
 use Rattle.inspector_counters.specs.declared.tests.PointTest.{PointTest}
 use Rattle.inspector_counters.specs.declared.tests.PointTest.the-variants as test
 use Rattle.inspector_events.specs.declared.emitted.Emitted.{Emitted}

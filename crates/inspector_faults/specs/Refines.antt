@@ -14,7 +14,7 @@ use Rattle.tables_test.specs.View.{view}
 use Rattle.tables_test.specs.Refines.{Started}
 use Rattle.inspector_counters.specs.Places.{lowOf, highOf}
 use Rattle.inspector_counters.specs.Tests.{testOf}
-use Rattle.inspector_counters.specs.Count.{spanOf}
+use Rattle.dag_round_order.specs.Span.{spanOf}
 use Rattle.inspector_events.specs.Passing.{upto-same}
 use Rattle.inspector_faults.specs.Faults.{kindOf, testFor, bySingle, faultOf, roundFaults}
 use Rattle.inspector_events.specs.Refines.{singles-is, fork-is}

@@ -11,14 +11,15 @@ ghost use Rattle.back_history.specs.Model.{Range};
 ghost use Rattle.inspector_counters.specs.Count.{countOf};
 ghost use Rattle.inspector_events.specs.Told.{Told, Ready};
 ghost use Rattle.inspector_faults.specs.Faults.{kindOf, testFor, countFor, faultOf, roundFaults};
+use dag_round_order::span::span_at;
 use inspector_counters::counts::PointCounts;
 use inspector_counters::counts::round_counts;
-use inspector_counters::round::span_at;
 use inspector_counters::tests::PointTest;
 use inspector_events::author::emit_fork;
 use inspector_events::author::emit_singles;
 use inspector_events::emitted::Emitted;
 use models::parts::Round;
+use models::tables::PEER_SLOTS;
 
 // The faults of points that remove's events tell of.
 pub enum Fault {
@@ -143,7 +144,7 @@ pub fn emit_faults(
     let counts = round_counts(keys, certs, order, low, high);
     let mut out = e;
     let mut author: u32 = 0;
-    while author < 32 {
+    while author < PEER_SLOTS {
         let n = fault.count(counts[author as usize]);
         out = emit_fault(
             keys,

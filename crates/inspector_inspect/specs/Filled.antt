@@ -23,12 +23,13 @@ use Rattle.commit_state.specs.Memory.{memoryHolds}
 use Rattle.commit_state.specs.declared.state.State.{State}
 use Rattle.tables_test.specs.View.{view}
 use Rattle.tables_test.specs.Refines.{Started, counted}
-use Rattle.back_walk.specs.Words.{Placed}
+use Rattle.models.specs.Ids.{Placed}
 use Rattle.back_history.specs.Model.{Range}
 use Rattle.back_history.specs.Refines.{well}
 use Rattle.inspector_counters.specs.Places.{span-few}
-use Rattle.inspector_counters.specs.Count.{spanOf, span-ready, round-ready}
-use Rattle.inspector_counters.specs.declared.round.Span.{Span}
+use Rattle.inspector_counters.specs.Count.{span-ready, round-ready}
+use Rattle.dag_round_order.specs.Span.{spanOf}
+use Rattle.dag_round_order.specs.declared.span.Span.{Span}
 use Rattle.inspector_references.specs.Trusted.{Listed, trustedIn, trusted-is}
 use Rattle.inspector_references.specs.Referring.{rowAuthor, RowOf, Retained, trusted-placed}
 use Rattle.inspector_rows.specs.Rows.{entriesOf, RowsFit}

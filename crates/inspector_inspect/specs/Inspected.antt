@@ -25,11 +25,11 @@ use Rattle.tables_test.specs.View.{view}
 use Rattle.tables_test.specs.Refines as refines
 use Rattle.tables_test.specs.Refines.{Started}
 use Rattle.back_history.specs.Refines.{well}
-use Rattle.inspector_counters.specs.Count.{spanOf}
+use Rattle.dag_round_order.specs.Span.{spanOf}
 use Rattle.inspector_counters.specs.Counts.{noCounts, Counted}
 use Rattle.inspector_counters.specs.Counters.{assembled, leads, peer-counted, peer-few}
 use Rattle.inspector_counters.specs.declared.counts.PointCounts.{PointCounts}
-use Rattle.inspector_counters.specs.declared.round.Span.{Span}
+use Rattle.dag_round_order.specs.declared.span.Span.{Span}
 use Rattle.inspector_rows.specs.Rows.{entries-length}
 use Rattle.inspector_not_referenced.specs.Signers.{skippedBy}
 use Rattle.inspector_events.specs.declared.emitted.Emitted.{Emitted}

@@ -22,7 +22,7 @@ use Rattle.commit_state.specs.declared.state.State.{State}
 use Rattle.tables_test.specs.View.{view}
 use Rattle.tables_test.specs.Refines as refines
 use Rattle.tables_test.specs.Refines.{Started}
-use Rattle.back_walk.specs.Words.{Placed}
+use Rattle.models.specs.Ids.{Placed}
 use Rattle.back_history.specs.Refines.{well}
 use Rattle.inspector_references.specs.Trusted.{Listed}
 use Rattle.inspector_references.specs.Referring.{rowAuthor, Retained, trusted-placed}

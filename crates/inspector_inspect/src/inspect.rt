@@ -10,20 +10,23 @@ ghost use Rattle.inspector_inspect.specs.Inspected.{skippedOf, Peers, Sk
 use crate::round::emit_reported;
 use crate::round::report;
 use commit_state::state::State;
+use dag_round_order::span::span_at;
 use inspector_counters::counters::is_leader;
 use inspector_counters::counters::peer_counters;
 use inspector_counters::counts::PointCounts;
 use inspector_counters::counts::round_counts;
-use inspector_counters::round::span_at;
 use inspector_events::emitted::Emitted;
 use inspector_not_referenced::references_skipped;
 use models::parts::Round;
+use models::tables::PEER_SLOTS;
+use models::tables::PEERS_MAX;
+use models::tables::ROUND_SLOTS;
 use stats::MempoolPeerCounters;
 
 // What is found at a round: the counters of peers 0 to 31, the signers that are reported, and where the events of kind 5 end, and their
 // number.
 pub struct Inspected {
-    pub counters: [MempoolPeerCounters; 32],
+    pub counters: [MempoolPeerCounters; PEERS_MAX],
     pub signers: u64,
     pub owed: Emitted,
 }
@@ -41,18 +44,18 @@ fn skipped_of(sets: &[u64], n: usize, signers: u64, a: u32) -> u16
 
 // The counters of peers 0 to 31, from the counts of their points, the used mark of the round, and the signers reported by the first n rows.
 fn counters_of(
-    counts: [PointCounts; 32],
+    counts: [PointCounts; PEERS_MAX],
     used: u32,
     sets: &[u64],
     n: usize,
     signers: u64,
-) -> [MempoolPeerCounters; 32]
+) -> [MempoolPeerCounters; PEERS_MAX]
     requires { ⌜ (n ≤ length (now sets)) × (n ≤ 128) ⌝ }
     ensures { λ r. ⌜ Peers counts used (now (sets .entry)) n signers 32 r ⌝ }
 {
-    let mut counters = [MempoolPeerCounters::new(); 32];
+    let mut counters = [MempoolPeerCounters::new(); PEERS_MAX];
     let mut a: u32 = 0;
-    while a < 32 {
+    while a < PEER_SLOTS {
         let leader = is_leader(used, a);
         let skipped = skipped_of(sets, n, signers, a);
         counters[a as usize] = peer_counters(counts[a as usize], leader, skipped);
@@ -72,7 +75,7 @@ fn round_counters(
     sets: &[u64],
     n: usize,
     signers: u64,
-) -> [MempoolPeerCounters; 32]
+) -> [MempoolPeerCounters; PEERS_MAX]
     requires { ⌜ countsAsStarted (view s (now keys) (now links) (now certs) (now order)) ≡ true ⌝ }
     requires { ⌜ (s .bottom .0 ≤ round .0) × (round .0 ≤ s .top .0) × (n ≤ length (now sets)) × (n ≤ 128) ⌝ }
     requires { ⌜ Skips s (now keys) (now links) (now certs) (now order) (round .0) (now sets) n signers ⌝ }
@@ -80,7 +83,7 @@ fn round_counters(
 {
     let span = span_at(keys, order, s.count, round);
     let counts = round_counts(keys, certs, order, span.low, span.high);
-    let record = s.rounds[(round.0 % 512) as usize];
+    let record = s.rounds[(round.0 % ROUND_SLOTS) as usize];
     counters_of(counts, record.used_anchor_proof, sets, n, signers)
 }
 

@@ -11,12 +11,13 @@ ghost use Rattle.inspector_inspect.specs.Filled.{RoundRows, RowsBefore};
 ghost use Rattle.inspector_inspect.specs.After.{firstInspected, memoryLeft};
 use commit_state::state::Memory;
 use commit_state::state::State;
-use inspector_counters::round::span_at;
+use dag_round_order::span::span_at;
 use inspector_references::trusted_places;
 use inspector_rows::memory_of;
 use inspector_rows::must_reference;
 use inspector_rows::rows_of;
 use models::parts::Round;
+use models::tables::ROWS_WORDS;
 
 pub mod inspect;
 pub mod round;
@@ -107,7 +108,7 @@ pub fn memory_after(
         return s.memory;
     }
     let last = low.prev();
-    let mut rows: [u64; 1408] = [0; 1408];
+    let mut rows: [u64; ROWS_WORDS] = [0; ROWS_WORDS];
     let n = fill_round(s, keys, links, certs, order, last, &mut rows);
     memory_of(last, n, &rows)
 }

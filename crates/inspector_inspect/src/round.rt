@@ -16,13 +16,14 @@ ghost use Rattle.inspector_inspect.specs.Owed.{lastBefore, Owed};
 ghost use Rattle.inspector_inspect.specs.Report.{IsReported, owedOf};
 use crate::fill_before;
 use commit_state::state::State;
-use inspector_counters::round::span_at;
+use dag_round_order::span::span_at;
 use inspector_events::emitted::Emitted;
 use inspector_not_referenced::NotReferenced;
 use inspector_not_referenced::not_referenced;
 use inspector_references::trusted_places;
 use inspector_signers::emit_signers;
 use models::parts::Round;
+use models::tables::ROUND_POINTS_MAX;
 
 // The round of the rows that a round meets.
 pub fn last_before(s: State, round: Round) -> Round
@@ -76,8 +77,8 @@ pub fn signers_at(
 pub struct Reported {
     pub rows: usize,
     pub count: usize,
-    pub places: [usize; 128],
-    pub sets: [u64; 128],
+    pub places: [usize; ROUND_POINTS_MAX],
+    pub sets: [u64; ROUND_POINTS_MAX],
     pub signers: u64,
 }
 

@@ -5,7 +5,7 @@ ghost use mathlib.Core.Path.{_≡_};
 ghost use Prim.Native.Nat.{ℕ, _+_, _*_, _<_, _≤_};
 ghost use lib.ListN.{length, getD};
 ghost use Rattle.models.specs.Tables.{authorAt};
-ghost use Rattle.back_walk.specs.Words.{Placed};
+ghost use Rattle.models.specs.Ids.{Placed};
 ghost use Rattle.inspector_references.specs.Referring.{rowAuthor};
 ghost use Rattle.inspector_not_referenced.specs.Later.{samePrevious, owedLater};
 ghost use Rattle.inspector_not_referenced.specs.Excluded.{excluded};
@@ -13,10 +13,17 @@ ghost use Rattle.inspector_not_referenced.specs.Signers.{rowAuthors, pla
 use inspector_references::referring;
 use inspector_references::with_peer;
 use inspector_references::without;
+use models::tables::PEERS_MAX;
+use models::tables::ROUND_POINTS_MAX;
+use models::tables::ROW_AUTHOR;
+use models::tables::ROW_PEERS;
+use models::tables::ROW_PREVIOUS;
+use models::tables::ROW_SIGNED;
+use models::tables::ROW_WORDS;
 
 // The signers that are reported, of each row and of all.
 pub struct NotReferenced {
-    pub sets: [u64; 128],
+    pub sets: [u64; ROUND_POINTS_MAX],
     pub signers: u64,
 }
 
@@ -25,11 +32,16 @@ fn same_previous(rows: &[u64], k: usize, j: usize) -> bool
     requires { ⌜ (k * 11 + 11 ≤ length (now rows)) × (j * 11 + 11 ≤ length (now rows)) ⌝ }
     ensures { λ r. ⌜ r ≡ samePrevious (now (rows .entry)) k j ⌝ }
 {
-    let previous = rows[j * 11 + 5];
+    let previous = rows[j * ROW_WORDS + ROW_PREVIOUS];
     if previous == 0 {
         return false;
     }
-    dag_round_keys::same_digest(rows, j * 11 + 6, rows, k * 11 + 6)
+    dag_round_keys::same_digest(
+        rows,
+        j * ROW_WORDS + ROW_SIGNED,
+        rows,
+        k * ROW_WORDS + ROW_SIGNED,
+    )
 }
 
 // The signers of the rows after row k, of n, that have its previous point.
@@ -43,7 +55,7 @@ fn owed_later(rows: &[u64], n: usize, k: usize) -> u64
     while i < n - from {
         let j = from + i;
         if same_previous(rows, k, j) {
-            let more = rows[j * 11 + 10];
+            let more = rows[j * ROW_WORDS + ROW_PEERS];
             peers = peers | more;
         }
         i += 1;
@@ -67,15 +79,15 @@ fn exclude_witness(
     requires { ⌜ ((j : ℕ) → j < m → Placed (now keys) (now links) (getD (now places) j 0)) ⌝ }
     ensures { λ r. ⌜ r ≡ excluded (now (keys .entry)) (now (links .entry)) (now (places .entry)) m live (now (rows .entry)) n k ⌝ }
 {
-    let peers = rows[k * 11 + 10];
+    let peers = rows[k * ROW_WORDS + ROW_PEERS];
     if peers == 0 {
         return 0;
     }
-    let previous = rows[k * 11 + 5];
+    let previous = rows[k * ROW_WORDS + ROW_PREVIOUS];
     if previous == 0 {
         return 0;
     }
-    let seen = referring(keys, links, places, m, 32, live, rows, k);
+    let seen = referring(keys, links, places, m, PEERS_MAX, live, rows, k);
     let later = owed_later(rows, n, k);
     without(without(peers, seen), later)
 }
@@ -89,7 +101,7 @@ fn row_authors(rows: &[u64], n: usize) -> u64
     let mut peers: u64 = 0;
     let mut k: usize = 0;
     while k < n {
-        peers = with_peer(peers, rows[k * 11 + 0]);
+        peers = with_peer(peers, rows[k * ROW_WORDS + ROW_AUTHOR]);
         k += 1;
     }
     peers
@@ -105,7 +117,7 @@ fn place_authors(keys: &[u64], places: &[usize], m: usize) -> u64
     let mut j: usize = 0;
     while j < m {
         let q = places[j];
-        peers = with_peer(peers, dag_round_keys::author(keys, q));
+        peers = with_peer(peers, models::place::author(keys, q));
         j += 1;
     }
     peers
@@ -143,7 +155,7 @@ pub fn not_referenced(
     ensures { λ r. ⌜ Cells (cellOf (now (keys .entry)) (now (links .entry)) (now (places .entry)) m live adjacent (now (rows .entry)) n) n (r .sets) (r .signers) ⌝ }
 {
     let both = active(keys, places, m, adjacent, rows, n);
-    let mut sets: [u64; 128] = [0; 128];
+    let mut sets: [u64; ROUND_POINTS_MAX] = [0; ROUND_POINTS_MAX];
     let mut signers: u64 = 0;
     let mut k: usize = 0;
     while k < n {

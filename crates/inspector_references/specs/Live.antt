@@ -10,7 +10,7 @@ use Rattle.laws.specs.Test.{both, and-l, and-r, same-test}
 use Rattle.laws.specs.Scan.{any-intro, any-elim}
 use Rattle.models.specs.Digest.{Fit, digestAt}
 use Rattle.models.specs.Tables.{roundAt, authorAt, digestOf, statusAt, Used, targetAt, dist}
-use Rattle.tables_heights.specs.View.{Live}
+use Rattle.models.specs.Live.{Live}
 use Rattle.tables_links.specs.Links.{digAt}
 use Rattle.tables_links.specs.Named.{Names, Found}
 use Rattle.commit_state.specs.declared.state.State.{State}

@@ -28,7 +28,7 @@ use Rattle.commit_state.specs.declared.state.State.{State}
 use Rattle.tables_test.specs.Model.{shape-says}
 use Rattle.tables_test.specs.View.{view}
 use Rattle.tables_test.specs.Refines.{Started, counted}
-use Rattle.back_walk.specs.Words.{Placed}
+use Rattle.models.specs.Ids.{Placed}
 use Rattle.back_history.specs.RefinesNeeded.{named-used, used-point, used-round}
 use Rattle.inspector_references.specs.Sets.{unionOf, union-same, union-member, one-member}
 use Rattle.inspector_references.specs.Trusted.{Listed, listed-in, has-take, has-keep}
@@ -72,9 +72,9 @@ unfolding referringBy
 referring-same ks ls l m n b live rs k h = union-same _ _ _ _ n (λ j i. ap (λ (q : ℕ). refersRow ls q b live rs k) (h j i)) (λ j i. ap (λ (q : ℕ). 2 ^ authorAt ks q) (h j i))
 
 module _ (ls : List ℕ) (q b : ℕ) (live : Bool) (rs : List ℕ) (k : ℕ) where
-  pub row-live : (a : ℕ) → live ≡ true → a ≡ rowAuthor rs k → eqb (getD ls (q * 328 + 8 + b + a) 0) (rowPrevious rs k) ≡ refersRow ls q b live rs k
+  pub row-live : (a t : ℕ) → live ≡ true → a ≡ rowAuthor rs k → t ≡ targetAt ls q (b + a) → eqb t (rowPrevious rs k) ≡ refersRow ls q b live rs k
   unfolding refersRow
-  row-live a t e = let z : q * 328 + 8 + b + a ≡ q * 328 + 8 + (b + a) = omega arith in rw (t, z, e) refl
+  row-live a t y e x = rw (x, y, e) refl
 
   pub row-digest : (r : Bool) → live ≡ false → r ≡ refersAt ls q b (rowSigned rs k) → r ≡ refersRow ls q b live rs k
   unfolding refersRow

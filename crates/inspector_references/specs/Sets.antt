@@ -6,11 +6,13 @@ use native.Mathlib.Omega.{arith}
 use native.Mathlib.Numerals.{add-one}
 use native.Mathlib.Nat.{one-mul, zero-div, mod-eq-of-lt}
 use lib.Dec.{eqb}
-use lib.Bits.{bitAnd, bitOr, bitXor, and-shr, and-mod, or-lt, xor-lt, and-le-l}
+use lib.Bits.{bitAnd, bitOr, bitXor, and-shr, and-mod, or-lt, or-shifted-r, xor-lt, and-le-l}
+use lib.Count.{ones, ones-cat}
+use lib.ListN.{length}
 use lib.Pow.{pow-lt, pow-pos}
 use borrow.Author.Tests.{eq-eqb, ne-eqb}
 use Rattle.laws.specs.Test.{byTest, sameOr}
-use Rattle.laws.specs.Scan.{any}
+use Rattle.laws.specs.Scan.{any, those}
 use Rattle.laws.specs.Peers.{member, two-bits, or-bit, pow-bit-same, pow-bit-other}
 use Rattle.laws.specs.Tally.{xor-bit}
 
@@ -25,9 +27,9 @@ unionOf f s (suc n) = cond (f n) (bitOr (unionOf f s n) (s n)) (unionOf f s n)
 
 -- ---- the steps of the code
 
--- the word of one peer
-pub one-shifted : (k : ℕ) → k < 32 → 1 * 2 ^ k % 2 ^ 64 ≡ 2 ^ k
-one-shifted k l = rw (one-mul, mod-eq-of-lt (pow-lt {i = k} {j = 64} (omega arith))) refl
+-- the word of one peer, in a number of w bits
+pub one-shifted : (w k : ℕ) → k < w → 1 * 2 ^ k % 2 ^ w ≡ 2 ^ k
+one-shifted w k l = rw (one-mul, mod-eq-of-lt (pow-lt {i = k} {j = w} l)) refl
 
 module _ (f : ℕ → Bool) (s : ℕ → ℕ) where
   pub union-none : 0 ≡ unionOf f s 0
@@ -121,6 +123,22 @@ union-lt m f s zero h = pow-pos m
 union-lt m f s (suc n) h =
     let r : unionOf f s n < 2 ^ m = union-lt m f s n (λ i l. h i (omega arith)) in
     byTest (f n) (λ t. rw t (or-lt m (unionOf f s n) (s n) r (h n (omega arith)))) (λ t. rw t r)
+
+-- one peer more, above all of them
+ones-with : (n s : ℕ) → s < 2 ^ n → ones (bitOr s (2 ^ n)) ≡ suc (ones s)
+unfolding ones
+ones-with n s l =
+    let e : ones (bitOr s (2 ^ n)) ≡ 1 + ones s = ap (λ (x : ℕ). ones (bitOr s x)) (sym (one-mul (2 ^ n))) ∙ (ap ones (or-shifted-r 1 n s l) ∙ ones-cat n 1 s l) in
+    omega (arith, e)
+
+-- the set of the numbers below n that pass: its ones are as many
+pub union-ones : (n : ℕ) (f : ℕ → Bool) → ones (unionOf f (λ i. 2 ^ i) n) ≡ length (those n f)
+unfolding unionOf those ones
+union-ones zero f = refl
+union-ones (suc n) f =
+    let u : unionOf f (λ i. 2 ^ i) n < 2 ^ n = union-lt n f (λ i. 2 ^ i) n (λ i l. pow-lt l) in
+    let r : ones (unionOf f (λ i. 2 ^ i) n) ≡ length (those n f) = union-ones n f in
+    byTest (f n) (λ t. rw t (ones-with n (unionOf f (λ i. 2 ^ i) n) u ∙ ap suc r)) (λ t. rw t r)
 
 -- a part of a set
 pub without-lt : (m x y : ℕ) → x < 2 ^ m → without x y < 2 ^ m

@@ -8,17 +8,27 @@ ghost use lib.ListN.{length, getD};
 ghost use Rattle.laws.specs.Peers.{withPeer};
 ghost use Rattle.models.specs.Digest.{digestAt};
 ghost use Rattle.back_history.specs.Model.{Range};
-ghost use Rattle.back_walk.specs.Words.{Placed};
+ghost use Rattle.models.specs.Ids.{Placed};
 ghost use Rattle.inspector_references.specs.Sets.{without};
 ghost use Rattle.inspector_references.specs.Trusted.{Listed, trustedIn};
 ghost use Rattle.inspector_references.specs.Refs.{refersBy, refersAt};
 ghost use Rattle.inspector_references.specs.Referring.{RowIn, refersRow, referringBy};
 use inspector_counters::tests::version_at;
+use models::place::target;
+use models::tables::DIGEST_WORDS;
+use models::tables::LINK_DIGESTS;
+use models::tables::LINK_WORDS;
+use models::tables::PEERS_MAX;
+use models::tables::ROUND_POINTS_MAX;
+use models::tables::ROW_AUTHOR;
+use models::tables::ROW_PREVIOUS;
+use models::tables::ROW_SIGNED;
+use models::tables::ROW_WORDS;
 
 // The places of a round's trusted points, by rising digest.
 pub struct Trusted {
     pub count: usize,
-    pub places: [usize; 128],
+    pub places: [usize; ROUND_POINTS_MAX],
 }
 
 // Those of the points at positions `low` to `high`.
@@ -33,7 +43,7 @@ pub fn trusted_places(
     requires { ⌜ (length (now keys) ≡ length (now order) * 8) × (high - low ≤ 128) ⌝ }
     ensures { λ r. ⌜ Listed (r .places) (r .count) (trustedIn (now (keys .entry)) (now (certs .entry)) (now (order .entry)) low (high - low)) ⌝ }
 {
-    let mut places: [usize; 128] = [0; 128];
+    let mut places: [usize; ROUND_POINTS_MAX] = [0; ROUND_POINTS_MAX];
     let mut count: usize = 0;
     let mut k: usize = 0;
     while k < high - low {
@@ -54,10 +64,15 @@ fn refers_by(links: &[u64], q: usize, k: usize, words: &[u64], p: usize) -> bool
     requires { ⌜ (q * 328 + 328 ≤ length (now links)) × (k < 64) × (p + 4 ≤ length (now words)) ⌝ }
     ensures { λ r. ⌜ r ≡ refersBy (now (links .entry)) q (digestAt (now (words .entry)) p) k ⌝ }
 {
-    if tables_links::target(links, q, k) == 0 {
+    if target(links, q, k) == 0 {
         return false;
     }
-    dag_round_keys::same_digest(links, q * 328 + 72 + k * 4, words, p)
+    dag_round_keys::same_digest(
+        links,
+        q * LINK_WORDS + LINK_DIGESTS + k * DIGEST_WORDS,
+        words,
+        p,
+    )
 }
 
 // Whether one of the 32 links of place q from `first` on (0 for includes, 32 for witness) is one to that digest.
@@ -66,7 +81,7 @@ fn refers(links: &[u64], q: usize, first: usize, words: &[u64], p: usize) -> boo
     ensures { λ r. ⌜ r ≡ refersAt (now (links .entry)) q first (digestAt (now (words .entry)) p) ⌝ }
 {
     let mut k: usize = 0;
-    while k < 32 {
+    while k < PEERS_MAX {
         if refers_by(links, q, first + k, words, p) {
             return true;
         }
@@ -82,11 +97,11 @@ fn refers_row(links: &[u64], q: usize, first: usize, live: bool, rows: &[u64], k
     ensures { λ r. ⌜ r ≡ refersRow (now (links .entry)) q first live (now (rows .entry)) k ⌝ }
 {
     if live {
-        let author = laws::slot(rows[k * 11 + 0]);
-        let previous = rows[k * 11 + 5];
-        return links[q * 328 + 8 + first + author] == previous;
+        let author = laws::slot(rows[k * ROW_WORDS + ROW_AUTHOR]);
+        let previous = rows[k * ROW_WORDS + ROW_PREVIOUS];
+        return target(links, q, first + author) == previous;
     }
-    refers(links, q, first, rows, k * 11 + 6)
+    refers(links, q, first, rows, k * ROW_WORDS + ROW_SIGNED)
 }
 
 // The set with one peer more.
@@ -124,7 +139,7 @@ pub fn referring(
     while j < n {
         let q = places[j];
         if refers_row(links, q, first, live, rows, k) {
-            peers = with_peer(peers, dag_round_keys::author(keys, q));
+            peers = with_peer(peers, models::place::author(keys, q));
         }
         j += 1;
     }

@@ -18,6 +18,10 @@ use inspector_inspect::inspect::inspect;
 use inspector_inspect::round::emit_owed;
 use models::parts::Round;
 use models::parts::has_peer;
+use models::tables::PEER_SLOTS;
+use models::tables::PEERS_MAX;
+use models::tables::ROUND_SLOTS;
+use models::tables::ROWS_WORDS;
 use stats::MempoolPeerCounters;
 use stats::peer_stats::MempoolPeerStats;
 use stats::ranges::Since;
@@ -25,7 +29,7 @@ use stats::ranges::is_since;
 
 // The counters of all peers, and how many references are owed and how many bytes they take.
 pub struct Inspection {
-    pub stats: [MempoolPeerStats; 32],
+    pub stats: [MempoolPeerStats; PEERS_MAX],
     pub owed: Emitted,
 }
 
@@ -37,12 +41,12 @@ struct Added {
 
 // With the counters of one round more, if it is counted: those of its peers.
 fn merge_round(
-    stats: [MempoolPeerStats; 32],
+    stats: [MempoolPeerStats; PEERS_MAX],
     peers: u32,
     counted: bool,
     round: Round,
-    counters: [MempoolPeerCounters; 32],
-) -> [MempoolPeerStats; 32]
+    counters: [MempoolPeerCounters; PEERS_MAX],
+) -> [MempoolPeerStats; PEERS_MAX]
     requires { ⌜ (length stats ≡ 32) × AllBelow 4294967295 stats ⌝ }
     ensures { λ r. ⌜ RoundMerged stats peers counted round counters r ⌝ }
 {
@@ -51,7 +55,7 @@ fn merge_round(
     }
     let mut merged = stats;
     let mut author: u32 = 0;
-    while author < 32 {
+    while author < PEER_SLOTS {
         if has_peer(peers, author) {
             let a = author as usize;
             let peer = merged[a];
@@ -84,7 +88,7 @@ fn add_round(
 {
     let round = first.plus(k);
     let inspected = inspect(s, keys, links, certs, order, round, rows, b);
-    let record = s.rounds[(round.0 % 512) as usize];
+    let record = s.rounds[(round.0 % ROUND_SLOTS) as usize];
     let counted = is_since(stats_since, round);
     let stats = sum.stats;
     let counters = inspected.counters;
@@ -124,9 +128,9 @@ pub fn inspect_rounds(
 {
     let rounds = low.minus(first.0);
     let n = rounds.0;
-    let mut rows: [u64; 1408] = [0; 1408];
+    let mut rows: [u64; ROWS_WORDS] = [0; ROWS_WORDS];
     let mut sum = Inspection {
-        stats: [MempoolPeerStats::new(Round(0)); 32],
+        stats: [MempoolPeerStats::new(Round(0)); PEERS_MAX],
         owed: Emitted { at: 0, count: 0 },
     };
     let mut k: u32 = 0;
@@ -175,7 +179,7 @@ pub fn emit_signer_rounds(
 {
     let rounds = low.minus(first.0);
     let n = rounds.0;
-    let mut rows: [u64; 1408] = [0; 1408];
+    let mut rows: [u64; ROWS_WORDS] = [0; ROWS_WORDS];
     let mut out = e;
     let mut k: u32 = 0;
     while k < n {

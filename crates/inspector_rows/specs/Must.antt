@@ -25,7 +25,7 @@ use Rattle.commit_state.specs.declared.state.State.{State}
 use Rattle.tables_test.specs.View.{view}
 use Rattle.tables_test.specs.Refines.{Started, counted}
 use Rattle.back_history.specs.RefinesNeeded.{used-point}
-use Rattle.back_walk.specs.Words.{hasPrevious}
+use Rattle.models.specs.Ids.{hasPrevious}
 use Rattle.back_walk.specs.Refines.{given-at, previous-at}
 use Rattle.inspector_references.specs.Sets.{without, none-member, without-member, without-lt}
 use Rattle.inspector_references.specs.Trusted.{Listed, listed-in}

@@ -4,7 +4,7 @@
 ghost use mathlib.Core.Path.{_≡_};
 ghost use Prim.Native.Nat.{ℕ, _+_, _*_, _^_, _<_, _≤_};
 ghost use lib.ListN.{length, getD};
-ghost use Rattle.back_walk.specs.Words.{Placed};
+ghost use Rattle.models.specs.Ids.{Placed};
 ghost use Rattle.inspector_references.specs.Referring.{rowAuthor, rowPeers};
 ghost use Rattle.inspector_rows.specs.Rows.{wordsFrom, rowFrom, RowsFit};
 ghost use Rattle.inspector_rows.specs.Must.{pointRow, unreferencedOf, mustRow, mustRows};
@@ -16,9 +16,21 @@ use inspector_references::referring;
 use inspector_references::without;
 use models::parts::Digest;
 use models::parts::Round;
+use models::tables::DIGEST_WORDS;
+use models::tables::KEY_DIGEST;
+use models::tables::KEY_WORDS;
+use models::tables::LINK_DIGESTS;
+use models::tables::LINK_EVIDENCE;
+use models::tables::LINK_WORDS;
+use models::tables::ROW_AUTHOR;
+use models::tables::ROW_DIGEST;
+use models::tables::ROW_PEERS;
+use models::tables::ROW_PREVIOUS;
+use models::tables::ROW_SIGNED;
+use models::tables::ROW_WORDS;
 
 // The four words from `at` on.
-fn four_words(t: &[u64], at: usize) -> [u64; 4]
+fn four_words(t: &[u64], at: usize) -> [u64; DIGEST_WORDS]
     requires { ⌜ at + 4 ≤ length (now t) ⌝ }
     ensures { λ r. ⌜ r ≡ wordsFrom (now (t .entry)) at ⌝ }
 {
@@ -30,7 +42,13 @@ fn four_words(t: &[u64], at: usize) -> [u64; 4]
 }
 
 // The row of these parts.
-fn row_of(author: u64, digest: [u64; 4], previous: u64, signed: [u64; 4], peers: u64) -> [u64; 11]
+fn row_of(
+    author: u64,
+    digest: [u64; DIGEST_WORDS],
+    previous: u64,
+    signed: [u64; DIGEST_WORDS],
+    peers: u64,
+) -> [u64; ROW_WORDS]
     ensures { λ r. ⌜ r ≡ rowFrom author digest previous signed peers ⌝ }
 {
     [
@@ -49,16 +67,16 @@ fn row_of(author: u64, digest: [u64; 4], previous: u64, signed: [u64; 4], peers:
 }
 
 // The row of the point at place q, with the peers that signed its previous point, which is the include under its own author.
-fn point_row(keys: &[u64], links: &[u64], q: usize) -> [u64; 11]
+fn point_row(keys: &[u64], links: &[u64], q: usize) -> [u64; ROW_WORDS]
     requires { ⌜ Placed (now keys) (now links) q ⌝ }
     ensures { λ r. ⌜ r ≡ pointRow (now (keys .entry)) (now (links .entry)) q ⌝ }
 {
-    let author = dag_round_keys::author(keys, q);
+    let author = models::place::author(keys, q);
     let a = laws::slot(author);
-    let digest = four_words(keys, q * 8 + 2);
-    let previous = tables_links::target(links, q, a);
-    let signed = four_words(links, q * 328 + 72 + a * 4);
-    let evidence = tables_links::head_word(links, q, 0);
+    let digest = four_words(keys, q * KEY_WORDS + KEY_DIGEST);
+    let previous = models::place::target(links, q, a);
+    let signed = four_words(links, q * LINK_WORDS + LINK_DIGESTS + a * DIGEST_WORDS);
+    let evidence = models::place::head_word(links, q, LINK_EVIDENCE);
     row_of(author, digest, previous, signed, evidence)
 }
 
@@ -75,8 +93,8 @@ fn unreferenced_by(
     requires { ⌜ ((j : ℕ) → j < n → Placed (now keys) (now links) (getD (now places) j 0)) ⌝ }
     ensures { λ r. ⌜ r ≡ unreferencedOf (now (keys .entry)) (now (links .entry)) (now (places .entry)) n live (now (row .entry)) ⌝ }
 {
-    let previous = row[5];
-    let signers = row[10];
+    let previous = row[ROW_PREVIOUS];
+    let signers = row[ROW_PEERS];
     if previous == 0 {
         return 0;
     }
@@ -92,14 +110,14 @@ fn must_row(
     n: usize,
     live: bool,
     q: usize,
-) -> [u64; 11]
+) -> [u64; ROW_WORDS]
     requires { ⌜ (n ≤ length (now places)) × Placed (now keys) (now links) q ⌝ }
     requires { ⌜ ((j : ℕ) → j < n → Placed (now keys) (now links) (getD (now places) j 0)) ⌝ }
     ensures { λ r. ⌜ r ≡ mustRow (now (keys .entry)) (now (links .entry)) (now (places .entry)) n live q ⌝ }
 {
     let mut row = point_row(keys, links, q);
     let peers = unreferenced_by(keys, links, places, n, live, &row);
-    row[10] = peers;
+    row[ROW_PEERS] = peers;
     row
 }
 
@@ -119,13 +137,13 @@ pub fn must_reference(
     let mut k: usize = 0;
     while k < n {
         let row = must_row(keys, links, places, n, live, places[k]);
-        dag_round_keys::copy_words(rows, k * 11, &row, 0, 11);
+        dag_round_keys::copy_words(rows, k * ROW_WORDS, &row, 0, ROW_WORDS);
         k += 1;
     }
 }
 
 // The row of an entry.
-fn entry_row(e: Entry) -> [u64; 11]
+fn entry_row(e: Entry) -> [u64; ROW_WORDS]
     ensures { λ r. ⌜ r ≡ entryRow e ⌝ }
 {
     let digest = e.digest;
@@ -150,7 +168,7 @@ pub fn rows_of(memory: Memory, rows: &mut [u64])
     let mut k: usize = 0;
     while k < n {
         let row = entry_row(memory.entries[k]);
-        dag_round_keys::copy_words(rows, k * 11, &row, 0, 11);
+        dag_round_keys::copy_words(rows, k * ROW_WORDS, &row, 0, ROW_WORDS);
         k += 1;
     }
 }
@@ -167,11 +185,11 @@ fn entry_of(rows: &[u64], k: usize) -> Entry
     requires { ⌜ (k * 11 + 11 ≤ length (now rows)) × (rowAuthor (now rows) k < 32) × (rowPeers (now rows) k < 2 ^ 32) ⌝ }
     ensures { λ r. ⌜ r ≡ entryFrom (now (rows .entry)) k ⌝ }
 {
-    let author = rows[k * 11 + 0];
-    let previous = rows[k * 11 + 5];
-    let peers = rows[k * 11 + 10];
-    let digest = four_words(rows, k * 11 + 1);
-    let signed = four_words(rows, k * 11 + 6);
+    let author = rows[k * ROW_WORDS + ROW_AUTHOR];
+    let previous = rows[k * ROW_WORDS + ROW_PREVIOUS];
+    let peers = rows[k * ROW_WORDS + ROW_PEERS];
+    let digest = four_words(rows, k * ROW_WORDS + ROW_DIGEST);
+    let signed = four_words(rows, k * ROW_WORDS + ROW_SIGNED);
     let has = one_if(0 < previous);
     Entry {
         author: author as u32,

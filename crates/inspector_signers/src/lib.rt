@@ -16,6 +16,10 @@ use answer_bytes::emit_id;
 use answer_bytes::emit_number;
 use inspector_events::emitted::Emitted;
 use models::parts::Round;
+use models::tables::PEER_SLOTS;
+use models::tables::ROW_AUTHOR;
+use models::tables::ROW_DIGEST;
+use models::tables::ROW_WORDS;
 
 // The id of row k, a point of this round.
 pub fn emit_row_id(
@@ -29,10 +33,10 @@ pub fn emit_row_id(
     requires { ⌜ Open write (now b) at (idBytes (rowId (now rows) (round .0) k)) × (k * 11 + 11 ≤ length (now rows)) ⌝ }
     ensures { λ r. ⌜ Sent write (now (b .entry)) at (idBytes (rowId (now (rows .entry)) (round .0) k)) r (now (b .exit)) ⌝ }
 {
-    let author = rows[k * 11 + 0];
+    let author = rows[k * ROW_WORDS + ROW_AUTHOR];
     let a1 = emit_number(b, at, write, 4, round.0 as u64);
     let a2 = emit_number(b, a1, write, 1, author);
-    emit_digest(b, a2, write, rows, k * 11 + 1)
+    emit_digest(b, a2, write, rows, k * ROW_WORDS + ROW_DIGEST)
 }
 
 // Whether row k is a proof against the signer (it is in the row's set), or else whether it is the signer's own point.
@@ -44,7 +48,7 @@ fn row_passes(rows: &[u64], sets: &[u64], k: usize, signer: u32, proofs: bool) -
         let set = sets[k];
         return (set >> signer) % 2 == 1;
     }
-    let author = rows[k * 11 + 0];
+    let author = rows[k * ROW_WORDS + ROW_AUTHOR];
     author == signer as u64
 }
 
@@ -97,7 +101,7 @@ fn emit_points(
     let mut k: usize = 0;
     while k < m {
         let q = places[k];
-        let author = keys[q * 8 + 1];
+        let author = models::place::author(keys, q);
         if author == signer as u64 {
             let at = emit_id(b, out.at, write, keys, q);
             out = Emitted {
@@ -214,7 +218,7 @@ pub fn emit_signers(
 {
     let mut out = e;
     let mut signer: u32 = 0;
-    while signer < 32 {
+    while signer < PEER_SLOTS {
         if (signers >> signer) % 2 == 1 {
             out = emit_signer(keys, places, m, rows, sets, n, last, b, out, write, signer);
         }

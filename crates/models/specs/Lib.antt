@@ -5,3 +5,5 @@ pub mod Cert
 pub mod DagPoint
 pub mod Info
 pub mod Refusal
+pub mod Live
+pub mod Ids

@@ -10,7 +10,8 @@ use mathlib.Core.Path.{_≡_}
 use mathlib.Core.List.{List}
 use mathlib.Core.Bool.{Bool, true}
 use mathlib.Core.Logic.{_↔_}
-use lib.ListN.{getD}
+use native.Mathlib.Omega.{arith}
+use lib.ListN.{length, getD}
 use lib.Dec.{eqb}
 use borrow.Author.Tests.{eq-eqb, eqb-true}
 use Rattle.laws.specs.Scan.{any, any-elim, any-intro}
@@ -39,6 +40,10 @@ placeAt os i = getD os i 0
 abbrev pub Inside : List ℕ → ℕ → ℕ → Type 0
 Inside os n m = (i : ℕ) → i < n → placeAt os i < m
 
+-- places below the number of places are below that of the keys
+pub inside-keys : (ks os : List ℕ) (n : ℕ) → length ks ≡ length os * 8 → Inside os n (length os) → Inside os n (length ks / 8)
+inside-keys ks os n e h i l = let k = h i l in omega arith
+
 -- the place q is used
 abbrev pub Used : List ℕ → ℕ → ℕ → Type 0
 Used os n q = (i : ℕ) × (i < n) × (placeAt os i ≡ q)
@@ -57,6 +62,13 @@ used-is os n q = (
 
 abbrev pub evidenceAt : List ℕ → ℕ → ℕ
 evidenceAt ls q = getD ls (q * 328 + 0) 0
+
+-- the round and the author of the top proof
+abbrev pub proofRoundAt : List ℕ → ℕ → ℕ
+proofRoundAt ls q = getD ls (q * 328 + 1) 0
+
+abbrev pub proofAuthorAt : List ℕ → ℕ → ℕ
+proofAuthorAt ls q = getD ls (q * 328 + 2) 0
 
 -- 02, N2: "every resolved point holds" both numbers: `payload_len` in the upper 32 bits, `payload_bytes` in the lower
 abbrev pub payloadAt : List ℕ → ℕ → ℕ

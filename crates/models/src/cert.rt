@@ -7,6 +7,12 @@ ghost use Rattle.spec.specs.Store.{word};
 ghost use Rattle.models.specs.Cert.{flagsOf, heightOf, withHeight, hasProof, topped, linked, marked};
 use crate::parts::Height;
 
+// The heights that the low 12 bits can hold.
+pub const HEIGHTS: u64 = 4096;
+
+// The word at most: 16 bits.
+pub const CERT_MAX: u64 = 65535;
+
 const TOP: u64 = 0x8000;
 
 const INIT_COMPLETED: u64 = 0x6000;
@@ -19,7 +25,7 @@ impl Cert {
     pub fn height(self) -> Height
         ensures { λ r. ⌜ r .0 ≡ heightOf (self .0) ⌝ }
     {
-        Height((self.0 % 4096) as u16)
+        Height((self.0 % HEIGHTS) as u16)
     }
 
     // Certified directly.
@@ -38,14 +44,14 @@ impl Cert {
     pub fn is_certified(self) -> bool
         ensures { λ r. ⌜ r ≡ ltb 0 (heightOf (self .0)) ⌝ }
     {
-        0 < self.0 % 4096
+        0 < self.0 % HEIGHTS
     }
 
     // Certified, and that directly.
     pub fn has_proof(self) -> bool
         ensures { λ r. ⌜ r ≡ hasProof (self .0) ⌝ }
     {
-        laws::and(0 < self.0 % 4096, self.0 / TOP % 2 == 1)
+        laws::and(0 < self.0 % HEIGHTS, self.0 / TOP % 2 == 1)
     }
 
     // The word with another height.
@@ -53,7 +59,7 @@ impl Cert {
         requires { ⌜ height .0 < 4096 ⌝ }
         ensures { λ r. ⌜ r .0 ≡ withHeight (self .0) (height .0) ⌝ }
     {
-        Cert(self.0 / 4096 * 4096 + height.0 as u64)
+        Cert(self.0 / HEIGHTS * HEIGHTS + height.0 as u64)
     }
 
     // The word of a point certified directly.

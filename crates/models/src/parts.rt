@@ -4,6 +4,7 @@ ghost use Prim.Native.Nat.{_+_, _-_, _<_, max, min};
 ghost use Rattle.laws.specs.Peers.{member};
 ghost use lib.Count.{ones};
 ghost use mathlib.Core.Path.{_≡_};
+use crate::tables::DIGEST_WORDS;
 
 // A round's number.
 #[repr(C)]
@@ -18,7 +19,7 @@ pub struct Height(pub u16);
 
 // Four words, the most significant first.
 #[repr(C)]
-pub struct Digest(pub [u64; 4]);
+pub struct Digest(pub [u64; DIGEST_WORDS]);
 
 #[repr(C)]
 pub struct PointId {

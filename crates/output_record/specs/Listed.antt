@@ -15,8 +15,8 @@ use Rattle.spec.specs.OrderInRound.{each-length, each-below, lists-head}
 use Rattle.models.specs.Tables.{Inside}
 use Rattle.dag_round_keys.specs.Sorted.{Sorted}
 use Rattle.back_history.specs.Model.{isDone}
-use Rattle.inspector_counters.specs.Count.{spanOf}
-use Rattle.inspector_counters.specs.declared.round.Span.{Span}
+use Rattle.dag_round_order.specs.Span.{spanOf}
+use Rattle.dag_round_order.specs.declared.span.Span.{Span}
 use Rattle.back_order.specs.Linked.{Run, linkedBy}
 use Rattle.back_order.specs.Each.{part-at}
 use Rattle.back_order.specs.Counts.{countBy, countsBy, run-of, count-by}

@@ -1,5 +1,5 @@
 -- The sums that a record ends with (02: N2).
-use Prim.Native.Nat.{ℕ, suc, _+_, _*_, _-_, _/_, _%_, _≤_}
+use Prim.Native.Nat.{ℕ, suc, _+_, _*_, _-_, _/_, _%_, _^_, _<_, _≤_}
 use mathlib.Core.Path.{_≡_, refl, sym, ap, _∙_}
 use mathlib.Core.List.{List, _++_}
 use mathlib.Core.Bool.{Bool, true, false, cond}
@@ -18,8 +18,8 @@ abbrev pub bytesAt : List ℕ → ℕ → ℕ
 bytesAt ls q = payloadAt ls q % 4294967296
 
 -- the first has 32 bits too, as a half of a word
-pub len-small : (ls : List ℕ) (q : ℕ) → Fit ls → lenAt ls q ≤ 4294967295
-len-small ls q f = let h = f (q * 328 + 7) in omega arith
+pub len-small : (ls : List ℕ) (q x : ℕ) → Fit ls → x ≡ payloadAt ls q → x / 4294967296 ≤ 4294967295
+len-small ls q x f e = let h = f (q * 328 + 7) in omega (arith, e)
 
 -- their sums over the places that pass, of the k positions from low on
 abbrev pub lenSum : List ℕ → List ℕ → (ℕ → Bool) → ℕ → ℕ → ℕ
@@ -37,6 +37,10 @@ sumsOf len bytes = be 8 len ++ be 8 bytes
 -- at position i the sum is n, so small that one more number fits
 abbrev pub SumTo : (ℕ → ℕ) → List ℕ → (ℕ → Bool) → ℕ → ℕ → ℕ → Type 0
 SumTo g os f low i n = (n ≡ weigh g (picked os f low (i - low))) × (n ≤ (i - low) * 4294967295)
+
+-- no sum leaves 64 bits: there are at most 4,096 positions
+pub sum-fits : (n x i low high : ℕ) → n ≤ (i - low) * 4294967295 → i < high → high ≤ 4096 → x ≤ 4294967295 → n + x < 2 ^ 64
+sum-fits n x i low high a b c d = omega arith
 
 -- one position more
 picked-more : (g : ℕ → ℕ) (os : List ℕ) (f : ℕ → Bool) (low k : ℕ) → weigh g (picked os f low (suc k)) ≡ weigh g (picked os f low k) + cond (f (placeAt os (low + k))) (g (placeAt os (low + k))) 0

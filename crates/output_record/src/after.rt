@@ -12,9 +12,17 @@ use commit_state::state::State;
 use models::cert::Cert;
 use models::parts::OptionRound;
 use models::parts::Round;
+use models::tables::PLACES_MAX;
+use models::tables::ROUND_SLOTS;
 
 // Sets the committed bit of each point of the history.
-pub fn mark_all(marks: &[bool; 4096], order: &[u64], certs: &mut [u64], low: usize, high: usize)
+pub fn mark_all(
+    marks: &[bool; PLACES_MAX],
+    order: &[u64],
+    certs: &mut [u64],
+    low: usize,
+    high: usize,
+)
     requires { ⌜ (low ≤ high) × (high ≤ length (now order)) × (length (now certs) ≤ 4096) × Inside (now order) high (length (now certs)) × Small (now order) (now certs) high ⌝ }
     ensures { λ _. ⌜ now (certs .exit) ≡ marksAll (now (order .entry)) (now (marks .entry)) low (now (certs .entry)) high ⌝ }
 {
@@ -42,7 +50,7 @@ pub fn after_anchor(s: State, anchor_round: Round, proof_round: Round, author: u
     let last_anchor = OptionRound(anchor_round.0 + 1);
     next.last_committed_proof = last_committed_proof;
     next.last_anchor = last_anchor;
-    let i = (proof_round.0 % 512) as usize;
+    let i = (proof_round.0 % ROUND_SLOTS) as usize;
     let mut rec = next.rounds[i];
     rec.used_anchor_proof = author + 1;
     next.rounds[i] = rec;

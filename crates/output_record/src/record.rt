@@ -19,9 +19,10 @@ use back_order::byte_at;
 use back_order::count_linked;
 use back_order::ranked;
 use commit_state::state::State;
-use inspector_counters::round::span_at;
+use dag_round_order::span::span_at;
 use models::cert::Cert;
 use models::parts::Round;
+use models::tables::PLACES_MAX;
 
 // The id of place q, if it isn't committed.
 fn put_new(b: &mut [u8], at: usize, keys: &[u64], certs: &[u64], q: usize) -> usize
@@ -42,7 +43,7 @@ fn put_round(
     at: usize,
     keys: &[u64],
     certs: &[u64],
-    marks: &[bool; 4096],
+    marks: &[bool; PLACES_MAX],
     order: &[u64],
     lists: &[u8],
     from: usize,
@@ -79,7 +80,7 @@ fn put_one(
     b: &mut [u8],
     at: usize,
     keys: &[u64],
-    marks: &[bool; 4096],
+    marks: &[bool; PLACES_MAX],
     order: &[u64],
     certs: &[u64],
     n: usize,
@@ -119,7 +120,7 @@ pub fn put_points(
     b: &mut [u8],
     at: usize,
     keys: &[u64],
-    marks: &[bool; 4096],
+    marks: &[bool; PLACES_MAX],
     order: &[u64],
     certs: &[u64],
     n: usize,
@@ -187,7 +188,7 @@ pub fn put_record(
     b: &mut [u8],
     at: usize,
     keys: &[u64],
-    marks: &[bool; 4096],
+    marks: &[bool; PLACES_MAX],
     order: &[u64],
     certs: &[u64],
     n: usize,

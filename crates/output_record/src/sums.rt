@@ -9,6 +9,7 @@ ghost use Rattle.back_history.specs.Model.{isUncommitted};
 ghost use Rattle.output_record.specs.Sums.{lenSum, bytesSum, sumsOf};
 use answer_bytes::put_number;
 use back_history::is_uncommitted;
+use models::tables::PLACES_MAX;
 
 // 02, N2: "their two 64-bit sums over its history".
 pub struct PayloadSums {
@@ -18,7 +19,7 @@ pub struct PayloadSums {
 
 // The sums over the history. At most 4,096 numbers below 2^32 each: no sum leaves 64 bits.
 pub fn payload_sums(
-    marks: &[bool; 4096],
+    marks: &[bool; PLACES_MAX],
     links: &[u64],
     certs: &[u64],
     order: &[u64],
@@ -36,7 +37,7 @@ pub fn payload_sums(
     while i < high {
         let q = laws::slot(order[i]);
         if is_uncommitted(marks, certs, q) {
-            let payload = links[q * 328 + 7];
+            let payload = models::place::payload(links, q);
             len += payload / 4294967296;
             bytes += payload % 4294967296;
         }

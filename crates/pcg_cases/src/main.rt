@@ -1,6 +1,7 @@
 // Origin: none.
 // Draws of a few digests, a line each, and products modulo 2^128.
 use models::parts::Digest;
+use models::tables::DIGEST_WORDS;
 use pcg::pcg::Pcg;
 use pcg::pcg::draw;
 use pcg::pcg::seed;
@@ -59,13 +60,13 @@ fn digest_of(first: u64, middle: u64, last: u64) -> Digest {
 }
 
 fn seeds() {
-    write_seed(Digest([0; 4]));
-    write_seed(Digest([MAX; 4]));
+    write_seed(Digest([0; DIGEST_WORDS]));
+    write_seed(Digest([MAX; DIGEST_WORDS]));
 }
 
 fn draws() {
-    write_draws(Digest([0; 4]), 4);
-    write_draws(Digest([MAX; 4]), 4);
+    write_draws(Digest([0; DIGEST_WORDS]), 4);
+    write_draws(Digest([MAX; DIGEST_WORDS]), 4);
     write_draws(
         Digest([
             0x0102_0304_0506_0708,

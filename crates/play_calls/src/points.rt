@@ -15,9 +15,14 @@ use commit_points::certify::certify;
 use commit_points::name::add_dependency;
 use commit_points::resolve::resolve;
 use commit_state::state::State;
+use models::output::ID_BYTES;
+use models::tables::REF_WORDS;
 use trace::bytes::id_of;
 use trace::fields::info_of;
 use trace::fields::refs_of;
+
+// Links of a record at most: no more have room in it.
+const RESOLVE_LINKS_MAX: usize = 121;
 
 // Names the point that the fields say.
 pub fn play_name(
@@ -55,9 +60,18 @@ pub fn play_resolve(
     let id = id_of(f, 0);
     let info = info_of(f);
     let n = info.includes + info.witness;
-    let mut refs = [0u64; 605];
+    let mut refs = [0u64; RESOLVE_LINKS_MAX * REF_WORDS];
     refs_of(f, &mut refs);
-    resolve(s, keys, links, certs, order, id, info, &refs[..n * 5])
+    resolve(
+        s,
+        keys,
+        links,
+        certs,
+        order,
+        id,
+        info,
+        &refs[..n * REF_WORDS],
+    )
 }
 
 // Certifies the point that the fields say.
@@ -94,7 +108,7 @@ pub fn play_commit(
         (left r (now (keys .entry)) (now (links .entry)) (now (certs .exit)) (now (order .entry)) (now (b .exit))) ⌝ }
 {
     let id = id_of(f, 0);
-    commit(s, keys, links, certs, order, id, &f[37..], b)
+    commit(s, keys, links, certs, order, id, &f[ID_BYTES..], b)
 }
 
 // Tells the anchors that a commit of the point of the fields would yield; b: the buffer for them.

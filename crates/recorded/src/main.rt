@@ -3,10 +3,15 @@
 // length (4 bytes, at most 65,536) and that many bytes of recorded calls.
 ghost use Prim.Native.Nat.{_≤_};
 ghost use lib.ListN.{length};
+use commit_state::back::unstarted;
+use models::output::COUNT_BYTES;
+use models::tables::KEY_WORDS;
+use models::tables::LINK_WORDS;
+use show::ANSWER_BYTES;
+use show::PLACES;
 use show::lines::write;
 use show::lines::write_number;
 use show::part::play_part;
-use show::state::unstarted;
 use show::state::write_state;
 use trace::bytes::number_of;
 
@@ -25,7 +30,7 @@ struct Found {
 
 // Reads the length of a run.
 fn read_length() -> Found {
-    let mut head = [0u8; 4];
+    let mut head = [0u8; COUNT_BYTES];
     let got = io::read_full(0, &mut head);
     if got == 0 {
         return Found {
@@ -33,7 +38,7 @@ fn read_length() -> Found {
             n: 0,
         };
     }
-    if got < 4 {
+    if got < COUNT_BYTES {
         return Found {
             next: Next::Cut,
             n: 0,
@@ -65,11 +70,11 @@ fn read_run(input: &mut [u8]) -> Found
 
 // Plays a run.
 fn play_run(bytes: &[u8]) {
-    let mut keys = [0u64; 160];
-    let mut links = [0u64; 6560];
-    let mut certs = [0u64; 20];
-    let mut order = [0u64; 20];
-    let mut answer = [0u8; 4096];
+    let mut keys = [0u64; PLACES * KEY_WORDS];
+    let mut links = [0u64; PLACES * LINK_WORDS];
+    let mut certs = [0u64; PLACES];
+    let mut order = [0u64; PLACES];
+    let mut answer = [0u8; ANSWER_BYTES];
     let part = play_part(
         unstarted(),
         &mut keys,

@@ -2,11 +2,23 @@
 // Plays the recorded calls of standard input and writes a line for what each answered, then lines for the state and the points.
 // Its argument is the number of places of the tables, 1 to 256; without one there are 20.
 ghost use Prim.Native.Nat.{_≤_};
+ghost use mathlib.Core.Path.{_≡_};
 ghost use lib.ListN.{length};
+ghost use Rattle.replay.specs.Places.{mostPlaces, numberSaid, placesSaid};
+use commit_state::back::unstarted;
 use commit_state::state::State;
+use models::tables::KEY_WORDS;
+use models::tables::LINK_WORDS;
+use show::ANSWER_BYTES;
+use show::PLACES;
 use show::part::play_part;
-use show::state::unstarted;
 use show::state::write_state;
+
+// The number of places asked for at most.
+const PLACES_ASKED_MAX: usize = 256;
+
+// Bytes of the argument that are read.
+const ARGUMENT_BYTES: usize = 16;
 
 // The state after some of the input, the offset of the first byte that was not played, how many such bytes are held, and whether to go on.
 struct Turn {
@@ -16,9 +28,9 @@ struct Turn {
     more: bool,
 }
 
-// The number that the digits say, or 0 if it is above 256 or not a number.
+// The number that the digits say, or 0 if it is above the most or not a number.
 fn number_said(digits: &[u8]) -> usize
-    ensures { λ r. ⌜ r ≤ 256 ⌝ }
+    ensures { λ r. ⌜ r ≡ numberSaid (now (digits .entry)) ⌝ }
 {
     let mut n: usize = 0;
     let mut i: usize = 0;
@@ -32,7 +44,7 @@ fn number_said(digits: &[u8]) -> usize
             return 0;
         }
         n = n * 10 + (d - 48) as usize;
-        if 256 < n {
+        if PLACES_ASKED_MAX < n {
             return 0;
         }
         i += 1;
@@ -40,20 +52,27 @@ fn number_said(digits: &[u8]) -> usize
     n
 }
 
-// The number of places asked for, or 0 if the arguments aren't one such number.
-fn places_asked() -> usize
-    ensures { λ r. ⌜ r ≤ 256 ⌝ }
+// The number of places that the arguments say, or 0 if they aren't one such number. count: with the program's name. digits: the argument.
+fn places_said(count: usize, digits: &[u8]) -> usize
+    ensures { λ r. ⌜ r ≡ placesSaid count (now (digits .entry)) ⌝ }
 {
-    let count = os::arg_count();
     if count < 2 {
-        return 20;
+        return PLACES;
     }
     if 2 < count {
         return 0;
     }
-    let mut text = [0u8; 16];
+    number_said(digits)
+}
+
+// The number of places asked for. An argument longer than the text is read as an empty one, which is no number.
+fn places_asked() -> usize
+    ensures { λ r. ⌜ r ≤ mostPlaces ⌝ }
+{
+    let count = os::arg_count();
+    let mut text = [0u8; ARGUMENT_BYTES];
     let n = os::arg(1, &mut text);
-    number_said(&text[..n])
+    places_said(count, &text[..n])
 }
 
 // Reads after the bytes held; says how many are held then.
@@ -146,7 +165,7 @@ fn play_input(
 
 // Plays the input on the tables lent, with 4,096 bytes for anchor records, and writes what is left.
 fn play_on(keys: &mut [u64], links: &mut [u64], certs: &mut [u64], order: &mut [u64]) {
-    let mut answer = [0u8; 4096];
+    let mut answer = [0u8; ANSWER_BYTES];
     let mut input = io::large_buffer();
     let s = play_input(keys, links, certs, order, &mut answer, &mut input);
     write_state(s, keys, links, certs, order);
@@ -156,13 +175,13 @@ fn play_on(keys: &mut [u64], links: &mut [u64], certs: &mut [u64], order: &mut [
 fn replay(n: usize)
     requires { ⌜ n ≤ 256 ⌝ }
 {
-    let mut keys = [0u64; 2048];
-    let mut links = [0u64; 83968];
-    let mut certs = [0u64; 256];
-    let mut order = [0u64; 256];
+    let mut keys = [0u64; PLACES_ASKED_MAX * KEY_WORDS];
+    let mut links = [0u64; PLACES_ASKED_MAX * LINK_WORDS];
+    let mut certs = [0u64; PLACES_ASKED_MAX];
+    let mut order = [0u64; PLACES_ASKED_MAX];
     play_on(
-        &mut keys[..n * 8],
-        &mut links[..n * 328],
+        &mut keys[..n * KEY_WORDS],
+        &mut links[..n * LINK_WORDS],
         &mut certs[..n],
         &mut order[..n],
     );

@@ -1,17 +1,20 @@
 -- What the lines of the points read.
 use Prim.Native.Nat.{ℕ, _+_, _*_, _<_, _≤_}
-use mathlib.Core.Path.{_≡_, sym, _∙_}
+use mathlib.Core.Path.{_≡_, refl, sym, _∙_}
 use mathlib.Core.List.{List}
-use mathlib.Core.Bool.{Bool, true}
+use mathlib.Core.Bool.{Bool, true, false, _&&_}
 use native.Mathlib.Omega.{arith}
 use lib.ListN.{length}
-use Rattle.spec.specs.Rules.{countsAsStarted}
+use Rattle.laws.specs.Test.{byTest}
+use Rattle.spec.specs.Rules.{isStarted, countsAsStarted}
+use Rattle.commit_state.specs.View.{phaseOf}
+use Rattle.commit_state.specs.Back.{unstartedState}
 use Rattle.commit_state.specs.declared.state.State.{State}
 use Rattle.models.specs.Digest.{Fit}
 use Rattle.models.specs.Tables.{placeAt, Inside}
-use Rattle.tables_test.specs.Model.{shape-says}
+use Rattle.tables_test.specs.Model.{shape, shape-says}
 use Rattle.tables_test.specs.Refines.{counted}
-use Rattle.tables_test.specs.View.{view}
+use Rattle.tables_test.specs.View.{regular, view}
 
 -- the first n cells of the order hold places of the tables
 unfoldable pub Readable : List ℕ → List ℕ → List ℕ → ℕ → Type 0
@@ -38,3 +41,8 @@ module _ (ks cs os : List ℕ) (n i : ℕ) (r : Readable ks cs os n) (l : i < n)
   pub reads-key : (q : ℕ) → q ≡ placeAt os i → q * 8 + 8 ≤ length ks
   unfolding Readable
   reads-key q e = omega (arith, r .0, r .3 i l, e)
+
+-- a state that no call has written doesn't count as started, whatever the tables
+pub unstarted-not : (ks ls cs os : List ℕ) → countsAsStarted (view unstartedState ks ls cs os) ≡ false
+unfolding countsAsStarted view phaseOf isStarted unstartedState
+unstarted-not ks ls cs os = byTest (shape ks ls cs os && regular unstartedState ks ls cs os) (λ y. rw y refl) (λ n. rw n refl)

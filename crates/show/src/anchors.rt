@@ -9,6 +9,9 @@ use crate::lines::write;
 use crate::lines::write_digest;
 use crate::lines::write_number;
 use commit_answer::answer::Answer;
+use models::output::ID_BYTES;
+use models::output::RECORD_BYTES;
+use models::output::RECORD_HEAD_BYTES;
 use models::parts::PointId;
 use trace::anchors::AnchorHead;
 use trace::anchors::AnchorSums;
@@ -57,7 +60,7 @@ pub fn write_ids(b: &[u8], at: usize, n: usize)
 {
     let mut i: usize = 0;
     while i < n {
-        let id = id_of(b, at + i * 37);
+        let id = id_of(b, at + i * ID_BYTES);
         write_id(b" ", id, b".");
         i += 1;
     }
@@ -69,20 +72,20 @@ fn write_anchor(b: &[u8], at: usize) -> usize
     ensures { λ r. ⌜ r ≤ length (now (b .entry)) ⌝ }
 {
     let left = b.len() - at;
-    if left < 99 {
+    if left < RECORD_BYTES {
         return b.len();
     }
     let head = anchor_head(b, at);
     let n = head.points as usize;
-    if (left - 99) / 37 < n {
+    if (left - RECORD_BYTES) / ID_BYTES < n {
         return b.len();
     }
-    let ids = at + 83;
-    let sums = anchor_sums(b, ids + n * 37);
+    let ids = at + RECORD_HEAD_BYTES;
+    let sums = anchor_sums(b, ids + n * ID_BYTES);
     write_head(head, sums);
     write_ids(b, ids, n);
     write(b"\n");
-    at + 99 + n * 37
+    at + RECORD_BYTES + n * ID_BYTES
 }
 
 // The lines of the first n records.

@@ -5,6 +5,9 @@ ghost use lib.ListN.{length};
 use crate::anchors::write_id;
 use crate::lines::write;
 use crate::lines::write_number;
+use models::output::COUNT_BYTES;
+use models::output::LOOK_BYTES;
+use models::output::LOOK_POINTS;
 use models::parts::Round;
 use trace::bytes::id_of;
 use trace::bytes::number_of;
@@ -38,7 +41,7 @@ fn write_counts(b: &[u8], at: usize, n: usize)
 {
     let mut i: usize = 0;
     while i < n {
-        let count = number_of(b, at + i * 4);
+        let count = number_of(b, at + i * COUNT_BYTES);
         write_number(b" ", count as u64);
         i += 1;
     }
@@ -50,21 +53,21 @@ fn write_look(b: &[u8], at: usize, reach: Reach) -> usize
     ensures { λ r. ⌜ r ≤ length (now (b .entry)) ⌝ }
 {
     let left = b.len() - at;
-    if left < 41 {
+    if left < LOOK_BYTES {
         return b.len();
     }
     let anchor = id_of(b, at);
-    let points = number_of(b, at + 37);
+    let points = number_of(b, at + LOOK_POINTS);
     let n = rounds_of(reach, anchor.round) as usize;
-    if (left - 41) / 4 < n {
+    if (left - LOOK_BYTES) / COUNT_BYTES < n {
         return b.len();
     }
     write_id(b"outlook ", anchor, b" ");
     write_number(b" ", points as u64);
     write(b" linked");
-    write_counts(b, at + 41, n);
+    write_counts(b, at + LOOK_BYTES, n);
     write(b"\n");
-    at + 41 + n * 4
+    at + LOOK_BYTES + n * COUNT_BYTES
 }
 
 // The lines of the first n anchors.

@@ -8,6 +8,15 @@ use crate::lines::write;
 use crate::lines::write_digest;
 use crate::lines::write_number;
 use commit_answer::answer::Answer;
+use models::output::COUNT_BYTES;
+use models::output::DIGEST_BYTES;
+use models::output::EVENT_BLAMED;
+use models::output::EVENT_HEAD_BYTES;
+use models::output::ID_BYTES;
+use models::output::PEER_BYTES;
+use models::output::SINGLE_BYTES;
+use models::output::SINGLE_ID;
+use stats::COUNTERS;
 use stats::MempoolPeerCounters;
 use trace::bytes::byte_of;
 use trace::bytes::digest_words;
@@ -22,7 +31,7 @@ use trace::peer_stats::peer_of;
 fn write_counters(cumulative: MempoolPeerCounters) {
     let counts = cumulative.counts();
     let mut i: usize = 0;
-    while i < 9 {
+    while i < COUNTERS {
         write_number(b" ", counts[i] as u64);
         i += 1;
     }
@@ -44,11 +53,11 @@ fn write_peer(b: &[u8], at: usize) -> usize
     requires { ⌜ at ≤ length (now b) ⌝ }
     ensures { λ r. ⌜ r ≤ length (now (b .entry)) ⌝ }
 {
-    if b.len() - at < 31 {
+    if b.len() - at < PEER_BYTES {
         return b.len();
     }
     write_stats(peer_of(b, at));
-    at + 31
+    at + PEER_BYTES
 }
 
 // The lines of the peers. Says where they end.
@@ -74,7 +83,7 @@ fn write_digests(b: &[u8], at: usize, n: usize)
 {
     let mut i: usize = 0;
     while i < n {
-        let words = digest_words(b, at + i * 32);
+        let words = digest_words(b, at + i * DIGEST_BYTES);
         write(b" ");
         write_digest(words[0], words[1], words[2], words[3]);
         i += 1;
@@ -87,10 +96,10 @@ fn write_single(b: &[u8], at: usize, kind: u32) -> usize
     ensures { λ r. ⌜ r ≤ length (now (b .entry)) ⌝ }
 {
     write_number(b"event ", kind as u64);
-    let id = id_of(b, at + 1);
+    let id = id_of(b, at + SINGLE_ID);
     write_id(b" ", id, b".");
     write(b"\n");
-    at + 38
+    at + SINGLE_BYTES
 }
 
 // The line of n digests.
@@ -100,9 +109,9 @@ fn write_equivocated(b: &[u8], at: usize, author: u32, round: u32, n: usize) -> 
 {
     write_number(b"event 4 ", author as u64);
     write_number(b" ", round as u64);
-    write_digests(b, at + 10, n);
+    write_digests(b, at + EVENT_HEAD_BYTES, n);
     write(b"\n");
-    at + 10 + n * 32
+    at + EVENT_HEAD_BYTES + n * DIGEST_BYTES
 }
 
 // The line of x blamed ids and y proofs.
@@ -111,11 +120,11 @@ fn write_no_inclusion(b: &[u8], at: usize, signer: u32, x: usize, y: usize) -> u
     ensures { λ r. ⌜ r ≤ length (now (b .entry)) ⌝ }
 {
     write_number(b"event 5 ", signer as u64);
-    write_ids(b, at + 6, x);
+    write_ids(b, at + EVENT_BLAMED, x);
     write(b" |");
-    write_ids(b, at + 10 + x * 37, y);
+    write_ids(b, at + EVENT_HEAD_BYTES + x * ID_BYTES, y);
     write(b"\n");
-    at + 10 + (x + y) * 37
+    at + EVENT_HEAD_BYTES + (x + y) * ID_BYTES
 }
 
 // The line of the event at the offset. Says where the next one begins: the end of the bytes, if no whole one stands there.
@@ -143,11 +152,11 @@ fn write_event(b: &[u8], at: usize) -> usize
 fn write_events(b: &[u8], at: usize)
     requires { ⌜ at ≤ length (now b) ⌝ }
 {
-    if b.len() - at < 4 {
+    if b.len() - at < COUNT_BYTES {
         return;
     }
     let n = number_of(b, at);
-    let mut next = at + 4;
+    let mut next = at + COUNT_BYTES;
     let mut i: u32 = 0;
     while i < n {
         next = write_event(b, next);

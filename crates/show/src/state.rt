@@ -6,37 +6,13 @@ ghost use Rattle.show.specs.Points.{Readable};
 use crate::lines::write;
 use crate::lines::write_digest;
 use crate::lines::write_number;
-use commit_state::state::RoundRecord;
 use commit_state::state::State;
-use commit_state::state::empty_memory;
 use models::parts::OptionRound;
-use models::parts::Round;
+use models::place::author;
+use models::place::round_word;
+use models::tables::KEY_DIGEST;
+use models::tables::KEY_WORDS;
 use tables_test::counts_as_started;
-
-// A state of zeros, which isn't started.
-pub fn unstarted() -> State {
-    let empty = RoundRecord {
-        peers: 0,
-        used_anchor_proof: 0,
-    };
-    let memory = empty_memory();
-    State {
-        phase: 0,
-        count: 0,
-        genesis: Round(0),
-        commit_history_rounds: 0,
-        deduplicate_rounds: 0,
-        bottom: Round(0),
-        top: Round(0),
-        last_committed_proof: OptionRound::NONE,
-        last_anchor: OptionRound::NONE,
-        full_history_bottom: Round(0),
-        first_executable: Round(0),
-        emit_first_after_gap: 0,
-        rounds: [empty; 512],
-        memory,
-    }
-}
 
 // The last proof's round.
 fn write_last_proof(last_committed_proof: OptionRound) {
@@ -77,15 +53,11 @@ fn write_rounds(s: State) {
 fn write_point(keys: &[u64], q: usize, word: u64)
     requires { ⌜ q * 8 + 8 ≤ length (now keys) ⌝ }
 {
-    write_number(b"p ", keys[q * 8 + 0]);
-    write_number(b".", keys[q * 8 + 1]);
+    let d = q * KEY_WORDS + KEY_DIGEST;
+    write_number(b"p ", round_word(keys, q));
+    write_number(b".", author(keys, q));
     write(b".");
-    write_digest(
-        keys[q * 8 + 2],
-        keys[q * 8 + 3],
-        keys[q * 8 + 4],
-        keys[q * 8 + 5],
-    );
+    write_digest(keys[d], keys[d + 1], keys[d + 2], keys[d + 3]);
     write(b" ");
     let _all = io::print_hex(1, word, 4);
     write(b"\n");

@@ -18,7 +18,7 @@ use Rattle.spec.specs.Inspect.{inspected, memoryAfter, removeBytes}
 
 -- ---- answers
 
--- done: start, reset, round, name, resolve, certify, remove. said: gap question, drop. handed: the anchors of a commit or outlook.
+-- done: start, reset, round, name, resolve, certify, remove. flag: gap question, drop. anchors: how many a commit or outlook has.
 -- refused: with the finished anchors, 0 in every call but commit.
 pub data Answer : Type 0 where
   done : Answer

@@ -2,21 +2,27 @@
 use Prim.Native.Nat.{ℕ, suc, _-_, _≤_, _<_, max}
 use mathlib.Core.Path.{_≡_, refl, sym, _∙_, subst, ap}
 use mathlib.Core.Logic.{_⊎_, inl, inr, _≢_, ⊎-elim}
-use mathlib.Core.Bool.{true, false, _&&_, _||_}
-use lib.Dec.{eqb, ltb}
-use borrow.Author.Tests.{eq-eqb, ne-eqb, lt-ltb, le-ltb}
+use mathlib.Core.Bool.{Bool, true, false, not, _&&_, _||_}
+use mathlib.Core.Option.{some}
+use lib.Dec.{eqb, leb, ltb}
+use borrow.Author.Tests.{eqb-true, eq-eqb, ne-eqb, ltb-true, lt-ltb, le-ltb, le-leb, lt-leb}
 use native.Mathlib.Omega.{arith}
 use native.Mathlib.Decide.{ℕ-discrete}
 use Rattle.laws.specs.Test.{byTest, clash, both, and-l, and-r, le-or-lt}
-use Rattle.spec.specs.Store.{Resolution, Point, Store, free, linksTo, resolved, roundAt, withPoints}
+use Rattle.laws.specs.Peers.{member}
+use Rattle.spec.specs.Ids.{Id}
+use Rattle.spec.specs.Store.{Resolution, Point, Store, free, linksTo, resolved, roundAt, find, withPoints}
 use Rattle.spec.specs.Paths.{Path, here, step, LinkedTo, Top, heightFrom, IsHeight, height}
-use Rattle.spec.specs.Chain.{EnqueuedAnchor}
+use Rattle.spec.specs.Rules.{isPeer}
+use Rattle.spec.specs.Chain.{EnqueuedAnchor, Out, good, then, placeOf}
 use Rattle.spec.specs.History.{dequeued, setCommitted}
-use Rattle.spec.specs.Calls.{withPathHeights, setTop, certifyAt, resolvedAs, resolveAt, drained}
+use Rattle.spec.specs.Calls.{done, withoutBuffer, finish, atId, withPathHeights, setTop, certifyAt, doCertify, resolvedAs, resolveAt, drained, certify, perform, call}
 use Rattle.spec.specs.Graph.{append, carry, path-down}
 use Rattle.spec.specs.Heights.{height-unique}
 use Rattle.spec.specs.Links.{linked, down, source-named}
 use Rattle.spec.specs.HeightEquations.{Sized, height-is}
+use Rattle.spec.specs.WellFormed.{Wf, countsAsStarted-intro}
+use Rattle.spec.specs.Walk.{refuse-back, find-some, place-at}
 
 le-max-l : (m n : ℕ) {a : ℕ} → a ≤ m → a ≤ max m n
 le-max-l m n l = omega arith
@@ -85,9 +91,9 @@ module _ (s : Store) (z : Sized s) (i : ℕ) (there : s .pt i .named ≡ true) w
       met : (height s q ≡ 0) ⊎ ((t : ℕ) × Top (certifyAt s i) t × Path (LinkedTo s) t q × (height s q ≡ heightFrom H (roundAt s) t q))
       met = ⊎-elim inl (λ (t, to, v, e). inr (t, top-cert t (inl to), v, e)) (height-is s z q .met)
 
-  -- "A second certificate changes nothing."
-  pub certify-again : Top s i → (q : ℕ) → height (certifyAt s i) q ≡ height s q
-  certify-again to q = height-unique (cert-is q) (record {
+  -- a certificate of a top changes no height
+  again-height : Top s i → (q : ℕ) → height (certifyAt s i) q ≡ height s q
+  again-height to q = height-unique (cert-is q) (record {
     bound = λ t k v. ⊎-elim (λ m. height-is s z q .bound t m v) (λ e. height-is s z q .bound t (subst (Top s) (sym e) to) v) (cert-top t k);
     met = ⊎-elim inl (λ (t, m, v, e). inr (t, top-cert t (inl m), v, e)) (height-is s z q .met);
   })
@@ -243,3 +249,80 @@ settle-is s z p = height-is (withPathHeights s) z p
 pub settled-height : (s : Store) → Sized s → (p : ℕ) → withPathHeights s .heights p ≡ height (withPathHeights s) p
 unfolding withPathHeights withPoints
 settled-height s z p = height-unique (height-is s z p) (settle-is s z p)
+
+-- ---- a second certificate
+
+-- the top bit set where it stands
+set-again : (b : Bool) (x : Point) → (b ≡ true → x .flags .top ≡ true) → setTop b x ≡ x
+unfolding setTop
+set-again false x h = refl
+set-again true x h = λ j. record {
+  named = x .named;
+  id = x .id;
+  resolution = x .resolution;
+  flags = record { top = sym (h refl) j; started = x .flags .started; completed = x .flags .completed; committed = x .flags .committed };
+}
+
+-- a path from a named point ends at one
+path-named : (s : Store) (t q : ℕ) → Path (LinkedTo s) t q → s .pt t .named ≡ true → s .pt q .named ≡ true
+path-named s t q here n = n
+path-named s t q (step {q = x} e w) n = path-named s x q w (linked _ _ e .named-is)
+
+-- no path leads to a free place
+free-height : (s : Store) → Sized s → (q : ℕ) → s .pt q .named ≡ false → height s q ≡ 0
+free-height s z q f = ⊎-elim (λ e. e) (λ (t, to, v, e). absurd (clash (path-named s t q v (and-l _ (s .pt t .flags .top) to)) f)) (height-is s z q .met)
+
+-- free places hold the height 0, as in every store that tables are read as
+abbrev pub FreeAtZero : Store → Type 0
+FreeAtZero s = (q : ℕ) → s .pt q .named ≡ false → s .heights q ≡ 0
+
+module _ (s : Store) (w : Wf s) (f : FreeAtZero s) (i : ℕ) (to : Top s i) where
+  again-point : (p : ℕ) → certifyAt s i .pt p ≡ s .pt p
+  unfolding certifyAt withPathHeights withPoints
+  again-point p = set-again (eqb p i) (s .pt p) (λ e. subst (λ x. s .pt x .flags .top ≡ true) (sym (eqb-true p i e)) (and-r (s .pt i .named) _ to))
+
+  -- the points with their certificate
+  abbrev marked : Store
+  marked = withPoints s (λ p. setTop (eqb p i) (s .pt p)) (s .heights)
+
+  marked-sized : Sized marked
+  unfolding withPoints setTop
+  marked-sized = w .sized
+
+  again-stored : (p : ℕ) → certifyAt s i .heights p ≡ s .heights p
+  unfolding certifyAt
+  again-stored p =
+      settled-height marked marked-sized p ∙ again-height s (w .sized) i (and-l _ (s .pt i .flags .top) to) to p
+      ∙ byTest (s .pt p .named) (λ n. sym (w .heightsAre p n)) (λ n. free-height s (w .sized) p n ∙ sym (f p n))
+
+  -- "A second certificate changes nothing.": the store after it is the store before it
+  pub certify-again : certifyAt s i ≡ s
+  unfolding certifyAt withPathHeights withPoints
+  certify-again = λ j. record {
+    phase = s .phase;
+    places = s .places;
+    pt = λ p. again-point p j;
+    heights = λ p. again-stored p j;
+    bottom = s .bottom;
+    top = s .top;
+    rounds = s .rounds;
+    conf = s .conf;
+    progress = s .progress;
+    memory = s .memory;
+  }
+
+-- an id that passes 5, 6, 5
+at-good : {A : Type 0} (s : Store) (i : Id) (o : Out A) → s .bottom ≤ i .round → i .round ≤ s .top → isPeer s i ≡ true → atId s i o ≡ o
+unfolding atId isPeer
+at-good s i o l h p =
+    refuse-back (leb 32 (i .author)) 5 _ (lt-leb 32 (i .author) (ltb-true (i .author) 32 (and-l _ (member (s .rounds (i .round) .peers) (i .author)) p))) ∙ refuse-back _ 6 _ (ap not (both (le-leb _ _ l) (le-leb _ _ h))) ∙ refuse-back _ 5 o (ap not p)
+
+-- so of the call: it answers done and leaves the store as it was
+pub certify-call-again : (s : Store) → Wf s → FreeAtZero s → (i : Id) (q : ℕ) → find s i ≡ some q → Top s q → call s (certify i) ≡ withoutBuffer s done
+unfolding call perform finish doCertify
+certify-call-again s w f i q e to =
+    let k = find-some s i q e in
+    let (l, h) = w .kept q (k .named) in
+    let placed : placeOf s i ≡ good q = place-at s i ∙ rw e refl in
+    let at : doCertify s i ≡ good s = at-good s i _ (subst (λ (x : Id). s .bottom ≤ x .round) (k .is) l) (subst (λ (x : Id). x .round ≤ s .top) (k .is) h) (subst (λ (x : Id). isPeer s x ≡ true) (k .is) (w .peer q (k .named))) ∙ ap (λ o. then o (λ q. good (certifyAt s q))) placed ∙ ap good (certify-again s w f q to) in
+    rw (countsAsStarted-intro s (w .sized) w, call) (ap (finish s) at)

@@ -137,9 +137,15 @@ pub merge-from : (x y : MempoolPeerCounters) (a b c d e f g h i : ℕ)
 unfolding mergeOf
 merge-from x y a b c d e f g h i a₁ b₁ c₁ d₁ e₁ f₁ g₁ h₁ i₁ = λ j. nine (a₁ j) (b₁ j) (c₁ j) (d₁ j) (e₁ j) (f₁ j) (g₁ j) (h₁ j) (i₁ j)
 
-pub skipped-from : (c : MempoolPeerCounters) (n r : ℕ) → r ≡ sum16 (c .«references_skipped») n → setSkipped c r ≡ withSkipped c n
-unfolding withSkipped
-skipped-from c n r e = ap (setSkipped c) e
+pub skipped-from : (c o r : MempoolPeerCounters) (n : ℕ) → Below 65535 c → o ≡ noCounters → r ≡ mergeOf c (setSkipped o n) → r ≡ withSkipped c n
+unfolding mergeOf withSkipped countersOf
+skipped-from c o r n h e k =
+    k
+    ∙ (ap (λ x. mergeOf c (setSkipped x n)) e
+    ∙ (λ i. nine (same (c .«was_leader») (h .wasLeader) i) (same (c .«skipped_rounds») (h .skippedRounds) i) (same (c .«valid_points») (h .validPoints) i) (same (c .«points_proved») (h .pointsProved) i) (same (c .equivocated) (h .equivocated) i) (same (c .«trans_invalid_points») (h .transInvalid) i) (same (c .«invalid_points») (h .invalid) i) (same (c .«ill_formed_points») (h .illFormed) i) (sum16 (c .«references_skipped») n)))
+  where
+    same : (m : ℕ) → m ≤ 65535 → sum16 m 0 ≡ m
+    same m l = omega arith
 
 -- ---- the score
 

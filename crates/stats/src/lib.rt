@@ -22,6 +22,11 @@ pub struct MempoolPeerCounters {
     pub references_skipped: u16,
 }
 
+pub const COUNTERS: usize = 9;
+
+// A counter at most.
+const COUNTER_MAX: u16 = 65535;
+
 // What a count weighs, by counter (in the order of MempoolPeerCounters) and band: 1 to 9, 10 to 99, 100 up.
 const WEIGHTS: [[u32; 3]; 9] = [
     [0, 0, 0],
@@ -68,7 +73,11 @@ fn weigh(counter: usize, count: u16) -> u32
 fn saturating_add(x: u16, y: u16) -> u16
     ensures { λ r. ⌜ r ≡ min (x + y) 65535 ⌝ }
 {
-    if x < 65535 - y { x + y } else { 65535 }
+    if x < COUNTER_MAX - y {
+        x + y
+    } else {
+        COUNTER_MAX
+    }
 }
 
 impl MempoolPeerCounters {
@@ -109,17 +118,17 @@ impl MempoolPeerCounters {
         }
     }
 
-    // With this number more of references skipped; stops at 65,535.
-    pub fn with_skipped(self, value: u16) -> MempoolPeerCounters
+    // With this number more of references skipped, which isn't known at the same time as the others; stops at 65,535.
+    pub fn add_references_skipped(self, value: u16) -> MempoolPeerCounters
         ensures { λ r. ⌜ r ≡ withSkipped self value ⌝ }
     {
-        let mut next = self;
-        next.references_skipped = saturating_add(self.references_skipped, value);
-        next
+        let mut skipped = MempoolPeerCounters::new();
+        skipped.references_skipped = value;
+        merged(self, skipped)
     }
 
     // The counters in their order.
-    pub fn counts(self) -> [u16; 9]
+    pub fn counts(self) -> [u16; COUNTERS]
         ensures { λ r. ⌜ r ≡ counterList (countersOf self) ⌝ }
     {
         [
@@ -142,7 +151,7 @@ impl MempoolPeerCounters {
         let counts = self.counts();
         let mut sum: u32 = 0;
         let mut counter: usize = 0;
-        while counter < 9 {
+        while counter < COUNTERS {
             sum += weigh(counter, counts[counter]);
             counter += 1;
         }
@@ -157,18 +166,11 @@ pub fn merge_into(c: &mut MempoolPeerCounters, other: MempoolPeerCounters)
     *c = MempoolPeerCounters::merge(*c, other);
 }
 
-// Adds references skipped: this counter isn't known at the same time as the others.
-pub fn add_references_skipped(c: &mut MempoolPeerCounters, value: u16)
-    ensures { λ _. ⌜ now (c .exit) ≡ withSkipped (now (c .entry)) value ⌝ }
-{
-    *c = MempoolPeerCounters::with_skipped(*c, value);
-}
-
 // The same by value: a copy is changed in place and returned.
-pub fn skipped_added(c: MempoolPeerCounters, value: u16) -> MempoolPeerCounters
-    ensures { λ r. ⌜ r ≡ withSkipped c value ⌝ }
+pub fn merged(c: MempoolPeerCounters, other: MempoolPeerCounters) -> MempoolPeerCounters
+    ensures { λ r. ⌜ r ≡ mergeOf c other ⌝ }
 {
     let mut next = c;
-    add_references_skipped(&mut next, value);
+    merge_into(&mut next, other);
     next
 }

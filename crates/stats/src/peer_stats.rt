@@ -4,6 +4,7 @@ ghost use mathlib.Core.Path.{_≡_};
 ghost use Prim.Native.Nat.{_<_};
 ghost use Rattle.stats.specs.PeerStats.{noStats, addedInOrder};
 use crate::MempoolPeerCounters;
+use crate::merged;
 use models::parts::Round;
 
 // `filled_rounds` is 0 if the peer has no counters yet; the others then say nothing.
@@ -46,7 +47,7 @@ impl MempoolPeerStats {
             first_round,
             last_round: round,
             filled_rounds: self.filled_rounds + 1,
-            cumulative: cumulative.merge(counters),
+            cumulative: merged(cumulative, counters),
         }
     }
 }

@@ -7,7 +7,8 @@ use native.Mathlib.Omega.{arith}
 use lib.ListN.{getD, length}
 use lib.Seq.{getD-set-same, getD-set-other, set-out}
 use Rattle.laws.specs.Test.{sameOr, leOr}
-use Rattle.tables_heights.specs.View.{reach, heightAt, ownAt}
+use Rattle.tables_heights.specs.View.{heightAt, ownAt}
+use Rattle.models.specs.Live.{reach}
 use Rattle.tables_heights.specs.Model.{raised, pushed, pushedOne, pushedAll, raised-up, raised-same, raised-out, raised-length, pushed-length, all-length}
 use Rattle.models.specs.Tables.{placeAt, targetAt, dist}
 

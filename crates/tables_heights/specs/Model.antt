@@ -11,7 +11,8 @@ use lib.ListN.{getD, set, length, length-set, replicate}
 use lib.Seq.{set-getD, set-out}
 use borrow.Author.Tests.{eq-eqb, ne-eqb}
 use Rattle.laws.specs.Scan.{every}
-use Rattle.tables_heights.specs.View.{reach, heightAt, ownAt}
+use Rattle.tables_heights.specs.View.{heightAt, ownAt}
+use Rattle.models.specs.Live.{reach}
 use Rattle.models.specs.Cert.{heightOf}
 use Rattle.models.specs.Tables.{placeAt, targetAt, dist}
 
@@ -71,9 +72,9 @@ pub raised-out : (h : List ℕ) (p v : ℕ) → length h ≤ p → raised h p v 
 unfolding raised
 raised-out h p v l = set-out h p (max (getD h p 0) v) l
 
-pub pushed-more : (a : ℕ → ℕ) (h g r : List ℕ) (v k x : ℕ) → g ≡ pushed a h v k → r ≡ raised g (a k) x → x ≡ v - dist k → r ≡ pushed a h v (k + 1)
+pub pushed-more : (a : ℕ → ℕ) (h g r : List ℕ) (v k t x : ℕ) → g ≡ pushed a h v k → t ≡ a k → r ≡ raised g t x → x ≡ v - dist k → r ≡ pushed a h v (k + 1)
 unfolding pushed
-pushed-more a h g r v k x p q e = rw add-one (q ∙ (rw (p, e) refl))
+pushed-more a h g r v k t x p w q e = rw add-one (q ∙ (rw (p, w, e) refl))
 
 pub pushed-end : (a : ℕ → ℕ) (h g : List ℕ) (v k m : ℕ) → g ≡ pushed a h v k → k ≤ m → m ≤ k → g ≡ pushed a h v m
 pushed-end a h g v k m p b c = let e : k ≡ m = omega arith in rw e at p

@@ -14,7 +14,8 @@ use Rattle.laws.specs.Scan.{any, any-intro, any-elim, every-elim, every-intro}
 use Rattle.spec.specs.Paths.{Path, IsHeight}
 use Rattle.spec.specs.Graph.{Down, along}
 use Rattle.spec.specs.Heights.{Why, none, self, link, Local, local→paths, paths→local}
-use Rattle.tables_heights.specs.View.{reach, heightAt, topAt, ownAt, own-top, own-none}
+use Rattle.tables_heights.specs.View.{heightAt, topAt, ownAt, own-top, own-none}
+use Rattle.models.specs.Live.{reach}
 use Rattle.tables_heights.specs.Model.{pushedAll, blank, agrees, heightsHold}
 use Rattle.tables_heights.specs.Cells.{all-own, all-gets, all-met, Given}
 use Rattle.models.specs.Tables.{roundAt, placeAt, Inside, Used, targetAt, dist}

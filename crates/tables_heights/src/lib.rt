@@ -1,16 +1,22 @@
 // Origin: models/cert.rs (max_height_published).
 // The stored heights tested in one pass over the links.
 ghost use mathlib.Core.Path.{_≡_};
-ghost use Prim.Native.Nat.{_+_, _*_, _-_, _/_, _%_, _<_, _≤_};
+ghost use Prim.Native.Nat.{_+_, _*_, _-_, _/_, _<_, _≤_};
 ghost use lib.ListN.{length};
-ghost use Rattle.tables_heights.specs.View.{reach, ownOf};
+ghost use Rattle.tables_heights.specs.View.{ownOf};
 ghost use Rattle.tables_heights.specs.Model.{raised, pushed, pushedOne, pushedAll, agrees, heightsHold};
 ghost use Rattle.models.specs.Cert.{heightOf};
 ghost use Rattle.models.specs.Tables.{Inside, targetAt};
 use models::cert::Cert;
-use models::dag_point::Resolved;
 use models::parts::Height;
 use models::parts::Round;
+use models::place::live_links;
+use models::place::target;
+use models::tables::PEERS_MAX;
+use models::tables::PLACES_MAX;
+
+// A cell for each target word: one for no link, one for each place.
+const HEIGHT_CELLS: usize = PLACES_MAX + 1;
 
 // Raises cell p to v; a p that is no cell is passed over.
 fn raise(cells: &mut [u16], p: u64, v: Height)
@@ -41,32 +47,9 @@ fn push(cells: &mut [u16], links: &[u64], q: usize, v: Height, m: usize)
     }
     let mut k: usize = 0;
     while k < m {
-        let d = (1 + k / 32) as u16;
-        raise(cells, links[q * 328 + 8 + k], less(v, d));
+        let d = (1 + k / PEERS_MAX) as u16;
+        raise(cells, target(links, q, k), less(v, d));
         k += 1;
-    }
-}
-
-// How many links of place q are live.
-pub fn live_links(keys: &[u64], bottom: Round, q: usize) -> usize
-    requires { ⌜ q * 8 + 8 ≤ length (now keys) ⌝ }
-    ensures { λ r. ⌜ r ≡ reach (bottom .0) (now (keys .entry)) q ⌝ }
-    ensures { λ r. ⌜ r ≤ 64 ⌝ }
-{
-    let case = dag_round_keys::case_at(keys, q);
-    match case {
-        Resolved::Nothing => 0,
-        Resolved::Case(_) => {
-            let r = keys[q * 8 + 0];
-            let b = bottom.0 as u64;
-            if r < b + 1 {
-                return 0;
-            }
-            if r < b + 2 {
-                return 32;
-            }
-            64
-        }
     }
 }
 
@@ -145,7 +128,7 @@ pub fn heights_hold(
     requires { ⌜ Inside (now order) n (length (now order)) ⌝ }
     ensures { λ r. ⌜ r ≡ heightsHold (bottom .0) (top .0) (now (keys .entry)) (now (links .entry)) (now (certs .entry)) (now (order .entry)) n ⌝ }
 {
-    let mut cells = [0u16; 4097];
+    let mut cells = [0u16; HEIGHT_CELLS];
     push_all(&mut cells, keys, links, certs, order, n, bottom, top);
     agree(&cells, certs, order, n)
 }

@@ -10,12 +10,24 @@ ghost use Rattle.models.specs.Tables.{placeAt, Inside};
 ghost use Rattle.tables_ids.specs.Ids.{idHolds};
 use models::parts::Round;
 use models::parts::has_peer;
+use models::tables::PEER_LAST_WORD;
+use models::tables::PEER_SLOTS_WORD;
+use models::tables::PEERS_MAX;
+use models::tables::ROUND_SLOTS_WORD;
+use models::tables::ROUNDS_MAX;
+use models::tables::VERSIONS_MAX;
+
+// A cell for each round and author.
+const SEEN_CELLS: usize = ROUNDS_MAX * PEERS_MAX;
+
+// What a cell counts at most.
+const VERSIONS: u8 = VERSIONS_MAX as u8;
 
 // The cell that a round and an author count in.
 fn cell(round: u64, author: u64) -> usize
     ensures { λ r. ⌜ (r ≡ cellOf round author) × (r < 16384) ⌝ }
 {
-    (round % 512 * 32 + author % 32) as usize
+    (round % ROUND_SLOTS_WORD * PEER_SLOTS_WORD + author % PEER_SLOTS_WORD) as usize
 }
 
 // Counts place q, if there is room.
@@ -25,10 +37,10 @@ fn count_one(seen: &mut [u8], keys: &[u64], q: usize) -> bool
     ensures { λ _. ⌜ now (seen .exit) ≡ counted (now (keys .entry)) (now (seen .entry)) q ⌝ }
 {
     let i = cell(
-        dag_round_keys::round_word(keys, q),
-        dag_round_keys::author(keys, q),
+        models::place::round_word(keys, q),
+        models::place::author(keys, q),
     );
-    if 4 <= seen[i] {
+    if VERSIONS <= seen[i] {
         return false;
     }
     seen[i] = seen[i] + 1;
@@ -59,7 +71,7 @@ pub fn versions_hold(keys: &[u64], order: &[u64], n: usize) -> bool
     requires { ⌜ Inside (now order) n (length (now order)) ⌝ }
     ensures { λ r. ⌜ r ≡ versionsHold (now (keys .entry)) (now (order .entry)) n ⌝ }
 {
-    let mut seen = [0u8; 16384];
+    let mut seen = [0u8; SEEN_CELLS];
     count_all(&mut seen, keys, order, n)
 }
 
@@ -73,7 +85,7 @@ pub fn id_holds(round: u64, author: u64, bottom: Round, top: Round, peers: u32) 
     if (top.0 as u64) < round {
         return false;
     }
-    if 31 < author {
+    if PEER_LAST_WORD < author {
         return false;
     }
     has_peer(peers, author as u32)

@@ -9,7 +9,7 @@ use lib.Dec.{eqb, ltb}
 use borrow.Author.Tests.{eq-eqb, ne-eqb, eqb-true, ltb-true, lt-ltb, le-ltb}
 use Rattle.laws.specs.Test.{or-l, or-r, or-cases}
 use Rattle.laws.specs.Scan.{every, every-elim}
-use Rattle.tables_heights.specs.View.{reach}
+use Rattle.models.specs.Live.{reach}
 use Rattle.models.specs.DagPoint.{caseOf, hasInfo}
 use Rattle.models.specs.declared.dag_point.DagPoint.{DagPoint}
 use Rattle.models.specs.declared.dag_point.Resolved.{Resolved}

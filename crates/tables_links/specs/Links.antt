@@ -1,18 +1,18 @@
 -- The test of the links as the code makes it (dag/dag_round.rs).
-use Prim.Native.Nat.{ℕ, zero, suc, _+_, _-_, _*_, _%_, _≤_, _<_}
-use mathlib.Core.Path.{_≡_, refl, sym, _∙_}
+use Prim.Native.Nat.{ℕ, _+_, _-_, _*_, _%_, _≤_, _<_}
+use mathlib.Core.Path.{_≡_, sym, _∙_}
 use mathlib.Core.Bool.{Bool, true, false, not, _&&_, _||_}
 use mathlib.Core.List.{List}
 use native.Mathlib.Omega.{arith}
-use native.Mathlib.Numerals.{add-one}
-use lib.ListN.{getD, set, length, length-set, replicate}
+use lib.ListN.{getD, length, replicate}
 use lib.Dec.{eqb, ltb}
 use borrow.Author.Tests.{eq-eqb, ne-eqb, lt-ltb, le-ltb, not-true, not-false}
 use Rattle.laws.specs.Test.{or-l, and-no, and-yes}
 use Rattle.laws.specs.Scan.{every}
-use Rattle.tables_heights.specs.View.{reach, Live, reach-live}
+use Rattle.models.specs.Live.{reach, Live, reach-live}
 use Rattle.models.specs.Digest.{digestAt}
 use Rattle.models.specs.Tables.{roundAt, authorAt, digestOf, placeAt, targetAt, dist}
+use Rattle.dag_round_order.specs.Marks.{marked}
 
 -- where the digest of link k of the place q stands
 abbrev pub digAt : ℕ → ℕ → ℕ
@@ -33,11 +33,6 @@ linkRight ks ls ms places q k = eqb (targetAt ls q k) 0 || leadsTo ks ls ms plac
 unfoldable pub linksRight : List ℕ → List ℕ → List Bool → ℕ → ℕ → ℕ → Bool
 linksRight ks ls ms places q m = every m (linkRight ks ls ms places q)
 
--- the marks ms, and those of the first i places of the order
-unfoldable pub marked : List Bool → List ℕ → ℕ → List Bool
-marked ms os zero = ms
-marked ms os (suc i) = set (marked ms os i) (placeAt os i) true
-
 -- no marks
 unfoldable pub blank : List Bool
 blank = replicate 4096 false
@@ -45,19 +40,6 @@ blank = replicate 4096 false
 -- the live links of every used place
 unfoldable pub linksHold : ℕ → List ℕ → List ℕ → List ℕ → ℕ → Bool
 linksHold b ks ls os n = every n (λ i. linksRight ks ls (marked blank os n) (length os) (placeAt os i) (reach b ks (placeAt os i)))
-
--- the code's steps
-pub marked-more : (ms gs rs : List Bool) (os : List ℕ) (i p : ℕ) → gs ≡ marked ms os i → p ≡ placeAt os i → rs ≡ set gs p true → rs ≡ marked ms os (i + 1)
-unfolding marked
-marked-more ms gs rs os i p g e r = rw add-one (r ∙ rw (g, e) refl)
-
-pub marked-end : (ms gs : List Bool) (os : List ℕ) (i n : ℕ) → gs ≡ marked ms os i → i ≤ n → n ≤ i → gs ≡ marked ms os n
-marked-end ms gs os i n g l m = let e : i ≡ n = omega arith in rw e at g
-
-pub marked-length : (ms : List Bool) (os : List ℕ) (i : ℕ) → length (marked ms os i) ≡ length ms
-unfolding marked
-marked-length ms os zero = refl
-marked-length ms os (suc i) = length-set (marked ms os i) (placeAt os i) true ∙ marked-length ms os i
 
 -- one law for each way out of the test of one link: x and y are the rounds, z the author that are read
 module _ (ks ls : List ℕ) (q k p x y : ℕ) (e : x ≡ roundAt ks p) (f : y ≡ roundAt ks q) where

@@ -11,9 +11,10 @@ use lib.Dec.{eqb, ltb}
 use borrow.Author.Tests.{eqb-true, eq-eqb, lt-ltb}
 use Rattle.laws.specs.Test.{both, and-l, and-r, or-l, or-r, or-cases, clash, sameOr, leOr}
 use Rattle.laws.specs.Scan.{every-elim, every-intro}
-use Rattle.tables_heights.specs.View.{reach, reach-live, Live}
+use Rattle.models.specs.Live.{reach, reach-live, Live}
 use Rattle.tables_heights.specs.Refines.{Falls}
-use Rattle.tables_links.specs.Links.{digAt, fits, leadsTo, linkRight, linksRight, marked, blank, linksHold, marked-length}
+use Rattle.tables_links.specs.Links.{digAt, fits, leadsTo, linkRight, linksRight, blank, linksHold}
+use Rattle.dag_round_order.specs.Marks.{marked, marked-length}
 use Rattle.models.specs.Digest.{digestAt}
 use Rattle.models.specs.Tables.{roundAt, authorAt, digestOf, placeAt, Inside, Used, targetAt, dist}
 

@@ -10,11 +10,11 @@ use lib.Dec.{eqb, ltb}
 use borrow.Author.Tests.{eqb-true, eq-eqb, ne-eqb, not-true, ltb-true, lt-ltb, leb-true, le-leb}
 use Rattle.laws.specs.Test.{both, clash, and-l, and-r, or-l, or-r, or-cases, sameOr, leOr}
 use Rattle.laws.specs.Scan.{every, every-elim, every-intro}
-use Rattle.tables_heights.specs.View.{reach, reach-live, Live}
+use Rattle.models.specs.Live.{reach, reach-live, Live}
 use Rattle.tables_links.specs.Bare.{emptyFrom, bareAt, empty-below, empty-more, empty-elim, by-none, by-full, by-bare}
-use Rattle.tables_links.specs.Words.{proofRoundAt, proofAuthorAt, pointInRange, resolutionInRange, toldFits, wordsAt, resolution-none, resolution-some}
+use Rattle.tables_links.specs.Words.{pointInRange, resolutionInRange, toldFits, wordsAt, resolution-none, resolution-some}
 use Rattle.models.specs.Cert.{flagsOf, heightOf}
-use Rattle.models.specs.Tables.{roundAt, authorAt, statusAt, marksAt, placeAt, Used, targetAt, dist, evidenceAt}
+use Rattle.models.specs.Tables.{roundAt, authorAt, statusAt, marksAt, placeAt, Used, targetAt, dist, evidenceAt, proofRoundAt, proofAuthorAt}
 
 -- a test of every position of the order is one of every used place
 pub every-used : (os : List ℕ) (n : ℕ) (f : ℕ → Bool) (P : ℕ → Type 0) → ((q : ℕ) → (f q ≡ true) ↔ P q) → (every n (λ i. f (placeAt os i)) ≡ true) ↔ ((q : ℕ) → Used os n q → P q)

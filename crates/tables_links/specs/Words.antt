@@ -1,5 +1,5 @@
 -- The ranges of the words of a used place (dag/dag_round.rs).
-use Prim.Native.Nat.{ℕ, zero, suc, _+_, _*_, _≤_, _<_}
+use Prim.Native.Nat.{ℕ, zero, suc, _≤_, _<_}
 use mathlib.Core.Path.{_≡_, refl, sym, _∙_, ap, ap₂}
 use mathlib.Core.Bool.{Bool, true, not, _&&_, _||_}
 use mathlib.Core.List.{List}
@@ -10,15 +10,8 @@ use Rattle.models.specs.DagPoint.{caseOf}
 use Rattle.models.specs.declared.dag_point.DagPoint.{DagPoint}
 use Rattle.models.specs.declared.dag_point.Resolved.{Resolved}
 use Rattle.models.specs.declared.dag_point.Resolved.the-variants.{Case, Nothing}
-use Rattle.models.specs.Tables.{authorAt, statusAt, marksAt, evidenceAt}
+use Rattle.models.specs.Tables.{authorAt, statusAt, marksAt, evidenceAt, proofRoundAt, proofAuthorAt}
 use Rattle.models.specs.Cert.{flagsOf, heightOf}
-
--- the round and the author of the top proof
-abbrev pub proofRoundAt : List ℕ → ℕ → ℕ
-proofRoundAt ls q = getD ls (q * 328 + 1) 0
-
-abbrev pub proofAuthorAt : List ℕ → ℕ → ℕ
-proofAuthorAt ls q = getD ls (q * 328 + 2) 0
 
 -- status, marks, author, certificate word
 unfoldable pub pointInRange : ℕ → ℕ → ℕ → ℕ → Bool

@@ -2,50 +2,50 @@
 // The stored links and words of the used places.
 ghost use mathlib.Core.Path.{_≡_};
 ghost use Prim.Native.Nat.{ℕ, _+_, _*_, _-_, _/_, _%_, _<_, _≤_};
-ghost use lib.ListN.{length, getD};
-ghost use Rattle.tables_links.specs.Links.{fits, linkRight, linksRight, marked};
+ghost use lib.ListN.{length};
+ghost use Rattle.tables_links.specs.Links.{fits, linkRight, linksRight};
 ghost use Rattle.tables_links.specs.Bare.{emptyFrom, bareAt};
 ghost use Rattle.tables_links.specs.Words.{pointInRange, resolutionInRange, toldFits, wordsAt};
-ghost use Rattle.tables_heights.specs.View.{reach};
-ghost use Rattle.models.specs.Tables.{roundAt, targetAt, Inside, dist};
-use dag_round_keys::author;
-use dag_round_keys::round_word;
+ghost use Rattle.models.specs.Live.{reach};
+ghost use Rattle.models.specs.Tables.{roundAt, dist};
 use laws::and;
 use laws::or;
+use models::cert::CERT_MAX;
 use models::cert::Cert;
 use models::dag_point::Resolved;
 use models::parts::Round;
-
-// The target word of link k of place q: 0 for no link, else 1 + the place that it leads to.
-pub fn target(links: &[u64], q: usize, k: usize) -> u64
-    requires { ⌜ (q * 328 + 328 ≤ length (now links)) × (k < 64) ⌝ }
-    ensures { λ r. ⌜ r ≡ targetAt (now (links .entry)) q k ⌝ }
-{
-    links[q * 328 + 8 + k]
-}
-
-// Word f of place q, of the eight before its links.
-pub fn head_word(links: &[u64], q: usize, f: usize) -> u64
-    requires { ⌜ (q * 328 + 328 ≤ length (now links)) × (f < 8) ⌝ }
-    ensures { λ r. ⌜ r ≡ getD (now (links .entry)) (q * 328 + f) 0 ⌝ }
-{
-    links[q * 328 + f]
-}
+use models::place::author;
+use models::place::head_word;
+use models::place::round_word;
+use models::place::target;
+use models::tables::DIGEST_WORDS;
+use models::tables::KEY_DIGEST;
+use models::tables::KEY_WORDS;
+use models::tables::LINK_DIGESTS;
+use models::tables::LINK_WORDS;
+use models::tables::LINKS_MAX;
+use models::tables::PEER_SLOTS_WORD;
+use models::tables::PEERS_MAX;
 
 // Whether place p has the round, the author and the digest that link k of place q says.
 fn fits_link(keys: &[u64], links: &[u64], q: usize, k: usize, p: usize) -> bool
     requires { ⌜ (p * 8 + 8 ≤ length (now keys)) × (q * 8 + 8 ≤ length (now keys)) × (q * 328 + 328 ≤ length (now links)) × (k < 64) × (dist k ≤ roundAt (now keys) q) ⌝ }
     ensures { λ r. ⌜ r ≡ fits (now (keys .entry)) (now (links .entry)) q k p ⌝ }
 {
-    let d = (1 + k / 32) as u64;
+    let d = (1 + k / PEERS_MAX) as u64;
     if round_word(keys, p) != round_word(keys, q) - d {
         return false;
     }
-    let peer = (k % 32) as u64;
+    let peer = (k % PEERS_MAX) as u64;
     if author(keys, p) != peer {
         return false;
     }
-    dag_round_keys::same_digest(keys, p * 8 + 2, links, q * 328 + 72 + k * 4)
+    dag_round_keys::same_digest(
+        keys,
+        p * KEY_WORDS + KEY_DIGEST,
+        links,
+        q * LINK_WORDS + LINK_DIGESTS + k * DIGEST_WORDS,
+    )
 }
 
 // Whether link k of place q is none, or leads to the used place that it says.
@@ -97,20 +97,6 @@ fn links_right(
     true
 }
 
-// Marks the first n places of the order.
-pub fn mark(marks: &mut [bool], order: &[u64], n: usize)
-    requires { ⌜ (length (now order) ≤ length (now marks)) × (n ≤ length (now order)) ⌝ }
-    requires { ⌜ Inside (now order) n (length (now order)) ⌝ }
-    ensures { λ _. ⌜ now (marks .exit) ≡ marked (now (marks .entry)) (now (order .entry)) n ⌝ }
-{
-    let mut i: usize = 0;
-    while i < n {
-        let p = dag_round_keys::place(order, n, i);
-        marks[p] = true;
-        i += 1;
-    }
-}
-
 // Whether every live link of place q leads to the used place that it says.
 pub fn live_right(
     keys: &[u64],
@@ -123,7 +109,7 @@ pub fn live_right(
     requires { ⌜ (places ≤ length (now marks)) × (length (now keys) ≡ places * 8) × (length (now links) ≡ places * 328) × (q < places) ⌝ }
     ensures { λ r. ⌜ r ≡ linksRight (now (keys .entry)) (now (links .entry)) (now (marks .entry)) places q (reach (bottom .0) (now (keys .entry)) q) ⌝ }
 {
-    let m = tables_heights::live_links(keys, bottom, q);
+    let m = models::place::live_links(keys, bottom, q);
     links_right(keys, links, marks, places, q, m)
 }
 
@@ -133,7 +119,7 @@ fn empty_from(links: &[u64], q: usize, m: usize) -> bool
     ensures { λ r. ⌜ r ≡ emptyFrom (now (links .entry)) q m ⌝ }
 {
     let mut k = m;
-    while k < 64 {
+    while k < LINKS_MAX {
         if target(links, q, k) != 0 {
             return false;
         }
@@ -148,11 +134,11 @@ pub fn bare_one(keys: &[u64], links: &[u64], q: usize) -> bool
     requires { ⌜ (q * 8 + 8 ≤ length (now keys)) × (q * 328 + 328 ≤ length (now links)) ⌝ }
     ensures { λ r. ⌜ r ≡ bareAt (now (keys .entry)) (now (links .entry)) q ⌝ }
 {
-    let case = dag_round_keys::case_at(keys, q);
+    let case = models::place::case_at(keys, q);
     match case {
         Resolved::Case(p) => {
             if p.has_info() {
-                return empty_from(links, q, tables_heights::live_links(keys, Round(0), q));
+                return empty_from(links, q, models::place::live_links(keys, Round(0), q));
             }
             and(head_word(links, q, 0) == 0, empty_from(links, q, 0))
         }
@@ -167,7 +153,10 @@ fn point_in_range(s: u64, m: u64, a: u64, cert: Cert) -> bool
     let committed = or(cert.is_certified(), !cert.is_committed());
     and(
         s <= 5,
-        and(m < 8, and(a < 32, and(cert.0 <= 65535, committed))),
+        and(
+            m < 8,
+            and(a < PEER_SLOTS_WORD, and(cert.0 <= CERT_MAX, committed)),
+        ),
     )
 }
 
@@ -175,7 +164,7 @@ fn point_in_range(s: u64, m: u64, a: u64, cert: Cert) -> bool
 fn resolution_in_range(e: u64, r: u64, a: u64) -> bool
     ensures { λ x. ⌜ x ≡ resolutionInRange e r a ⌝ }
 {
-    and(e < 4294967296, and(r < 4294967296, a < 32))
+    and(e < 4294967296, and(r < 4294967296, a < PEER_SLOTS_WORD))
 }
 
 // The evidence and the top proof of place q, if its point is resolved.
@@ -183,7 +172,7 @@ fn told_fits(keys: &[u64], links: &[u64], q: usize) -> bool
     requires { ⌜ (q * 8 + 8 ≤ length (now keys)) × (q * 328 + 328 ≤ length (now links)) ⌝ }
     ensures { λ r. ⌜ r ≡ toldFits (now (keys .entry)) (now (links .entry)) q ⌝ }
 {
-    let case = dag_round_keys::case_at(keys, q);
+    let case = models::place::case_at(keys, q);
     match case {
         Resolved::Case(_) => {
             let e = head_word(links, q, 0);
@@ -200,8 +189,8 @@ pub fn words_one(keys: &[u64], links: &[u64], certs: &[u64], q: usize) -> bool
     requires { ⌜ (q * 8 + 8 ≤ length (now keys)) × (q * 328 + 328 ≤ length (now links)) × (q < length (now certs)) ⌝ }
     ensures { λ r. ⌜ r ≡ wordsAt (now (keys .entry)) (now (links .entry)) (now (certs .entry)) q ⌝ }
 {
-    let s = dag_round_keys::status(keys, q);
-    let m = dag_round_keys::marks_at(keys, q);
+    let s = models::place::status(keys, q);
+    let m = models::place::marks_at(keys, q);
     let a = author(keys, q);
     let cert = Cert(certs[q]);
     and(point_in_range(s, m, a, cert), told_fits(keys, links, q))

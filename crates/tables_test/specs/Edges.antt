@@ -14,7 +14,7 @@ use Rattle.models.specs.Digest.{Fit, digest-words}
 use Rattle.models.specs.Tables.{roundAt, authorAt, digestOf, statusAt, placeAt, Used}
 use Rattle.dag_round_keys.specs.Key.{key}
 use Rattle.dag_round_keys.specs.Sorted.{Sorted, sorted-key}
-use Rattle.tables_heights.specs.View.{Live, reach-live}
+use Rattle.models.specs.Live.{Live, reach-live}
 use Rattle.tables_heights.specs.Refines.{Leads}
 use Rattle.tables_links.specs.Named.{Names, Links}
 use Rattle.commit_state.specs.View.{pointAt, resolutionAt, refsFrom}

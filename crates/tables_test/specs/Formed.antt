@@ -10,9 +10,8 @@ use borrow.Author.Tests.{lt-ltb, ltb-true, le-leb, leb-true, eqb-true, eq-eqb}
 use Rattle.laws.specs.Test.{byTest, both, and-l, and-r, leOr, only, only-elim, only-intro}
 use Rattle.spec.specs.Ids.{Ref}
 use Rattle.spec.specs.Rules.{peersAscend, refsOk, wellFormed}
-use Rattle.models.specs.Tables.{roundAt, statusAt, evidenceAt, targetAt, dist}
+use Rattle.models.specs.Tables.{roundAt, statusAt, evidenceAt, targetAt, dist, proofAuthorAt}
 use Rattle.tables_links.specs.Ruled.{Bare}
-use Rattle.tables_links.specs.Words.{proofAuthorAt}
 use Rattle.commit_state.specs.View.{refsFrom, givenAt}
 use Rattle.tables_test.specs.Refs.{refAt, refs-elim, refs-intro}
 

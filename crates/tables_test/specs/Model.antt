@@ -20,10 +20,11 @@ use Rattle.dag_round_keys.specs.Sorted.{isInside, inside-is, isSorted}
 use Rattle.commit_state.specs.View.{recordOf}
 use Rattle.tables_ids.specs.Ids.{idHolds}
 use Rattle.tables_ids.specs.Model.{versionsHold}
-use Rattle.tables_links.specs.Links.{linksRight, marked, blank}
+use Rattle.tables_links.specs.Links.{linksRight, blank}
+use Rattle.dag_round_order.specs.Marks.{marked}
 use Rattle.tables_links.specs.Bare.{bareAt}
 use Rattle.tables_links.specs.Words.{wordsAt}
-use Rattle.tables_heights.specs.View.{reach}
+use Rattle.models.specs.Live.{reach}
 use Rattle.tables_heights.specs.Model.{heightsHold}
 
 -- the tables have room for the same number of places
@@ -157,10 +158,6 @@ inside-says os n m h = inside-is os n m .0 h
 pub order-says : (s : State) (ks os : List ℕ) → orderHolds s ks os ≡ true → Inside os (s .count) (length os)
 unfolding orderHolds
 order-says s ks os h = inside-says os (s .count) (length os) (and-l _ _ h)
-
--- places below the number of places are below that of the keys
-pub inside-keys : (ks os : List ℕ) (n : ℕ) → length ks ≡ length os * 8 → Inside os n (length os) → Inside os n (length ks / 8)
-inside-keys ks os n e h i l = let k = h i l in omega arith
 
 -- the retained rounds, with their number as the code counts it
 pub rounds-no : (s : State) (r : Bool) → r ≡ rangeHolds (s .genesis .0) (s .bottom .0) (s .top .0) → not r ≡ true → false ≡ roundsHold s

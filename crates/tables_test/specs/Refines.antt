@@ -17,8 +17,9 @@ use Rattle.models.specs.Tables.{roundAt, authorAt, statusAt, Used}
 use Rattle.dag_round_keys.specs.Sorted.{isInside, isSorted, inside-is, sorted-is}
 use Rattle.tables_ids.specs.Refines.{Window, few-sound, few-complete}
 use Rattle.tables_heights.specs.Refines.{heights-sound, heights-complete}
-use Rattle.tables_heights.specs.View.{reach}
-use Rattle.tables_links.specs.Links.{linksRight, marked, blank}
+use Rattle.models.specs.Live.{reach}
+use Rattle.tables_links.specs.Links.{linksRight, blank}
+use Rattle.dag_round_order.specs.Marks.{marked}
 use Rattle.tables_links.specs.Named.{Links, place-sound, place-complete, links-fall}
 use Rattle.tables_links.specs.Bare.{bareAt}
 use Rattle.tables_links.specs.Ruled.{Bare, Words, every-used, bare-exact, words-exact}

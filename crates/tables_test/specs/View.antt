@@ -12,10 +12,9 @@ use Rattle.laws.specs.Scan.{every}
 use Rattle.spec.specs.Store as store
 use Rattle.spec.specs.Store.{Point, Store, free}
 use Rattle.models.specs.Cert.{heightOf}
-use Rattle.models.specs.Tables.{statusAt, marksAt, placeAt, Used, isUsed, evidenceAt, used-is}
+use Rattle.models.specs.Tables.{statusAt, marksAt, placeAt, Used, isUsed, evidenceAt, used-is, proofRoundAt}
 use Rattle.dag_round_keys.specs.Sorted.{isInside, isSorted}
 use Rattle.tables_links.specs.Links.{linksHold}
-use Rattle.tables_links.specs.Words.{proofRoundAt}
 use Rattle.commit_state.specs.View.{givenAt, resolutionAt, pointAt, roundsOf, confOf, progressOf, memoryOf, phaseOf}
 use Rattle.commit_state.specs.Memory.{memoryHolds}
 use Rattle.commit_state.specs.declared.state.State.{State}

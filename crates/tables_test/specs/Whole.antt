@@ -22,13 +22,13 @@ use Rattle.spec.specs.WellFormed.{Wf}
 use Rattle.models.specs.Digest.{Fit}
 use Rattle.models.specs.Cert.{flagsOf, heightOf}
 use Rattle.models.specs.Tables as tables
-use Rattle.models.specs.Tables.{roundAt, authorAt, statusAt, marksAt, evidenceAt, Inside, Used, dist}
+use Rattle.models.specs.Tables.{roundAt, authorAt, statusAt, marksAt, evidenceAt, Inside, Used, dist, proofAuthorAt}
 use Rattle.dag_round_keys.specs.Sorted.{Sorted}
 use Rattle.tables_ids.specs.Refines.{Few}
-use Rattle.tables_heights.specs.View.{heightAt, Live}
+use Rattle.tables_heights.specs.View.{heightAt}
+use Rattle.models.specs.Live.{Live}
 use Rattle.tables_heights.specs.Refines.{Heights}
 use Rattle.tables_links.specs.Named.{Links}
-use Rattle.tables_links.specs.Words.{proofAuthorAt}
 use Rattle.tables_links.specs.Ruled.{Bare, Words}
 use Rattle.tables_ids.specs.Ids.{idHolds, idAtHolds}
 use Rattle.commit_state.specs.View.{pointAt, givenAt, recordOf, roundOf, confOf, phaseOf}

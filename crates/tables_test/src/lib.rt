@@ -12,6 +12,10 @@ ghost use Rattle.tables_test.specs.View.{view};
 ghost use Rattle.tables_test.specs.Model.{shape, stateHolds, orderHolds, placeOk, eachOk, usedOk, pointsHold, tested};
 use commit_state::state::State;
 use models::parts::Round;
+use models::tables::KEY_WORDS;
+use models::tables::LINK_WORDS;
+use models::tables::PLACES_MAX;
+use models::tables::ROUND_SLOTS_WORD;
 
 // Whether a table of this many words has n places of `width` words. The product may not fit, so the words are divided.
 fn has_places(words: usize, n: usize, width: usize) -> bool
@@ -29,10 +33,10 @@ pub fn shape_holds(keys: &[u64], links: &[u64], certs: &[u64], order: &[u64]) ->
     ensures { λ r. ⌜ r ≡ shape (now (keys .entry)) (now (links .entry)) (now (certs .entry)) (now (order .entry)) ⌝ }
 {
     let n = order.len();
-    if !has_places(keys.len(), n, 8) {
+    if !has_places(keys.len(), n, KEY_WORDS) {
         return false;
     }
-    if !has_places(links.len(), n, 328) {
+    if !has_places(links.len(), n, LINK_WORDS) {
         return false;
     }
     certs.len() == n
@@ -45,7 +49,7 @@ pub fn places_hold(places: usize) -> bool
     if places == 0 {
         return false;
     }
-    places <= 4096
+    places <= PLACES_MAX
 }
 
 // Whether the retained rounds lie in their ranges and their used marks are authors. The range is tested first: within it the number of
@@ -119,8 +123,8 @@ fn place_ok(
     requires { ⌜ (places ≤ length (now marks)) × (length (now keys) ≡ places * 8) × (length (now links) ≡ places * 328) × (length (now certs) ≡ places) × (q < places) ⌝ }
     ensures { λ r. ⌜ r ≡ placeOk (bottom .0) (top .0) peers (now (keys .entry)) (now (links .entry)) (now (certs .entry)) (now (marks .entry)) places q ⌝ }
 {
-    let round = dag_round_keys::round_word(keys, q);
-    let author = dag_round_keys::author(keys, q);
+    let round = models::place::round_word(keys, q);
+    let author = models::place::author(keys, q);
     if !tables_ids::id_holds(round, author, bottom, top, peers) {
         return false;
     }
@@ -154,8 +158,8 @@ fn each_ok(
     let mut i: usize = 0;
     while i < n {
         let q = dag_round_keys::place(order, n, i);
-        let round = dag_round_keys::round_word(keys, q);
-        let x = s.rounds[(round % 512) as usize];
+        let round = models::place::round_word(keys, q);
+        let x = s.rounds[(round % ROUND_SLOTS_WORD) as usize];
         if !place_ok(keys, links, certs, marks, places, q, bottom, top, x.peers) {
             return false;
         }
@@ -171,8 +175,8 @@ fn used_ok(s: State, keys: &[u64], links: &[u64], certs: &[u64], order: &[u64]) 
     requires { ⌜ Inside (now order) (s .count) (length (now order)) ⌝ }
     ensures { λ r. ⌜ r ≡ usedOk s (now (keys .entry)) (now (links .entry)) (now (certs .entry)) (now (order .entry)) ⌝ }
 {
-    let mut marks = [false; 4096];
-    tables_links::mark(&mut marks, order, s.count);
+    let mut marks = [false; PLACES_MAX];
+    dag_round_order::mark(&mut marks, order, s.count);
     each_ok(s, keys, links, certs, &marks, order)
 }
 

@@ -9,6 +9,11 @@ use crate::bytes::byte_of;
 use crate::bytes::id_of;
 use crate::bytes::number_of;
 use crate::bytes::word_of;
+use models::output::RECORD_EXECUTABLE;
+use models::output::RECORD_POINTS;
+use models::output::RECORD_PREVIOUS;
+use models::output::RECORD_PROOF;
+use models::output::SUM_BYTES;
 use models::parts::PointId;
 
 // What stands before the points of a record.
@@ -26,10 +31,10 @@ pub fn anchor_head(b: &[u8], at: usize) -> AnchorHead
     ensures { λ r. ⌜ anchorOf r ≡ anchorIn (now (b .entry)) at ⌝ }
 {
     let anchor = id_of(b, at);
-    let proof = id_of(b, at + 37);
-    let executable = byte_of(b, at + 74);
-    let previous = number_of(b, at + 75);
-    let points = number_of(b, at + 79);
+    let proof = id_of(b, at + RECORD_PROOF);
+    let executable = byte_of(b, at + RECORD_EXECUTABLE);
+    let previous = number_of(b, at + RECORD_PREVIOUS);
+    let points = number_of(b, at + RECORD_POINTS);
     AnchorHead {
         anchor,
         proof,
@@ -51,7 +56,7 @@ pub fn anchor_sums(b: &[u8], at: usize) -> AnchorSums
     ensures { λ r. ⌜ (r .«payload_len» ≡ numberAt (now (b .entry)) at 8) × (r .«payload_bytes» ≡ numberAt (now (b .entry)) (at + 8) 8) ⌝ }
 {
     let payload_len = word_of(b, at);
-    let payload_bytes = word_of(b, at + 8);
+    let payload_bytes = word_of(b, at + SUM_BYTES);
     AnchorSums {
         payload_len,
         payload_bytes,

@@ -4,9 +4,12 @@ ghost use mathlib.Core.Path.{_≡_};
 ghost use Prim.Native.Nat.{_+_, _<_, _≤_};
 ghost use lib.ListN.{length, getD};
 ghost use Rattle.trace.specs.Numbers.{numberAt, digestWords, pointIdAt};
+use models::output::ID_AUTHOR;
+use models::output::ID_DIGEST;
 use models::parts::Digest;
 use models::parts::PointId;
 use models::parts::Round;
+use models::tables::DIGEST_WORDS;
 
 // One byte.
 pub fn byte_of(f: &[u8], at: usize) -> u32
@@ -49,7 +52,7 @@ pub fn word_of(f: &[u8], at: usize) -> u64
 }
 
 // The four words of a digest.
-pub fn digest_words(f: &[u8], at: usize) -> [u64; 4]
+pub fn digest_words(f: &[u8], at: usize) -> [u64; DIGEST_WORDS]
     requires { ⌜ at + 32 ≤ length (now f) ⌝ }
     ensures { λ r. ⌜ r ≡ digestWords (now (f .entry)) at ⌝ }
 {
@@ -66,8 +69,8 @@ pub fn id_of(f: &[u8], at: usize) -> PointId
     ensures { λ r. ⌜ r ≡ pointIdAt (now (f .entry)) at ⌝ }
 {
     let round = number_of(f, at);
-    let author = byte_of(f, at + 4);
-    let digest = digest_words(f, at + 5);
+    let author = byte_of(f, at + ID_AUTHOR);
+    let digest = digest_words(f, at + ID_DIGEST);
     PointId {
         round: Round(round),
         author,

@@ -6,6 +6,15 @@ ghost use lib.ListN.{length};
 ghost use Rattle.trace.specs.Events.{singleIn, equivocatedIn, noInclusionIn, eventIn};
 use crate::bytes::byte_of;
 use crate::bytes::number_of;
+use models::output::DIGEST_BYTES;
+use models::output::EVENT_BLAMED;
+use models::output::EVENT_BLAMED_COUNT;
+use models::output::EVENT_DIGEST_COUNT;
+use models::output::EVENT_HEAD_BYTES;
+use models::output::EVENT_PEER;
+use models::output::EVENT_ROUND;
+use models::output::ID_BYTES;
+use models::output::SINGLE_BYTES;
 use models::parts::Round;
 
 // What stands before the digests or ids of an event that is whole.
@@ -33,7 +42,7 @@ fn single_of(b: &[u8], at: usize, kind: u32) -> Event
     requires { ⌜ at ≤ length (now b) ⌝ }
     ensures { λ r. ⌜ r ≡ singleIn (now (b .entry)) at kind ⌝ }
 {
-    if b.len() - at < 38 {
+    if b.len() - at < SINGLE_BYTES {
         return Event::Cut;
     }
     Event::Single(kind)
@@ -45,13 +54,13 @@ fn equivocated_of(b: &[u8], at: usize) -> Event
     ensures { λ r. ⌜ r ≡ equivocatedIn (now (b .entry)) at ⌝ }
 {
     let left = b.len() - at;
-    if left < 10 {
+    if left < EVENT_HEAD_BYTES {
         return Event::Cut;
     }
-    let author = byte_of(b, at + 1);
-    let round = number_of(b, at + 2);
-    let count = number_of(b, at + 6) as usize;
-    if (left - 10) / 32 < count {
+    let author = byte_of(b, at + EVENT_PEER);
+    let round = number_of(b, at + EVENT_ROUND);
+    let count = number_of(b, at + EVENT_DIGEST_COUNT) as usize;
+    if (left - EVENT_HEAD_BYTES) / DIGEST_BYTES < count {
         return Event::Cut;
     }
     Event::Equivocated {
@@ -67,16 +76,16 @@ fn no_inclusion_of(b: &[u8], at: usize) -> Event
     ensures { λ r. ⌜ r ≡ noInclusionIn (now (b .entry)) at ⌝ }
 {
     let left = b.len() - at;
-    if left < 10 {
+    if left < EVENT_HEAD_BYTES {
         return Event::Cut;
     }
-    let signer = byte_of(b, at + 1);
-    let blamed = number_of(b, at + 2) as usize;
-    if (left - 10) / 37 < blamed {
+    let signer = byte_of(b, at + EVENT_PEER);
+    let blamed = number_of(b, at + EVENT_BLAMED_COUNT) as usize;
+    if (left - EVENT_HEAD_BYTES) / ID_BYTES < blamed {
         return Event::Cut;
     }
-    let proofs = number_of(b, at + 6 + blamed * 37) as usize;
-    if (left - 10) / 37 - blamed < proofs {
+    let proofs = number_of(b, at + EVENT_BLAMED + blamed * ID_BYTES) as usize;
+    if (left - EVENT_HEAD_BYTES) / ID_BYTES - blamed < proofs {
         return Event::Cut;
     }
     Event::EvidenceNoInclusion {

@@ -8,6 +8,29 @@ ghost use lib.ListN.{length};
 ghost use Rattle.trace.specs.Head.{kindOf, linksIn, fits, restAt, wholeAt, headAt, leastLeft};
 use crate::bytes::byte_of;
 use crate::bytes::number_of;
+use crate::fields::DROP_BYTES;
+use crate::fields::INFO_BYTES;
+use crate::fields::INFO_INCLUDES;
+use crate::fields::INFO_WITNESS;
+use crate::fields::REF_BYTES;
+use crate::fields::REMOVE_BYTES;
+use crate::fields::ROUND_BYTES;
+use crate::fields::START_BYTES;
+use models::output::ID_BYTES;
+
+// The length of the rest, which a record begins with.
+const LENGTH_BYTES: usize = 4;
+
+// The rest at most: version (1), kind (1), fields.
+const REST_MAX: usize = 4096;
+
+const RECORD_MAX: usize = LENGTH_BYTES + REST_MAX;
+
+const HEAD_VERSION: usize = 4;
+
+const HEAD_KIND: usize = 5;
+
+const HEAD_FIELDS: usize = 6;
 
 pub enum Kind {
     Start,
@@ -56,12 +79,12 @@ fn resolve_fits(f: &[u8]) -> bool
     ensures { λ r. ⌜ r ≡ eqb (length (now (f .entry))) (90 + 33 * linksIn (now (f .entry))) ⌝ }
 {
     let n = f.len();
-    if n < 90 {
+    if n < INFO_BYTES {
         return false;
     }
-    let includes = byte_of(f, 80) as usize;
-    let witness = byte_of(f, 81) as usize;
-    n == 90 + 33 * (includes + witness)
+    let includes = byte_of(f, INFO_INCLUDES) as usize;
+    let witness = byte_of(f, INFO_WITNESS) as usize;
+    n == INFO_BYTES + REF_BYTES * (includes + witness)
 }
 
 // Whether the fields have the length of their kind.
@@ -70,17 +93,17 @@ fn fields_fit(kind: Kind, f: &[u8]) -> bool
 {
     let n = f.len();
     match kind {
-        Kind::Start => n == 22,
-        Kind::Round => n == 8,
-        Kind::Name => n == 37,
+        Kind::Start => n == START_BYTES,
+        Kind::Round => n == ROUND_BYTES,
+        Kind::Name => n == ID_BYTES,
         Kind::Resolve => resolve_fits(f),
-        Kind::Certify => n == 37,
-        Kind::Commit => 37 <= n,
-        Kind::Remove => n == 9,
-        Kind::Drop => n == 4,
+        Kind::Certify => n == ID_BYTES,
+        Kind::Commit => ID_BYTES <= n,
+        Kind::Remove => n == REMOVE_BYTES,
+        Kind::Drop => n == DROP_BYTES,
         Kind::Gap => n == 0,
         Kind::Reset => n == 0,
-        Kind::Outlook => n == 37,
+        Kind::Outlook => n == ID_BYTES,
         Kind::Broken => false,
     }
 }
@@ -90,20 +113,20 @@ fn whole_at(bytes: &[u8], at: usize) -> bool
     ensures { λ r. ⌜ r ≡ wholeAt (now (bytes .entry)) at ⌝ }
 {
     let n = bytes.len();
-    if n < 4 {
+    if n < LENGTH_BYTES {
         return false;
     }
-    if n - 4 < at {
+    if n - LENGTH_BYTES < at {
         return false;
     }
     let rest = number_of(bytes, at) as usize;
     if rest < 2 {
         return false;
     }
-    if 4096 < rest {
+    if REST_MAX < rest {
         return false;
     }
-    rest <= n - 4 - at
+    rest <= n - LENGTH_BYTES - at
 }
 
 // The record at the offset, where it is whole.
@@ -117,14 +140,14 @@ fn whole_record(bytes: &[u8], at: usize, rest: usize) -> Record
         from: at,
         end: at,
     };
-    let version = byte_of(bytes, at + 4);
+    let version = byte_of(bytes, at + HEAD_VERSION);
     if version != 1 {
         return broken;
     }
-    let byte = byte_of(bytes, at + 5);
+    let byte = byte_of(bytes, at + HEAD_KIND);
     let kind = kind_of(byte);
-    let from = at + 6;
-    let end = at + 4 + rest;
+    let from = at + HEAD_FIELDS;
+    let end = at + LENGTH_BYTES + rest;
     if !fields_fit(kind, &bytes[from..end]) {
         return broken;
     }
@@ -150,5 +173,5 @@ pub fn record_at(bytes: &[u8], at: usize) -> Record
 pub fn least_left(last: bool) -> usize
     ensures { λ r. ⌜ r ≡ leastLeft last ⌝ }
 {
-    if last { 1 } else { 4100 }
+    if last { 1 } else { RECORD_MAX }
 }

@@ -8,6 +8,10 @@ ghost use Rattle.trace.specs.PeerStats.{peerOf, peerIn, countersIn};
 use crate::bytes::byte_of;
 use crate::bytes::number_of;
 use crate::bytes::short_of;
+use models::output::PEER_COUNTERS;
+use models::output::PEER_FIRST_ROUND;
+use models::output::PEER_LAST_ROUND;
+use models::output::PEER_SCORE;
 use models::parts::Round;
 use stats::MempoolPeerCounters;
 
@@ -44,10 +48,10 @@ pub fn peer_of(b: &[u8], at: usize) -> PeerStats
     ensures { λ r. ⌜ peerOf r ≡ peerIn (now (b .entry)) at ⌝ }
 {
     let peer = byte_of(b, at);
-    let first = number_of(b, at + 1);
-    let last = number_of(b, at + 5);
-    let cumulative = counters_of(b, at + 9);
-    let score = number_of(b, at + 27);
+    let first = number_of(b, at + PEER_FIRST_ROUND);
+    let last = number_of(b, at + PEER_LAST_ROUND);
+    let cumulative = counters_of(b, at + PEER_COUNTERS);
+    let score = number_of(b, at + PEER_SCORE);
     PeerStats {
         peer,
         first_round: Round(first),

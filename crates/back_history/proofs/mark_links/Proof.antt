@@ -17,7 +17,7 @@ unfolding marked
 loop-holds c = (search needs, refl)
 
 loop-again : tie.Need-loop-again Inv-loop μ-loop
-loop-again c = (search needs, marked-more _ _ _ _ _ _ (c .before .before .before .before .loop .inv .1) (c .mark-target .ensures))
+loop-again c = (search needs, marked-more _ _ _ _ _ _ _ (c .before .before .before .before .loop .inv .1) (c .before .target .ensures) (c .mark-target .ensures))
 
 returns : tie.Need-returns Inv-loop μ-loop
 returns c = marked-end _ _ _ _ _ _ (c .before .loop .inv .1) (omega arith) (c .loop-test .left)
@@ -29,11 +29,7 @@ mark-links-spec =
     Inv-loop
     μ-loop
     loop-holds
-    (λ c. search needs)
-    (λ c. search needs)
-    (λ c. search needs)
-    (λ c. search needs)
-    (λ c. search needs)
+    (λ c κs. search needs)
     (λ c κs. search needs)
     (λ c. search needs)
     (λ c. search needs)

@@ -1,35 +1,28 @@
-use Rattle.back_walk.specs.Words.{Placed}
+use Prim.Native.Nat.{ℕ, _%_}
+use mathlib.Core.Path.{sym, ap, _∙_}
+use Rattle.models.specs.Ids.{Placed}
 use Rattle.back_walk.specs.Model.{placed, needed-at, proof-no, proof-unmarked, proof-first, proof-is}
 use borrow.Author.Needs.{needs}
 use Rattle.back_walk.proofs.chained_proof.Statement.{statement}
 use Rattle.back_walk.proofs.chained_proof.Tie as tie
 
-mul-if1 : tie.Need-mul-if1
-mul-if1 c = let a = c .before .before .before .before .before .before .before .before .args in let h : Placed (a .keys .now) (a .links .now) _ = placed (a .s) (a .keys .now) (a .links .now) (a .certs .now) (a .order .now) _ (c .before .before .before .before .before .before .before .before .pre .0) (c .before .before .before .before .before .before .before .before .pre .1) (needed-at (a .s) (a .keys .now) (a .certs .now) (a .order .now) (a .id) _ (c .before .before .before .ready-valid-point .ensures) _ (c .before .found2 .given .1) .0) in search needs
-
-add-if1 : tie.Need-add-if1
-add-if1 c = let a = c .before .before .before .before .before .before .before .before .args in let h : Placed (a .keys .now) (a .links .now) _ = placed (a .s) (a .keys .now) (a .links .now) (a .certs .now) (a .order .now) _ (c .before .before .before .before .before .before .before .before .pre .0) (c .before .before .before .before .before .before .before .before .pre .1) (needed-at (a .s) (a .keys .now) (a .certs .now) (a .order .now) (a .id) _ (c .before .before .before .ready-valid-point .ensures) _ (c .before .found2 .given .1) .0) in search needs
-
-mul-if1-2 : tie.Need-mul-if1-2
-mul-if1-2 c = let a = c .before .before .before .before .before .before .before .before .args in let h : Placed (a .keys .now) (a .links .now) _ = placed (a .s) (a .keys .now) (a .links .now) (a .certs .now) (a .order .now) _ (c .before .before .before .before .before .before .before .before .pre .0) (c .before .before .before .before .before .before .before .before .pre .1) (needed-at (a .s) (a .keys .now) (a .certs .now) (a .order .now) (a .id) _ (c .before .before .before .ready-valid-point .ensures) _ (c .before .found2 .given .1) .0) in search needs
-
-shared-slice-read-if1 : tie.Need-shared-slice-read-if1
-shared-slice-read-if1 c = let a = c .before .before .before .before .before .before .before .before .before .args in let h : Placed (a .keys .now) (a .links .now) _ = placed (a .s) (a .keys .now) (a .links .now) (a .certs .now) (a .order .now) _ (c .before .before .before .before .before .before .before .before .before .pre .0) (c .before .before .before .before .before .before .before .before .before .pre .1) (needed-at (a .s) (a .keys .now) (a .certs .now) (a .order .now) (a .id) _ (c .before .before .before .before .ready-valid-point .ensures) _ (c .before .before .found2 .given .1) .0) in search needs
+marks-at-requires : tie.Need-marks-at-requires
+marks-at-requires c κs = let a = c .before .before .before .before .before .before .before .before .args in let h : Placed (a .keys .now) (a .links .now) _ = placed (a .s) (a .keys .now) (a .links .now) (a .certs .now) (a .order .now) _ (c .before .before .before .before .before .before .before .before .pre .0) (c .before .before .before .before .before .before .before .before .pre .1) (needed-at (a .s) (a .keys .now) (a .certs .now) (a .order .now) (a .id) _ (c .before .before .before .ready-valid-point .ensures) _ (c .before .found2 .given .1) .0) in search needs
 
 returns : tie.Need-returns
-returns c = let a = c .before .before .before .before .before .before .before .before .before .before .args in proof-unmarked (a .s) (a .keys .now) (a .links .now) (a .certs .now) (a .order .now) (a .id) _ (c .before .before .before .before .before .ready-valid-point .ensures) _ (c .before .before .before .found2 .given .1) (c .if1 .taken)
+returns c = let a = c .before .before .before .before .before .before .before .before .before .before .args in proof-unmarked (a .s) (a .keys .now) (a .links .now) (a .certs .now) (a .order .now) (a .id) _ (c .before .before .before .before .before .ready-valid-point .ensures) _ (c .before .before .before .found2 .given .1) (ap (λ (x : ℕ). x % 2) (sym (c .before .marks-at .ensures)) ∙ c .if1 .taken)
 
 has-previous-requires : tie.Need-has-previous-requires
 has-previous-requires c κs = let a = c .before .before .before .before .before .before .before .before .before .before .args in let h : Placed (a .keys .now) (a .links .now) _ = placed (a .s) (a .keys .now) (a .links .now) (a .certs .now) (a .order .now) _ (c .before .before .before .before .before .before .before .before .before .before .pre .0) (c .before .before .before .before .before .before .before .before .before .before .pre .1) (needed-at (a .s) (a .keys .now) (a .certs .now) (a .order .now) (a .id) _ (c .before .before .before .before .before .ready-valid-point .ensures) _ (c .before .before .before .found2 .given .1) .0) in h
 
 returns-2 : tie.Need-returns-2
-returns-2 c = let a = c .before .before .before .before .before .before .before .before .before .before .before .before .args in proof-first (a .s) (a .keys .now) (a .links .now) (a .certs .now) (a .order .now) (a .id) _ (c .before .before .before .before .before .before .before .ready-valid-point .ensures) _ (c .before .before .before .before .before .found2 .given .1) (c .before .before .if1 .left) _ (c .before .has-previous .ensures) (c .if2 .taken)
+returns-2 c = let a = c .before .before .before .before .before .before .before .before .before .before .before .before .args in proof-first (a .s) (a .keys .now) (a .links .now) (a .certs .now) (a .order .now) (a .id) _ (c .before .before .before .before .before .before .before .ready-valid-point .ensures) _ (c .before .before .before .before .before .found2 .given .1) (λ e. c .before .before .if1 .left (ap (λ (x : ℕ). x % 2) (c .before .before .before .marks-at .ensures) ∙ e)) _ (c .before .has-previous .ensures) (c .if2 .taken)
 
 returns-3 : tie.Need-returns-3
 returns-3 c = let a = c .before .before .before .before .before .before .before .before .args in proof-no (a .s) (a .keys .now) (a .links .now) (a .certs .now) (a .order .now) (a .id) _ (c .before .before .before .ready-valid-point .ensures) _ (c .before .found .given .1)
 
 returns-4 : tie.Need-returns-4
-returns-4 c = let a = c .before .before .before .before .before .before .before .before .before .before .before .before .args in proof-is (a .s) (a .keys .now) (a .links .now) (a .certs .now) (a .order .now) (a .id) _ (c .before .before .before .before .before .before .before .ready-valid-point .ensures) _ (c .before .before .before .before .before .found2 .given .1) (c .before .before .if1 .left) _ (c .before .has-previous .ensures) (c .if2 .left)
+returns-4 c = let a = c .before .before .before .before .before .before .before .before .before .before .before .before .args in proof-is (a .s) (a .keys .now) (a .links .now) (a .certs .now) (a .order .now) (a .id) _ (c .before .before .before .before .before .before .before .ready-valid-point .ensures) _ (c .before .before .before .before .before .found2 .given .1) (λ e. c .before .before .if1 .left (ap (λ (x : ℕ). x % 2) (c .before .before .before .marks-at .ensures) ∙ e)) _ (c .before .has-previous .ensures) (c .if2 .left)
 
 pub chained-proof-spec : {M : Type 1} → statement M
 chained-proof-spec =
@@ -38,10 +31,7 @@ chained-proof-spec =
     (λ c κs. search needs)
     (λ c. search needs)
     (λ c. search needs)
-    mul-if1
-    add-if1
-    mul-if1-2
-    shared-slice-read-if1
+    marks-at-requires
     returns
     has-previous-requires
     returns-2

@@ -31,11 +31,11 @@ certify-deeper-requires c κs =
     let pre = z .pre in
     let high = c .before .before .before .before .before .height .ensures in
     let size = ap (λ w. length (w .certs)) (b .loop .inv .1) ∙ handed-length _ _ _ _ .0 in
-    ((ap (λ w. length (w .queue)) (b .loop .inv .1) ∙ (handed-length _ _ _ _ .1 ∙ pre .0 .3), omega (arith, high), omega arith, omega (arith, size, pre .0 .4)), open-at (a .links .now) (work (a .certs .now) (a .queue .now) (a .tail)) _ (a .p) _ _ _ (pre .1) (b .loop .inv .1) high (c .before .before .before .loop-test .taken))
+    ((ap (λ w. length (w .queue)) (b .loop .inv .1) ∙ (handed-length _ _ _ _ .1 ∙ pre .0 .3), omega (arith, high), omega arith, omega (arith, size, pre .0 .4)), open-at (a .links .now) (work (a .certs .now) (a .queue .now) (a .tail)) _ (a .p) _ _ _ _ (pre .1) (b .loop .inv .1) high (c .before .before .target .ensures) (c .before .before .before .loop-test .taken))
 
 loop-again : tie.Need-loop-again Inv-loop μ-loop
 unfolding heightOf
-loop-again c = (search needs, handed-more _ _ _ _ _ _ _ _ (c .before .before .before .before .before .before .before .before .before .loop .inv .1) refl (c .before .before .before .before .before .before .before .before .before .before .height .ensures) (c .before .before .before .before .certify-deeper .ensures))
+loop-again c = (search needs, handed-more _ _ _ _ _ _ _ _ _ (c .before .before .before .before .before .before .before .before .before .loop .inv .1) refl (c .before .before .before .before .before .before .before .before .before .before .height .ensures) (c .before .before .before .before .before .before .before .target .ensures) (c .before .before .before .before .certify-deeper .ensures))
 
 same-length : tie.Need-same-length Inv-loop μ-loop
 same-length c = ap (λ w. length (w .certs)) (c .before .loop .inv .1) ∙ handed-length _ _ _ _ .0
@@ -48,4 +48,4 @@ returns c = handed-end _ _ _ _ _ _ (c .before .loop .inv .1) (omega arith) (c .l
 
 pub certify-deps-spec : {M : Type 1} → statement M
 certify-deps-spec =
-    tie.close (tie.spec Inv-loop μ-loop (λ c. search needs) (λ c. search needs) (λ c κs. search needs) loop-holds (λ c. search needs) (λ c. search needs) (λ c. search needs) (λ c. search needs) (λ c. search needs) (λ c. search needs) (λ c. search needs) certify-deeper-requires (λ c. search needs) (λ c. search needs) loop-again same-length same-length-2 returns)
+    tie.close (tie.spec Inv-loop μ-loop (λ c. search needs) (λ c. search needs) (λ c κs. search needs) loop-holds (λ c κs. search needs) (λ c. search needs) (λ c. search needs) certify-deeper-requires (λ c. search needs) (λ c. search needs) loop-again same-length same-length-2 returns)

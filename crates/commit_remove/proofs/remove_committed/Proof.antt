@@ -4,7 +4,7 @@ use Rattle.models.specs.Digest.{Fit}
 use Rattle.stats.specs.Ranges.{sinceOf}
 use Rattle.tables_test.specs.View.{view}
 use Rattle.tables_test.specs.Model.{passed}
-use Rattle.back_drain.specs.Model.{below-le}
+use Rattle.dag_round_order.specs.Span.{below-le}
 use Rattle.commit_answer.specs.Answer.{tables}
 use Rattle.commit_rounds.specs.Drain.{given}
 use Rattle.commit_remove.specs.Remove.{bottom-low, says-unstarted, says-beyond, says-short, says-done}

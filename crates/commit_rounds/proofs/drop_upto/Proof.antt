@@ -7,7 +7,7 @@ use native.Mathlib.Omega.{arith}
 use Rattle.spec.specs.Rules.{countsAsStarted}
 use Rattle.models.specs.Digest.{Fit}
 use Rattle.tables_test.specs.View.{view}
-use Rattle.back_drain.specs.Model.{below-le}
+use Rattle.dag_round_order.specs.Span.{below-le}
 use Rattle.commit_rounds.proofs.drop_upto.Statement.{statement}
 use Rattle.commit_rounds.proofs.drop_upto.Tie as tie
 

@@ -1,7 +1,7 @@
 use lib.ListN.{length}
 use mathlib.Core.Path.{ap, _∙_}
 use native.Mathlib.Omega.{arith}
-use Rattle.tables_test.specs.Model.{inside-keys}
+use Rattle.models.specs.Tables.{inside-keys}
 use Rattle.dag_round_points.specs.Model.{words-eight, named-keys, named-certs, named-order}
 use Rattle.dag_round_points.specs.Used.{has-place}
 use borrow.Author.Needs.{needs}

@@ -1,4 +1,4 @@
-use Rattle.tables_test.specs.Model.{inside-keys}
+use Rattle.models.specs.Tables.{inside-keys}
 use Rattle.info_checks.specs.Dangling.{found-by}
 use borrow.Author.Needs.{needs}
 use Rattle.info_checks.proofs.find_link.Statement.{statement}

@@ -4,7 +4,7 @@ use Rattle.inspector_references.proofs.refers_row.Statement.{statement}
 use Rattle.inspector_references.proofs.refers_row.Tie as tie
 
 returns : tie.Need-returns
-returns c = row-live _ _ _ _ _ _ _ (c .before .before .before .before .if1 .taken) (c .before .before .slot .ensures)
+returns c = row-live _ _ _ _ _ _ _ _ (c .before .before .before .before .if1 .taken) (c .before .before .slot .ensures) (c .target .ensures)
 
 returns-2 : tie.Need-returns-2
 returns-2 c = row-digest _ _ _ _ _ _ _ (c .before .if1 .left) (c .refers .ensures)
@@ -23,11 +23,7 @@ refers-row-spec =
     (λ c. search needs)
     (λ c. search needs)
     (λ c. search needs)
-    (λ c. search needs)
-    (λ c. search needs)
-    (λ c. search needs)
-    (λ c. search needs)
-    (λ c. search needs)
+    (λ c κs. search needs)
     returns
     (λ c. search needs)
     (λ c. search needs)

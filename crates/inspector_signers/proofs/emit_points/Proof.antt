@@ -1,5 +1,5 @@
 use Prim.Native.Nat.{_-_, _≤_}
-use mathlib.Core.Path.{refl}
+use mathlib.Core.Path.{refl, sym, _∙_}
 use mathlib.Core.Logic.{⊎-elim}
 use native.Mathlib.Omega.{arith}
 use borrow.Author.Tests.{eq-eqb, ne-eqb}
@@ -19,37 +19,22 @@ abbrev μ-loop : tie.MeasureT-loop
 loop-holds : tie.Need-loop-holds Inv-loop μ-loop
 loop-holds c = (search needs, passing-none _ _ _ _ _ _ _)
 
-mul-author : tie.Need-mul-author Inv-loop μ-loop
-mul-author c = let h = c .before .before .before .before .before .before .pre .0 .1 (c .before .before .loop .k) (c .before .loop-test .taken) in search needs
-
-add-author : tie.Need-add-author Inv-loop μ-loop
-add-author c = let h = c .before .before .before .before .before .before .pre .0 .1 (c .before .before .loop .k) (c .before .loop-test .taken) in search needs
-
-mul-author-2 : tie.Need-mul-author-2 Inv-loop μ-loop
-mul-author-2 c = let h = c .before .before .before .before .before .before .pre .0 .1 (c .before .before .loop .k) (c .before .loop-test .taken) in search needs
-
-shared-slice-read-author : tie.Need-shared-slice-read-author Inv-loop μ-loop
-shared-slice-read-author c = let h = c .before .before .before .before .before .before .before .pre .0 .1 (c .before .before .before .loop .k) (c .before .before .loop-test .taken) in search needs
+author-requires : tie.Need-author-requires Inv-loop μ-loop
+author-requires c κs = c .before .before .before .before .before .before .pre .0 .1 (c .before .before .loop .k) (c .before .loop-test .taken)
 
 emit-id-requires : tie.Need-emit-id-requires Inv-loop μ-loop
 emit-id-requires c κs =
     let p = c .before .before .before .before .before .before .before .before .before .pre in
     let l = c .before .before .before .before .before .loop in
     let h = c .before .before .before .before .loop-test .taken in
-    (id-room _ _ _ _ (passing-ready _ _ _ _ _ _ _ (l .k) _ _ (l .inv .1) _ refl _ refl _ h (eq-eqb _ _ (c .before .if1 .taken)) (p .1)), p .0 .1 (l .k) h)
-
-add-count : tie.Need-add-t22 Inv-loop μ-loop
-add-count c =
-    let l = c .before .before .before .before .before .before .before .before .before .loop in
-    let n = ready-one _ _ _ _ _ (passing-ready _ _ _ _ _ _ _ (l .k) _ _ (l .inv .1) _ refl _ refl _ (c .before .before .before .before .before .before .before .before .loop-test .taken) (eq-eqb _ _ (c .before .before .before .before .before .if1 .taken)) (c .before .before .before .before .before .before .before .before .before .before .before .before .before .pre .1)) .1 in
-    omega (arith, n)
+    (id-room _ _ _ _ (passing-ready _ _ _ _ _ _ _ (l .k) _ _ (l .inv .1) _ refl _ refl _ h (eq-eqb _ _ (sym (c .before .before .author .ensures) ∙ c .before .if1 .taken)) (p .1)), p .0 .1 (l .k) h)
 
 loop-again : tie.Need-loop-again Inv-loop μ-loop
 loop-again c =
     let l = c .before .before .before .before .loop in
     ⊎-elim
-    (λ w. (search needs, passing-yes _ _ _ _ _ _ _ _ _ _ (l .inv .1) _ refl _ refl _ _ _ _ (eq-eqb _ _ (w .0 .taken)) (told-one _ _ _ _ _ _ _ (w .2 .ensures) refl) (w .7) (w .6)))
-    (λ w. (search needs, passing-no _ _ _ _ _ _ _ _ _ _ (l .inv .1) _ refl _ refl _ _ (ne-eqb _ _ (w .0 .left)) (w .2) (w .1)))
+    (λ w. (search needs, passing-yes _ _ _ _ _ _ _ _ _ _ (l .inv .1) _ refl _ refl _ _ _ _ (eq-eqb _ _ (sym (c .before .author .ensures) ∙ w .0 .taken)) (told-one _ _ _ _ _ _ _ (w .2 .ensures) refl) (w .7) (w .6)))
+    (λ w. (search needs, passing-no _ _ _ _ _ _ _ _ _ _ (l .inv .1) _ refl _ refl _ _ (ne-eqb _ _ (λ e. w .0 .left (c .before .author .ensures ∙ e))) (w .2) (w .1)))
     (c .if1 .came)
 
 same-length : tie.Need-same-length Inv-loop μ-loop
@@ -67,12 +52,12 @@ emit-points-spec =
     loop-holds
     (λ c. search needs)
     (λ c. search needs)
-    mul-author
-    add-author
-    mul-author-2
-    shared-slice-read-author
+    author-requires
     emit-id-requires
-    add-count
+    (λ c.
+    let l = c .before .before .before .before .before .before .before .before .before .loop in
+    let n = ready-one _ _ _ _ _ (passing-ready _ _ _ _ _ _ _ (l .k) _ _ (l .inv .1) _ refl _ refl _ (c .before .before .before .before .before .before .before .before .loop-test .taken) (eq-eqb _ _ (sym (c .before .before .before .before .before .before .author .ensures) ∙ c .before .before .before .before .before .if1 .taken)) (c .before .before .before .before .before .before .before .before .before .before .before .before .before .pre .1)) .1 in
+    omega (arith, n))
     (λ c. search needs)
     (λ c. search needs)
     loop-again

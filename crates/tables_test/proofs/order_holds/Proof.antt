@@ -1,5 +1,6 @@
 -- `tables_test::order_holds` meets its contract.
-use Rattle.tables_test.specs.Model.{orderHolds, chain-no, chain-yes, passed, inside-says, inside-keys}
+use Rattle.tables_test.specs.Model.{orderHolds, chain-no, chain-yes, passed, inside-says}
+use Rattle.models.specs.Tables.{inside-keys}
 use borrow.Author.Needs.{needs}
 use Rattle.tables_test.proofs.order_holds.Statement.{statement}
 use Rattle.tables_test.proofs.order_holds.Tie as tie

@@ -1,5 +1,5 @@
 use mathlib.Core.Path.{_∙_, ap}
-use Rattle.back_drain.specs.Model.{below}
+use Rattle.dag_round_order.specs.Span.{below}
 use Rattle.back_committable.specs.Model.{span-by}
 use borrow.Author.Needs.{needs}
 use Rattle.back_committable.proofs.anchor.span_of.Statement.{statement}

@@ -4,7 +4,7 @@ use native.Mathlib.Omega.{arith}
 use Rattle.laws.specs.Lists.{upTo}
 use Rattle.spec.specs.Inspect.{statsBytes}
 use Rattle.answer_bytes.specs.Sent.{Sent, sent-length}
-use Rattle.inspector_answer.specs.Peers.{peerOf, lists-none, lists-more, lists-end, lists-open, peers-first, peers-open, peers-sent}
+use Rattle.inspector_answer.specs.Peers.{peerOf, lists-none, lists-more, lists-end, lists-open, with-ones, peers-first, peers-open, peers-sent}
 use borrow.Author.Needs.{needs}
 use Rattle.inspector_answer.proofs.peers.emit_stats.Statement.{statement}
 use Rattle.inspector_answer.proofs.peers.emit_stats.Tie as tie
@@ -19,12 +19,12 @@ loop-holds : tie.Need-loop-holds Inv-loop μ-loop
 loop-holds c = (search needs, lists-none _ _ _ _)
 
 emit-number-requires : tie.Need-emit-number-requires Inv-loop μ-loop
-emit-number-requires c κs = (peers-first _ _ _ _ _ (c .before .count-peers .ensures) (c .before .before .before .pre), omega arith)
+emit-number-requires c κs = (peers-first _ _ _ _ _ (with-ones _ _ _ (c .before .before .peers-with-stats .ensures) (c .before .peer-count .ensures)) (c .before .before .before .before .pre), omega arith)
 
 emit-peer-requires : tie.Need-emit-peer-requires Inv-loop μ-loop
 emit-peer-requires c κs =
     let l = c .before .before .before .loop in
-    let o = peers-open _ _ _ _ _ (c .before .before .before .before .before .before .before .before .count-peers .ensures) _ _ (c .before .before .before .before .before .before .emit-number .ensures) (c .before .before .before .before .before .before .before .before .before .before .pre) in
+    let o = peers-open _ _ _ _ _ (with-ones _ _ _ (c .before .before .before .before .before .before .before .before .before .peers-with-stats .ensures) (c .before .before .before .before .before .before .before .before .peer-count .ensures)) _ _ (c .before .before .before .before .before .before .emit-number .ensures) (c .before .before .before .before .before .before .before .before .before .before .before .pre) in
     lists-open _ _ _ _ (l .k) _ _ (l .inv .1) _ (c .before .before .loop-test .taken) o
 
 loop-again : tie.Need-loop-again Inv-loop μ-loop
@@ -35,7 +35,7 @@ same-length c = sent-length _ _ _ _ _ _ (c .before .loop .inv .1) ∙ sent-lengt
 
 returns : tie.Need-returns Inv-loop μ-loop
 returns c =
-    peers-sent _ _ _ _ _ (c .before .before .before .before .before .before .count-peers .ensures) _ _ (c .before .before .before .before .emit-number .ensures) _ _
+    peers-sent _ _ _ _ _ (with-ones _ _ _ (c .before .before .before .before .before .before .before .peers-with-stats .ensures) (c .before .before .before .before .before .before .peer-count .ensures)) _ _ (c .before .before .before .before .emit-number .ensures) _ _
     (lists-end _ _ _ _ _ _ _ (c .before .loop .inv .1) _ (omega arith))
 
 pub emit-stats-spec : {M : Type 1} → statement M
@@ -45,6 +45,8 @@ emit-stats-spec =
     Inv-loop
     μ-loop
     (λ c κs. search needs)
+    (λ c κs. search needs)
+    (λ c. search needs)
     emit-number-requires
     loop-holds
     (λ c. search needs)

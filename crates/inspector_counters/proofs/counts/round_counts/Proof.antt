@@ -1,4 +1,5 @@
 use Prim.Native.Nat.{_-_, _≤_}
+use mathlib.Core.Path.{_∙_}
 use mathlib.Core.Logic.{⊎-elim}
 use native.Mathlib.Omega.{arith}
 use Rattle.inspector_counters.specs.Counts.{Counted, counted-start, counted-end, counted-yes, counted-no, cell-few}
@@ -28,7 +29,7 @@ loop-again : tie.Need-loop-again Inv-loop μ-loop
 loop-again c =
     let inv = c .before .before .before .before .before .loop .inv .1 in
     let at = c .before .before .before .place .ensures .0 in
-    let is = c .before .slot .ensures in
+    let is = c .before .slot .ensures ∙ c .before .before .author .ensures in
     ⊎-elim
     (λ w. (search needs, counted-yes _ _ _ _ _ _ at _ _ inv _ _ _ _ is (w .0 .taken) (w .1 .ensures) (w .2 .ensures) (w .4 .ensures) (w .5)))
     (λ w. (search needs, counted-no _ _ _ _ _ _ at _ _ inv _ is (w .0 .left) (w .1)))
@@ -48,10 +49,7 @@ round-counts-spec =
     (λ c. search needs)
     (λ c. search needs)
     place-requires
-    (λ c. search needs)
-    (λ c. search needs)
-    (λ c. search needs)
-    (λ c. search needs)
+    (λ c κs. search needs)
     (λ c κs. search needs)
     (λ c κs. search needs)
     (λ c κs. search needs)

@@ -1,12 +1,12 @@
 use Prim.Native.Nat.{_-_, _≤_, _<_}
-use mathlib.Core.Path.{_≡_, sym, _∙_}
+use mathlib.Core.Path.{_≡_, refl, sym, _∙_}
 use mathlib.Core.Logic.{⊎-elim}
 use native.Mathlib.Omega.{arith}
 use lib.ListN.{length, getD}
 use borrow.Author.Needs.{needs}
 use Rattle.models.specs.Digest.{Fit}
 use Rattle.back_history.specs.Model.{isUncommitted}
-use Rattle.output_record.specs.Sums.{lenAt, len-small, bytesAt, SumTo, sum-none, sum-yes, sum-no}
+use Rattle.output_record.specs.Sums.{lenAt, len-small, bytesAt, sum-fits, SumTo, sum-none, sum-yes, sum-no}
 use Rattle.output_record.proofs.sums.payload_sums.Statement.{statement}
 use Rattle.output_record.proofs.sums.payload_sums.Tie as tie
 
@@ -27,40 +27,19 @@ is-uncommitted-requires c κs =
     let h : getD (s .args .order .now) (l .i) 0 < length (s .args .certs .now) = s .pre .5 (l .i) (omega arith) in
     (omega (arith, h, c .slot .ensures, s .pre .3), omega (arith, h, c .slot .ensures))
 
-mul-payload : tie.Need-mul-payload Inv-loop μ-loop
-mul-payload c =
+payload-requires : tie.Need-payload-requires Inv-loop μ-loop
+payload-requires c κs =
     let s = c .before .before .before .before .before .before .before .before .before in
     let l = c .before .before .before .before .before .loop in
     let h : getD (s .args .order .now) (l .i) 0 < length (s .args .certs .now) = s .pre .5 (l .i) (omega arith) in
-    search needs
-
-add-payload : tie.Need-add-payload Inv-loop μ-loop
-add-payload c =
-    let s = c .before .before .before .before .before .before .before .before .before in
-    let l = c .before .before .before .before .before .loop in
-    let h : getD (s .args .order .now) (l .i) 0 < length (s .args .certs .now) = s .pre .5 (l .i) (omega arith) in
-    search needs
-
-mul-payload-2 : tie.Need-mul-payload-2 Inv-loop μ-loop
-mul-payload-2 c =
-    let s = c .before .before .before .before .before .before .before .before .before in
-    let l = c .before .before .before .before .before .loop in
-    let h : getD (s .args .order .now) (l .i) 0 < length (s .args .certs .now) = s .pre .5 (l .i) (omega arith) in
-    search needs
-
-shared-slice-read-payload : tie.Need-shared-slice-read-payload Inv-loop μ-loop
-shared-slice-read-payload c =
-    let s = c .before .before .before .before .before .before .before .before .before .before in
-    let l = c .before .before .before .before .before .before .loop in
-    let h : getD (s .args .order .now) (l .i) 0 < length (s .args .certs .now) = s .pre .5 (l .i) (omega arith) in
-    omega (arith, h, c .before .before .before .slot .ensures, s .pre .4)
+    omega (arith, h, c .before .before .slot .ensures, s .pre .4)
 
 add-len : tie.Need-add-len Inv-loop μ-loop
 add-len c =
     let s = c .before .before .before .before .before .before .before .before .before .before in
     let l = c .before .before .before .before .before .before .loop in
-    let d = len-small (s .args .links .now) (c .before .before .before .slot .result) (λ p. c .before .before .before .before .before .before .before .before .before .shared-slice-known .given p .fits) in
-    omega (arith, d, l .inv .2 .1, s .pre .2)
+    let d = len-small (s .args .links .now) (c .before .before .before .slot .result) (c .payload .result) (λ p. c .before .before .before .before .before .before .before .before .before .shared-slice-known .given p .fits) (c .payload .ensures) in
+    record { fits = sum-fits _ _ (l .i) _ _ (l .inv .2 .1) (c .before .before .before .before .before .loop-test .taken) (s .pre .2) d }
 
 add-bytes : tie.Need-add-bytes Inv-loop μ-loop
 add-bytes c =
@@ -77,7 +56,7 @@ loop-again c =
     let q = c .before .before .slot .result in
     let fl : Fit (s .args .links .now) = λ p. c .before .before .before .before .before .before .before .before .shared-slice-known .given p .fits in
     ⊎-elim
-    (λ w. (omega arith, omega arith, sum-yes _ _ _ _ (l .i) _ q (l .inv .2) (l .inv .0) x (sym is ∙ w .0 .taken) (len-small (s .args .links .now) q fl) _ (w .2), sum-yes _ _ _ _ (l .i) _ q (l .inv .3) (l .inv .0) x (sym is ∙ w .0 .taken) (omega arith) _ (w .3)))
+    (λ w. (omega arith, omega arith, sum-yes _ _ _ _ (l .i) _ q (l .inv .2) (l .inv .0) x (sym is ∙ w .0 .taken) (len-small (s .args .links .now) q _ fl refl) _ (omega (arith, w .2, w .1 .ensures)), sum-yes _ _ _ _ (l .i) _ q (l .inv .3) (l .inv .0) x (sym is ∙ w .0 .taken) (omega arith) _ (omega (arith, w .3, w .1 .ensures))))
     (λ w. (omega arith, omega arith, rw (w .1) (sum-no _ _ _ _ (l .i) _ q (l .inv .2) (l .inv .0) x (sym is ∙ w .0 .left)), rw (w .2) (sum-no _ _ _ _ (l .i) _ q (l .inv .3) (l .inv .0) x (sym is ∙ w .0 .left))))
     (c .if1 .came)
 
@@ -99,10 +78,7 @@ payload-sums-spec =
     (λ c. search needs)
     (λ c κs. search needs)
     is-uncommitted-requires
-    mul-payload
-    add-payload
-    mul-payload-2
-    shared-slice-read-payload
+    payload-requires
     add-len
     add-bytes
     (λ c. search needs)
