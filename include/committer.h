@@ -8,8 +8,9 @@
  *     committer_reply reply = committer_start(state, keys, keys_len, .., with);
  *     state = reply.state;
  *
- * Every call tests the state and the tables before it trusts them. State and tables that no call left count as not started, whatever they
- * hold: calls are refused with 2, and a start clears them.
+ * Every call tests the state and the tables by the rules that all calls keep, before it trusts them. State and tables that break a rule
+ * count as not started, whatever they hold: calls are refused with 2, and a start clears them. A change from outside that keeps the rules,
+ * as a committed mark more or less, is not noticed.
  *
  * A call answers with a number in `refused`, 0 if it isn't refused. A refused call changes nothing: the tables stay as they are, and the
  * state returned is the one given. Only a commit may have finished anchors before it is refused, as many as `anchors` says; what these
@@ -23,17 +24,69 @@
  * Everything else is refused by number, tables of wrong lengths too.
  *
  * The calls allocate nothing, keep no pointer, and share nothing: different states with tables of their own can be used at the same time.
+ * 'platform' says more on interrupts and power cuts.
  */
 #ifndef COMMITTER_H
 #define COMMITTER_H
 
 #include <stddef.h>
 #include <stdint.h>
-#include <string.h>
 
 #ifdef __cplusplus
+#define COMMITTER_AS(type, value) static_cast<type>(value)
 extern "C" {
+#else
+#define COMMITTER_AS(type, value) ((type)(value))
 #endif
+
+/* ---- version and layout */
+
+/*
+ * The version of this header; committer_library_version says the library's. Below 1.0 the minor number is raised if the layout, a
+ * declaration or what a function answers changes, or if a function is added. From 1.0 on the major number is raised for the first three,
+ * the minor number for an addition. The patch number is raised for anything else. A number that is raised sets those after it to 0.
+ */
+#define COMMITTER_VERSION_MAJOR 0
+#define COMMITTER_VERSION_MINOR 6
+#define COMMITTER_VERSION_PATCH 0
+
+/* As text, "major.minor.patch". */
+#define COMMITTER_VERSION \
+    COMMITTER_QUOTED(COMMITTER_VERSION_MAJOR) "." COMMITTER_QUOTED(COMMITTER_VERSION_MINOR) "." COMMITTER_QUOTED(COMMITTER_VERSION_PATCH)
+#define COMMITTER_QUOTED(number) COMMITTER_QUOTED_AS_IT_IS(number)
+#define COMMITTER_QUOTED_AS_IT_IS(number) #number
+
+/*
+ * The number of the layout: types, parameters, the words of the tables, the bytes of what is lent and answered. It is raised if one of them
+ * changes. The library has a function whose name ends with its layout's number, and every translation unit with this header refers to that
+ * of this number. So a library of another layout doesn't link, and the linker says which function it doesn't have: committer_layout_1.
+ * A host that stores state and tables and goes on with them after an update stores this number too: words of another layout may pass the
+ * tests of a call.
+ *
+ * A translation unit that takes no function of the library, as a program that only reads records, defines COMMITTER_TYPES_ONLY before it
+ * includes this header. Functions of the library aren't declared then, and it links without the library.
+ */
+#define COMMITTER_LAYOUT 1
+
+/* ---- platform */
+
+/*
+ * The library is one ELF object for x86-64 with the System V calling convention; `rt staticlib` writes no other. It has some 48 KB of
+ * position-independent code and constants, and no variables. It uses SSE2, which must be enabled, and nothing beyond it.
+ *
+ * It needs from outside: memcpy, memset.
+ * Its global symbols are the functions that are declared here. host/check.sh compares both lists with the library.
+ *
+ * Interrupts: a call may be interrupted, and the handler may make calls on a state and tables of its own. What the interrupted call was
+ * lent it may not change, nor read where that call changes it. It saves the registers that it changes, those of SSE2 too. It may run on the
+ * same stack, because nothing is kept below the stack pointer.
+ *
+ * Power cuts: a call isn't atomic. It changes the tables word by word, and the state that goes with them is in its reply. Tables that a
+ * call left halfway, with the state that it was given, may be refused with 2, but may pass the tests as well: after a name one point may
+ * stand in the order in another's stead, after a commit points may be marked as committed that stand in no record. So a host whose tables
+ * outlive a power cut copies tables and state before a call that changes tables, and goes on from the copy; or it keeps a recording of the
+ * calls and makes them again. Round, gap question and outlook change no table.
+ */
 
 /* ---- limits */
 
@@ -65,10 +118,17 @@ extern "C" {
 #define COMMITTER_ORDER_WORDS 1u
 
 /* The lengths of the tables, in words. */
-#define COMMITTER_KEYS_LEN(places) ((size_t)(places) * COMMITTER_KEY_WORDS)
-#define COMMITTER_LINKS_LEN(places) ((size_t)(places) * COMMITTER_LINK_WORDS)
-#define COMMITTER_CERTS_LEN(places) ((size_t)(places) * COMMITTER_CERT_WORDS)
-#define COMMITTER_ORDER_LEN(places) ((size_t)(places) * COMMITTER_ORDER_WORDS)
+#define COMMITTER_KEYS_LEN(places) (COMMITTER_AS(size_t, places) * COMMITTER_KEY_WORDS)
+#define COMMITTER_LINKS_LEN(places) (COMMITTER_AS(size_t, places) * COMMITTER_LINK_WORDS)
+#define COMMITTER_CERTS_LEN(places) (COMMITTER_AS(size_t, places) * COMMITTER_CERT_WORDS)
+#define COMMITTER_ORDER_LEN(places) (COMMITTER_AS(size_t, places) * COMMITTER_ORDER_WORDS)
+
+/*
+ * The bytes of a place in all four tables, 2,704, and of tables of so many places: 11,075,584 for COMMITTER_PLACES_MAX. Beside them a host
+ * holds a state, 15,432 bytes, a reply, 15,448, and the buffers that it lends.
+ */
+#define COMMITTER_PLACE_BYTES (8u * (COMMITTER_KEY_WORDS + COMMITTER_LINK_WORDS + COMMITTER_CERT_WORDS + COMMITTER_ORDER_WORDS))
+#define COMMITTER_TABLES_BYTES(places) (COMMITTER_AS(size_t, places) * COMMITTER_PLACE_BYTES)
 
 /* A certificate word: four flags, the height in the low 12 bits. Certified: height above 0. Proved: the top flag as well. */
 #define COMMITTER_CERT_TOP 0x8000u
@@ -91,13 +151,13 @@ extern "C" {
  *   91 + 37n   the sum of payload_bytes over them (8)
  */
 #define COMMITTER_ID_BYTES 37u
-#define COMMITTER_RECORD_BYTES(points) (99u + (size_t)(points) * COMMITTER_ID_BYTES)
+#define COMMITTER_RECORD_BYTES(points) (99u + COMMITTER_AS(size_t, points) * COMMITTER_ID_BYTES)
 
 /* Where the two sums stand. */
-#define COMMITTER_SUMS_AT(points) (83u + (size_t)(points) * COMMITTER_ID_BYTES)
+#define COMMITTER_SUMS_AT(points) (83u + COMMITTER_AS(size_t, points) * COMMITTER_ID_BYTES)
 
 /* A buffer of so many bytes has room for the records of any commit: at most 511 anchors, and each point in one history at most. */
-#define COMMITTER_COMMIT_MAX (511u * COMMITTER_RECORD_BYTES(0) + (size_t)COMMITTER_PLACES_MAX * COMMITTER_ID_BYTES)
+#define COMMITTER_COMMIT_MAX (511u * COMMITTER_RECORD_BYTES(0) + COMMITTER_AS(size_t, COMMITTER_PLACES_MAX) * COMMITTER_ID_BYTES)
 
 /*
  * What an outlook writes for each anchor.
@@ -106,7 +166,7 @@ extern "C" {
  *   41   for each round of its history, from the anchor's down to committer_lowest_round, the number of points linked in it (4), the
  *        anchor and committed ones too: the length of the round's place list
  */
-#define COMMITTER_LOOK_BYTES(rounds) (41u + 4u * (size_t)(rounds))
+#define COMMITTER_LOOK_BYTES(rounds) (41u + 4u * COMMITTER_AS(size_t, rounds))
 
 /* A buffer of so many bytes has room for any outlook: at most 511 anchors, each with a history of at most 256 rounds. */
 #define COMMITTER_OUTLOOK_MAX (511u * COMMITTER_LOOK_BYTES(COMMITTER_HISTORY_MAX + 1u))
@@ -158,11 +218,11 @@ extern "C" {
  */
 #define COMMITTER_PEER_BYTES 31u
 #define COMMITTER_FAULT_BYTES (1u + COMMITTER_ID_BYTES)
-#define COMMITTER_FORK_BYTES(digests) (10u + (size_t)(digests) * 32u)
-#define COMMITTER_EVIDENCE_BYTES(ids) (10u + (size_t)(ids) * COMMITTER_ID_BYTES)
+#define COMMITTER_FORK_BYTES(digests) (10u + COMMITTER_AS(size_t, digests) * 32u)
+#define COMMITTER_EVIDENCE_BYTES(ids) (10u + COMMITTER_AS(size_t, ids) * COMMITTER_ID_BYTES)
 
 /* Where the number of events stands. */
-#define COMMITTER_EVENTS_AT(peers) (1u + (size_t)(peers) * COMMITTER_PEER_BYTES)
+#define COMMITTER_EVENTS_AT(peers) (1u + COMMITTER_AS(size_t, peers) * COMMITTER_PEER_BYTES)
 
 #define COMMITTER_TRANS_INVALID_EVENT 1u
 #define COMMITTER_INVALID_EVENT 2u
@@ -180,9 +240,9 @@ extern "C" {
  */
 #define COMMITTER_REMOVE_MAX \
     (COMMITTER_EVENTS_AT(COMMITTER_PEERS_MAX) + 4u \
-        + (size_t)COMMITTER_PLACES_MAX * (COMMITTER_FAULT_BYTES + 32u + COMMITTER_FORK_BYTES(0) / 2u) \
+        + COMMITTER_AS(size_t, COMMITTER_PLACES_MAX) * (COMMITTER_FAULT_BYTES + 32u + COMMITTER_FORK_BYTES(0) / 2u) \
         + 511u * COMMITTER_PEERS_MAX * COMMITTER_EVIDENCE_BYTES(0) \
-        + (size_t)(COMMITTER_PLACES_MAX + COMMITTER_MEMORY_MAX) * (2u + COMMITTER_PEERS_MAX) * COMMITTER_ID_BYTES)
+        + COMMITTER_AS(size_t, COMMITTER_PLACES_MAX + COMMITTER_MEMORY_MAX) * (2u + COMMITTER_PEERS_MAX) * COMMITTER_ID_BYTES)
 
 /* ---- numbers */
 
@@ -201,38 +261,44 @@ extern "C" {
 /* `used` of a start whose bottom has no used mark. */
 #define COMMITTER_NOBODY UINT32_MAX
 
-/* The numbers of refusals. */
+/* The numbers of refusals; committer_refusal_text says what each means. */
 enum committer_refusal {
     COMMITTER_DONE = 0,
-    COMMITTER_BAD_START = 1, /* what a start takes, or the tables' lengths, out of range */
-    COMMITTER_WRONG_PHASE = 2, /* not started, or started twice */
-    COMMITTER_ROUND_AHEAD = 3, /* round beyond top + 1, or above COMMITTER_ROUND_MAX */
-    COMMITTER_FULL = 4, /* 512 rounds, or no place free */
-    COMMITTER_NOT_A_PEER = 5, /* author not a peer of its round */
-    COMMITTER_NOT_RETAINED = 6, /* round not retained */
-    COMMITTER_DIGEST_NAMED = 7, /* digest named in this round */
-    COMMITTER_FIFTH_DIGEST = 8, /* a fifth digest of its author and round */
-    COMMITTER_NOT_NAMED = 9, /* id not named; trigger unresolved */
-    COMMITTER_RESOLVED = 10, /* resolved already */
-    COMMITTER_BAD_INFO = 11, /* what a resolution gives has a wrong form */
-    COMMITTER_LINK_NOT_NAMED = 12, /* link into a retained round, not named */
-    COMMITTER_CONFLICT = 13, /* history conflict, at the round in `conflict` */
-    COMMITTER_POINT_MISSING = 14, /* point needed, named and not resolved */
-    COMMITTER_UNUSABLE = 15, /* status neither usable nor certified */
-    COMMITTER_BROKEN_CHAIN = 16, /* no previous point, or the sought proof isn't where and what it must be */
-    COMMITTER_ROUNDS_MISSING = 17, /* limit at or above the full-history bottom, rounds missing */
-    COMMITTER_NOT_CERTIFIED = 18, /* history point of height 0 */
-    COMMITTER_CHAIN_ENDS_EARLY = 19, /* oldest link above the walk's lowest round */
-    COMMITTER_GAP_QUESTION = 20, /* gap question not put */
-    COMMITTER_NO_ROOM = 21, /* answer larger than the buffer left */
-    COMMITTER_AT_GENESIS = 22, /* anchor at genesis */
-    COMMITTER_REMOVE_AHEAD = 23, /* remove above the last anchor handed out since the start, or none */
-    COMMITTER_BAD_LISTS = 24, /* place list that isn't each place from 0 once */
-    COMMITTER_NEVER_NAMED = 25, /* point needed, never named */
-    COMMITTER_BAD_GAME = 31 /* numbers or sets of a game of keepers and spoilers out of range; no call's */
+    COMMITTER_BAD_START = 1,
+    COMMITTER_WRONG_PHASE = 2,
+    COMMITTER_ROUND_AHEAD = 3,
+    COMMITTER_FULL = 4,
+    COMMITTER_NOT_A_PEER = 5,
+    COMMITTER_NOT_RETAINED = 6,
+    COMMITTER_DIGEST_NAMED = 7,
+    COMMITTER_FIFTH_DIGEST = 8,
+    COMMITTER_NOT_NAMED = 9,
+    COMMITTER_RESOLVED = 10,
+    COMMITTER_BAD_INFO = 11,
+    COMMITTER_LINK_NOT_NAMED = 12,
+    COMMITTER_CONFLICT = 13, /* at the round in `conflict` */
+    COMMITTER_POINT_MISSING = 14,
+    COMMITTER_UNUSABLE = 15,
+    COMMITTER_BROKEN_CHAIN = 16,
+    COMMITTER_ROUNDS_MISSING = 17,
+    COMMITTER_NOT_CERTIFIED = 18,
+    COMMITTER_CHAIN_ENDS_EARLY = 19,
+    COMMITTER_GAP_QUESTION = 20,
+    COMMITTER_NO_ROOM = 21,
+    COMMITTER_AT_GENESIS = 22,
+    COMMITTER_REMOVE_AHEAD = 23,
+    COMMITTER_BAD_LISTS = 24,
+    COMMITTER_NEVER_NAMED = 25,
+    COMMITTER_BAD_GAME = 31 /* no call's */
 };
 
 /* ---- types */
+
+typedef struct committer_version {
+    uint32_t major;
+    uint32_t minor;
+    uint32_t patch;
+} committer_version;
 
 /* 32 bytes as four words, the most significant first. */
 typedef struct committer_digest {
@@ -373,6 +439,7 @@ typedef struct committer_counters {
 #endif
 
 COMMITTER_ASSERT(words_of_64_bits, sizeof(size_t) == 8);
+COMMITTER_ASSERT(size_of_a_version, sizeof(committer_version) == 12);
 COMMITTER_ASSERT(size_of_a_point_id, sizeof(committer_point_id) == 40);
 COMMITTER_ASSERT(size_of_a_generator, sizeof(committer_pcg) == 32);
 COMMITTER_ASSERT(size_of_a_draw, sizeof(committer_drawn) == 40);
@@ -388,6 +455,8 @@ COMMITTER_ASSERT(size_of_a_reply, sizeof(committer_reply) == 15448);
 COMMITTER_ASSERT(size_of_start_args, sizeof(committer_start_args) == 28);
 COMMITTER_ASSERT(size_of_a_resolution, sizeof(committer_resolution) == 80);
 COMMITTER_ASSERT(size_of_counters, sizeof(committer_counters) == 18);
+COMMITTER_ASSERT(bytes_of_a_place, COMMITTER_PLACE_BYTES == 2704u);
+COMMITTER_ASSERT(bytes_of_the_tables, COMMITTER_TABLES_BYTES(COMMITTER_PLACES_MAX) == 11075584u);
 COMMITTER_ASSERT(bytes_of_a_remove, COMMITTER_REMOVE_MAX == 5785509u);
 COMMITTER_ASSERT(bytes_of_a_commit, COMMITTER_COMMIT_MAX == 202141u);
 COMMITTER_ASSERT(bytes_of_an_outlook, COMMITTER_OUTLOOK_MAX == 511u * 1065u);
@@ -396,20 +465,11 @@ COMMITTER_ASSERT(bytes_of_an_outlook, COMMITTER_OUTLOOK_MAX == 511u * 1065u);
 
 /* ---- helpers */
 
-/* The state before the first start. */
-static inline committer_state committer_no_state(void)
-{
-    committer_state state;
-    memset(&state, 0, sizeof state);
-    return state;
-}
-
 /* The four words of a digest's 32 bytes. */
 static inline committer_digest committer_digest_of(const unsigned char *bytes)
 {
-    committer_digest digest;
+    committer_digest digest = {{0, 0, 0, 0}};
     for (int i = 0; i < 4; i++) {
-        digest.words[i] = 0;
         for (int k = 0; k < 8; k++) {
             digest.words[i] = digest.words[i] << 8 | bytes[8 * i + k];
         }
@@ -421,7 +481,7 @@ static inline committer_digest committer_digest_of(const unsigned char *bytes)
 static inline void committer_digest_bytes(committer_digest digest, unsigned char *bytes)
 {
     for (int i = 0; i < 32; i++) {
-        bytes[i] = (unsigned char)(digest.words[i / 8] >> (56 - 8 * (i % 8)));
+        bytes[i] = COMMITTER_AS(unsigned char, digest.words[i / 8] >> (56 - 8 * (i % 8)));
     }
 }
 
@@ -436,6 +496,112 @@ static inline uint32_t committer_lowest_round(uint32_t genesis, uint32_t commit_
         lowest = genesis + 1;
     }
     return lowest < bottom ? bottom : lowest;
+}
+
+/* What a number of enum committer_refusal means, in words; of a number that is none, that it is none. */
+static inline const char *committer_refusal_text(uint32_t number)
+{
+    switch (number) {
+    case COMMITTER_DONE:
+        return "not refused";
+    case COMMITTER_BAD_START:
+        return "what a start takes, or the tables' lengths, out of range";
+    case COMMITTER_WRONG_PHASE:
+        return "not started, or started twice";
+    case COMMITTER_ROUND_AHEAD:
+        return "round beyond top + 1, or above 4,000,000,000";
+    case COMMITTER_FULL:
+        return "512 rounds, or no place free";
+    case COMMITTER_NOT_A_PEER:
+        return "author not a peer of its round";
+    case COMMITTER_NOT_RETAINED:
+        return "round not retained";
+    case COMMITTER_DIGEST_NAMED:
+        return "digest named in this round";
+    case COMMITTER_FIFTH_DIGEST:
+        return "a fifth digest of its author and round";
+    case COMMITTER_NOT_NAMED:
+        return "id not named, or trigger not resolved";
+    case COMMITTER_RESOLVED:
+        return "resolved already";
+    case COMMITTER_BAD_INFO:
+        return "what a resolution gives has a wrong form";
+    case COMMITTER_LINK_NOT_NAMED:
+        return "link into a retained round, not named";
+    case COMMITTER_CONFLICT:
+        return "history conflict";
+    case COMMITTER_POINT_MISSING:
+        return "point needed, named and not resolved";
+    case COMMITTER_UNUSABLE:
+        return "status neither usable nor certified";
+    case COMMITTER_BROKEN_CHAIN:
+        return "no previous point, or the sought proof isn't where and what it must be";
+    case COMMITTER_ROUNDS_MISSING:
+        return "limit at or above the full-history bottom, rounds missing";
+    case COMMITTER_NOT_CERTIFIED:
+        return "history point of height 0";
+    case COMMITTER_CHAIN_ENDS_EARLY:
+        return "oldest link above the walk's lowest round";
+    case COMMITTER_GAP_QUESTION:
+        return "gap question not put";
+    case COMMITTER_NO_ROOM:
+        return "answer larger than the buffer left";
+    case COMMITTER_AT_GENESIS:
+        return "anchor at genesis";
+    case COMMITTER_REMOVE_AHEAD:
+        return "remove above the last anchor handed out since the start, or none";
+    case COMMITTER_BAD_LISTS:
+        return "place list that isn't each place from 0 once";
+    case COMMITTER_NEVER_NAMED:
+        return "point needed, never named";
+    case COMMITTER_BAD_GAME:
+        return "numbers or sets of a game of keepers and spoilers out of range";
+    default:
+        return "not the number of a refusal";
+    }
+}
+
+#ifndef COMMITTER_TYPES_ONLY
+
+/* ---- the library's version and layout */
+
+/* The version of the library that is linked. A host may compare it with COMMITTER_VERSION_MAJOR and the other two. */
+committer_version committer_library_version(void);
+
+/* committer_layout_1, which answers COMMITTER_LAYOUT. Nobody needs to call it. */
+#define COMMITTER_LAYOUT_NAME COMMITTER_LAYOUT_NAMED(COMMITTER_LAYOUT)
+#define COMMITTER_LAYOUT_NAMED(number) COMMITTER_LAYOUT_JOINED(number)
+#define COMMITTER_LAYOUT_JOINED(number) committer_layout_##number
+uint32_t COMMITTER_LAYOUT_NAME(void);
+
+/* The reference to it: eight bytes of constants that compiler and linker (--gc-sections too, where `retain` is known) leave in place. */
+#if defined(__has_attribute)
+#if __has_attribute(retain)
+#define COMMITTER_KEPT __attribute__((used, retain))
+#endif
+#endif
+#if defined(__GNUC__) && !defined(COMMITTER_KEPT)
+#define COMMITTER_KEPT __attribute__((used))
+#endif
+#ifdef COMMITTER_KEPT
+static uint32_t (*const committer_layout_needed)(void) COMMITTER_KEPT = COMMITTER_LAYOUT_NAME;
+#undef COMMITTER_KEPT
+#endif
+
+/* The bytes of stack that they take at most, as below. */
+#define COMMITTER_STACK_LIBRARY_VERSION 100u
+#define COMMITTER_STACK_LAYOUT 100u
+
+/* The state before the first start. It refers to the layout as well. */
+static inline committer_state committer_no_state(void)
+{
+#ifdef __cplusplus
+    committer_state state = {};
+#else
+    committer_state state = {0};
+#endif
+    (void)COMMITTER_LAYOUT_NAME();
+    return state;
 }
 
 /* ---- generator. It takes no state and no tables, and refuses nothing. */
@@ -625,6 +791,8 @@ committer_reply committer_remove(committer_state state,
  * null.
  */
 void committer_merge(committer_counters *counters, committer_counters other);
+
+#endif /* COMMITTER_TYPES_ONLY */
 
 #ifdef __cplusplus
 }

@@ -5,6 +5,7 @@
 #include <stdbool.h>
 #include <stdio.h>
 #include <stdlib.h>
+#include <string.h>
 
 #include "committer.h"
 
@@ -324,6 +325,16 @@ static uint64_t cert_at(const board *b, size_t i)
 static uint64_t height_at(const board *b, size_t i)
 {
     return cert_at(b, i) & COMMITTER_CERT_HEIGHT;
+}
+
+/* ---- the version as text, said by the header in one place and made of the library's numbers */
+
+static void check_version(void)
+{
+    char text[40];
+    committer_version version = committer_library_version();
+    snprintf(text, sizeof text, "%u.%u.%u", (unsigned)version.major, (unsigned)version.minor, (unsigned)version.patch);
+    CHECK(strcmp(text, COMMITTER_VERSION) == 0);
 }
 
 /* ---- helpers of the header */
@@ -1613,6 +1624,7 @@ static void check_noise(size_t places, int times)
 
 int main(void)
 {
+    check_version();
     check_helpers();
     check_generator();
     check_games();

@@ -25,7 +25,7 @@ static committer_state state; /* all zero before the first start */
 static uint32_t keep(const char *call, const committer_reply *reply)
 {
     if (reply->refused != COMMITTER_DONE) {
-        fprintf(stderr, "%s: refused %" PRIu32 "\n", call, reply->refused);
+        fprintf(stderr, "%s: refused %" PRIu32 ": %s\n", call, reply->refused, committer_refusal_text(reply->refused));
         exit(1);
     }
     state = reply->state;

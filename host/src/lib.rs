@@ -13,6 +13,7 @@ mod removal;
 mod state;
 pub mod sys;
 mod types;
+mod version;
 
 pub use anchor::{Anchor, LOOK_BYTES, Look, RECORD_BYTES, anchors, looks};
 pub use game::{Game, Reach};
@@ -21,10 +22,11 @@ pub use record::Call;
 pub use refusal::{Refusal, Refused};
 pub use removal::{JournalDagEvent, MempoolPeerCounters, MempoolPeerStats, PEER_BYTES, Removal, removal};
 pub use state::STATE_BYTES;
-pub use sys::State;
+pub use sys::{State, Version};
 pub use types::{
     Entry, Link, Memory, Point, PointId, PointInfo, RetainedRound, Start, Status, Summary, digest_bytes, digest_words,
 };
+pub use version::{LAYOUT, VERSION, library_version};
 
 use std::fmt;
 
@@ -172,7 +174,7 @@ impl Committer {
         (&self.tables, &self.state)
     }
 
-    /// To write whatever one likes: what no call left counts as not started.
+    /// To write whatever one likes: what breaks a rule that all calls keep counts as not started.
     pub fn parts_mut(&mut self) -> (&mut Tables, &mut State) {
         (&mut self.tables, &mut self.state)
     }
@@ -361,7 +363,7 @@ fn kept(reply: &sys::Reply) -> Result<Kept, Refused> {
     if reply.refused == 0 {
         return Ok(Kept { said: reply.said == 1, anchors: reply.anchors });
     }
-    let refusal = Refusal::of(reply.refused, reply.conflict).expect("the library refuses with 1 to 24");
+    let refusal = Refusal::of(reply.refused, reply.conflict).expect("the library refuses with 1 to 25");
     Err(Refused { refusal, finished: reply.anchors })
 }
 

@@ -105,19 +105,20 @@ impl Refusal {
         }
     }
 
-    fn text(self) -> &'static str {
+    /// What it means, in the words of `committer_refusal_text`.
+    pub fn text(self) -> &'static str {
         match self {
-            Refusal::BadStart => "what the start takes, or the tables' lengths, out of range",
+            Refusal::BadStart => "what a start takes, or the tables' lengths, out of range",
             Refusal::WrongPhase => "not started, or started twice",
             Refusal::RoundAhead => "round beyond top + 1, or above 4,000,000,000",
-            Refusal::Full => "512 rounds, or table full",
+            Refusal::Full => "512 rounds, or no place free",
             Refusal::NotAPeer => "author not a peer of its round",
             Refusal::NotRetained => "round not retained",
             Refusal::DigestNamed => "digest named in this round",
-            Refusal::FifthDigest => "fifth digest of its author and round",
-            Refusal::NotNamed => "id not named, or trigger unresolved",
+            Refusal::FifthDigest => "a fifth digest of its author and round",
+            Refusal::NotNamed => "id not named, or trigger not resolved",
             Refusal::Resolved => "resolved already",
-            Refusal::BadInfo => "what the resolution gives has a wrong form",
+            Refusal::BadInfo => "what a resolution gives has a wrong form",
             Refusal::LinkNotNamed => "link into a retained round, not named",
             Refusal::Conflict { .. } => "history conflict",
             Refusal::PointMissing => "point needed, named and not resolved",
@@ -132,7 +133,7 @@ impl Refusal {
             Refusal::RemoveAhead => "remove above the last anchor handed out since the start, or none",
             Refusal::BadLists => "place list that isn't each place from 0 once",
             Refusal::NeverNamed => "point needed, never named",
-            Refusal::BadGame => "numbers or sets of the game out of range",
+            Refusal::BadGame => "numbers or sets of a game of keepers and spoilers out of range",
         }
     }
 }

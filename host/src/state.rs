@@ -39,7 +39,7 @@ impl State {
         out.0
     }
 
-    /// Any bytes are a state; calls refuse with 2 one that no call left.
+    /// Any bytes are a state; calls refuse with 2 one that breaks a rule that all calls keep.
     pub fn from_bytes(bytes: &[u8; STATE_BYTES]) -> State {
         let mut from = Reader { bytes, at: 0 };
         State {

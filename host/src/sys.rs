@@ -7,6 +7,14 @@ use std::mem::{offset_of, size_of};
 pub type Digest = [u64; 4];
 
 #[repr(C)]
+#[derive(Clone, Copy, Debug, PartialEq, Eq, PartialOrd, Ord, Hash)]
+pub struct Version {
+    pub major: u32,
+    pub minor: u32,
+    pub patch: u32,
+}
+
+#[repr(C)]
 #[derive(Clone, Copy, Debug, PartialEq, Eq)]
 pub struct PointId {
     pub round: u32,
@@ -179,6 +187,7 @@ pub struct Counters {
 
 // the layout that the library was built with
 const _: () = assert!(size_of::<usize>() == 8);
+const _: () = assert!(size_of::<Version>() == 12);
 const _: () = assert!(size_of::<PointId>() == 40);
 const _: () = assert!(size_of::<Pcg>() == 32);
 const _: () = assert!(size_of::<Drawn>() == 40);
@@ -194,8 +203,17 @@ const _: () = assert!(size_of::<Start>() == 28);
 const _: () = assert!(size_of::<Resolution>() == 80);
 const _: () = assert!(size_of::<Counters>() == 18);
 
-// the generator and the game, which are lent nothing
+// the reference to the layout's function that every program with this crate has
+#[used]
+static LAYOUT_NEEDED: extern "C" fn() -> u32 = committer_layout_1;
+
+// the version, the layout, the generator and the game, which are lent nothing
 unsafe extern "C" {
+    pub safe fn committer_library_version() -> Version;
+
+    /// Answers the number in its name. The library of another layout has no function of this name.
+    pub safe fn committer_layout_1() -> u32;
+
     pub safe fn committer_seed(digest: DigestWords) -> Pcg;
 
     pub safe fn committer_draw(generator: Pcg) -> Drawn;

@@ -1,5 +1,5 @@
 //! The Rust's side of docs/DIFFERENCES.md, by its entries and by the numbers of its table of refusals. Not shown: entry
-//! 6 (the answer is sorted here), entry 14 and what the Rust has no call for.
+//! 6 (order.rs shows the order), entry 14 and what the Rust has no call for.
 
 mod common;
 
@@ -177,6 +177,31 @@ fn entry_10_any_name_is_taken() {
     }
     assert_eq!(oracle.points().len(), 7);
     assert_eq!(oracle.state().rounds[0].authors, 0b111);
+}
+
+/// The author of the point that is handed out before the anchor, which includes two points with one digest.
+fn twin_handed_out(seed: u64) -> u8 {
+    set_hash_seed(seed);
+    let mut oracle = started(&Start { used: Some(0), ..start(9, 1, 0, 10) }, 13);
+    add(&mut oracle, p(10, 0, 'a'), valid());
+    add(&mut oracle, p(10, 1, 'a'), valid());
+    add(&mut oracle, p(11, 0, 'b'), anchor(p(10, 0, 'z'), &[(0, 'a'), (1, 'a')]));
+    add(&mut oracle, p(12, 0, 'c'), proof(&[(0, 'b')]));
+    add(&mut oracle, p(13, 0, 'd'), trigger(&[(0, 'c')]));
+    oracle.certify(&p(11, 0, 'b')).done();
+    let handed = anchors(oracle.commit(&p(13, 0, 'd')));
+    let [twin, anchor] = &handed[0].points[..] else {
+        panic!("{:?}", handed[0].points);
+    };
+    assert_eq!(*anchor, p(11, 0, 'b'));
+    assert_eq!((twin.round, twin.digest), (10, digest('a')));
+    twin.author
+}
+
+#[test]
+fn entry_10_hash_order_decides_between_twins() {
+    let authors: BTreeSet<_> = (0..32).map(twin_handed_out).collect();
+    assert_eq!(authors, BTreeSet::from([0, 1]));
 }
 
 #[test]

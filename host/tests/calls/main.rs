@@ -18,3 +18,4 @@ mod records;
 mod refusals;
 mod removes;
 mod tables;
+mod version;

@@ -1,0 +1,82 @@
+/*
+ * What committer.h has beside its calls, in the words that C99 and C++11 share, with no header but it: check.sh compiles it as each of
+ * them, for a freestanding environment too. Returns 0, or the line of the first check that fails.
+ */
+#include "committer.h"
+
+#define PLACES 3u
+
+#define CHECK(holds) \
+    do { \
+        if (!(holds)) { \
+            return __LINE__; \
+        } \
+    } while (0)
+
+static uint64_t keys[COMMITTER_KEYS_LEN(PLACES)], links[COMMITTER_LINKS_LEN(PLACES)], certs[COMMITTER_CERTS_LEN(PLACES)],
+    order[COMMITTER_ORDER_LEN(PLACES)];
+
+static int same(const char *a, const char *b)
+{
+    while (*a != 0 && *a == *b) {
+        a++;
+        b++;
+    }
+    return *a == *b;
+}
+
+static int check_numbers(void)
+{
+    CHECK(COMMITTER_TABLES_BYTES(PLACES) == sizeof keys + sizeof links + sizeof certs + sizeof order);
+    CHECK(COMMITTER_RECORD_BYTES(4) == 247 && COMMITTER_SUMS_AT(4) == 231 && COMMITTER_LOOK_BYTES(3) == 53);
+    CHECK(COMMITTER_COMMIT_MAX == 202141 && COMMITTER_OUTLOOK_MAX == 544215 && COMMITTER_REMOVE_MAX == 5785509);
+    CHECK(COMMITTER_FORK_BYTES(2) == 74 && COMMITTER_EVIDENCE_BYTES(3) == 121 && COMMITTER_EVENTS_AT(2) == 63);
+    CHECK(COMMITTER_CERT_TOP + COMMITTER_CERT_STARTED + COMMITTER_CERT_COMPLETED + COMMITTER_CERT_COMMITTED + COMMITTER_CERT_HEIGHT == 0xffff);
+    return 0;
+}
+
+/* header and library are of one version and layout */
+static int check_version(void)
+{
+    committer_version version = committer_library_version();
+    CHECK(version.major == COMMITTER_VERSION_MAJOR);
+    CHECK(version.minor == COMMITTER_VERSION_MINOR);
+    CHECK(version.patch == COMMITTER_VERSION_PATCH);
+    CHECK(COMMITTER_LAYOUT_NAME() == COMMITTER_LAYOUT);
+    return 0;
+}
+
+static int check_helpers(void)
+{
+    unsigned char bytes[32] = {1, 2, 3, 4, 5, 6, 7, 8, 9}, back[32];
+    committer_digest digest = committer_digest_of(bytes);
+    CHECK(digest.words[0] == 0x0102030405060708u && digest.words[1] == 0x0900000000000000u && digest.words[3] == 0);
+    committer_digest_bytes(digest, back);
+    for (int i = 0; i < 32; i++) {
+        CHECK(back[i] == bytes[i]);
+    }
+    CHECK(committer_lowest_round(10, 2, 10, 15) == 13);
+    CHECK(same(committer_refusal_text(COMMITTER_WRONG_PHASE), "not started, or started twice"));
+    return 0;
+}
+
+static int check_start(void)
+{
+    committer_start_args with = {10, 2, 0, 10, 3, 0, COMMITTER_NOBODY};
+    committer_reply reply = committer_start(committer_no_state(), keys, COMMITTER_KEYS_LEN(PLACES), links, COMMITTER_LINKS_LEN(PLACES), certs,
+        COMMITTER_CERTS_LEN(PLACES), order, COMMITTER_ORDER_LEN(PLACES), with);
+    CHECK(reply.refused == COMMITTER_DONE && reply.state.bottom == 10 && reply.state.top == 10);
+    return 0;
+}
+
+int main(void)
+{
+    int (*const checks[])(void) = {check_numbers, check_version, check_helpers, check_start};
+    for (unsigned i = 0; i < sizeof checks / sizeof checks[0]; i++) {
+        int line = checks[i]();
+        if (line != 0) {
+            return line;
+        }
+    }
+    return 0;
+}
