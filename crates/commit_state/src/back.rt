@@ -2,7 +2,8 @@
 // What the calls do to the state.
 ghost use mathlib.Core.Path.{_≡_};
 ghost use Prim.Native.Nat.{_+_, _<_, _≤_};
-ghost use Rattle.commit_state.specs.Back.{Starts, begunState, emptyState, unstartedState, clearedState, extendedState, askedState, droppedState, removedState, fullBottom, firstOf, armedOf, usedOf, usedWord};
+ghost use Rattle.commit_state.specs.Back.{Starts, begunState, emptyState, unstartedState, clearedState, extendedState, askedState, droppedState, removedState};
+ghost use Rattle.commit_state.specs.Back.{fullBottom, firstOf, armedOf, usedOf, usedWord};
 ghost use Rattle.spec.specs.Rules.{usedOk};
 ghost use mathlib.Core.Bool.{true};
 use crate::state::Memory;
