@@ -44,14 +44,6 @@ replyOf o =
 
 -- by cases on the answer, and on the refusal
 module _ (w : Refusal) where
-  pub number-is : (n : ℕ) → w ≡ why.Number n → n ≡ numberOf (refusalOf w)
-  unfolding numberOf refusalOf
-  number-is n e = rw e refl
-
-  pub number-13 : (r : _) → w ≡ why.Conflict r → 13 ≡ numberOf (refusalOf w)
-  unfolding numberOf refusalOf
-  number-13 r e = rw e refl
-
   pub round-none : (n : ℕ) → w ≡ why.Number n → 0 ≡ roundIn (refusalOf w)
   unfolding roundIn refusalOf
   round-none n e = rw e refl

@@ -2,13 +2,13 @@
 // An answer as numbers, with the state after it.
 ghost use mathlib.Core.Path.{_≡_};
 ghost use mathlib.Core.Bool.{cond};
-ghost use Rattle.spec.specs.Calls.{numberOf};
 ghost use Rattle.models.specs.Refusal.{refusalOf};
 ghost use Rattle.committer_reply.specs.Reply.{replyOf, roundIn};
 use commit_answer::answer::Answer;
 use commit_answer::answer::Outcome;
 use commit_state::state::State;
 use models::refusal::Refusal;
+use models::refusal::refusal_number;
 
 // refused: document 01's number, 0 for none. said: 1 for yes. anchors: handed out, or finished before a refusal. conflict: the round of
 // a history conflict (13), else 0. state: the state after the call.
@@ -19,15 +19,6 @@ pub struct Reply {
     pub anchors: u32,
     pub conflict: u32,
     pub state: State,
-}
-
-fn number_of(why: Refusal) -> u32
-    ensures { λ r. ⌜ r ≡ numberOf (refusalOf why) ⌝ }
-{
-    match why {
-        Refusal::Number(n) => n,
-        Refusal::Conflict(_round) => 13,
-    }
 }
 
 fn round_in(why: Refusal) -> u32
@@ -77,7 +68,7 @@ pub fn reply_of(o: Outcome) -> Reply
             state,
         },
         Answer::Refused(why, anchors) => {
-            let refused = number_of(why);
+            let refused = refusal_number(why);
             let conflict = round_in(why);
             Reply {
                 refused,

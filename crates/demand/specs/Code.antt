@@ -97,7 +97,7 @@ unfolding outcomeOf
 left-is m = refl
 
 -- the store after a call
-store-is : (m : Made) (s : Store) → viewOf (m .before) ≡ s → viewOf (m .left .tables) ≡ call s (m .what) .store
+pub store-is : (m : Made) (s : Store) → viewOf (m .before) ≡ s → viewOf (m .left .tables) ≡ call s (m .what) .store
 store-is m s e = sym (left-is m) ∙ (ap (λ (o : calls.Outcome). o .store) (m .did .answer) ∙ ap (λ t. call t (m .what) .store) e)
 
 histories-is : (s : Store) (d : Tables) (ms : List Made) → viewOf d ≡ s → Chained d ms → historiesIn ms ≡ histories s (callsOf ms)
@@ -121,7 +121,7 @@ said-is s d (m ∷ ms) e (b, r) (a, rest) =
     let o : outcome m ≡ call s (m .what) = m .did .answer ∙ ap (λ t. call t (m .what)) k in
     (subst (λ t. AsSaid t (m .what) (outcome m)) (sym k) (subst (AsSaid s (m .what)) (sym o) a), said-is (call s (m .what) .store) (m .left .tables) ms (store-is m s k) r rest)
 
-last-is : (s : Store) (d : Tables) (ms : List Made) → viewOf d ≡ s → Chained d ms → viewOf (lastTables d ms) ≡ after s (callsOf ms)
+pub last-is : (s : Store) (d : Tables) (ms : List Made) → viewOf d ≡ s → Chained d ms → viewOf (lastTables d ms) ≡ after s (callsOf ms)
 unfolding lastTables after
 last-is s d [] e r = e
 last-is s d (m ∷ ms) e (b, r) = last-is (call s (m .what) .store) (m .left .tables) ms (store-is m s (ap viewOf b ∙ e)) r

@@ -6,7 +6,9 @@ use lib.Dec.{ltb}
 use native.Mathlib.Omega.{arith}
 use Rattle.spec.specs.Chain as chain
 use Rattle.spec.specs.Chain.{number, conflict, Out, bad, good, checkedAs}
+use Rattle.spec.specs.Calls.{numberOf}
 use Rattle.models.specs.Cert.{heightOf}
+use Rattle.models.specs.declared.parts.Round.{Round}
 use Rattle.models.specs.declared.refusal.Refusal.{Refusal}
 use Rattle.models.specs.declared.refusal.Refusal.the-variants.{Number, Conflict}
 use Rattle.models.specs.declared.refusal.Check.{Check}
@@ -31,6 +33,16 @@ pub refusal-from-of : (r : Refusal) → refusalFrom (refusalOf r) ≡ r
 unfolding refusalOf refusalFrom
 refusal-from-of (Number n) = refl
 refusal-from-of (Conflict r) = refl
+
+-- 01's number, by cases
+module _ (w : Refusal) where
+  pub number-is : (n : ℕ) → w ≡ Number n → n ≡ numberOf (refusalOf w)
+  unfolding numberOf refusalOf
+  number-is n e = rw e refl
+
+  pub number-13 : (r : Round) → w ≡ Conflict r → 13 ≡ numberOf (refusalOf w)
+  unfolding numberOf refusalOf
+  number-13 r e = rw e refl
 
 -- what follows a test
 unfoldable pub unlessFailed : {A : Type 0} → Check → Out A → Out A

@@ -1,7 +1,8 @@
 // Origin: dag/commit/mod.rs (HistoryConflict).
-// What a call is refused with; the numbers are document 01's.
+// What a call is refused with, by document 01's numbers, and what a record of a trace is refused with, by 02's.
 ghost use mathlib.Core.Path.{_≡_};
-ghost use Rattle.models.specs.Refusal.{notValid};
+ghost use Rattle.spec.specs.Calls.{numberOf};
+ghost use Rattle.models.specs.Refusal.{refusalOf, notValid};
 use crate::cert::Cert;
 use crate::parts::Round;
 
@@ -77,10 +78,26 @@ pub const REMOVE_AHEAD: u32 = 23;
 // A place list that isn't each place from 0 once.
 pub const BAD_LISTS: u32 = 24;
 
+// A record of a trace that is cut short or of wrong length, or a call that fits no record.
+pub const BAD_RECORD: u32 = 26;
+
+// A record of a trace of an unknown version or kind.
+pub const UNKNOWN_RECORD: u32 = 27;
+
 // Document 01's number of a refusal; 13, the history conflict, holds its round.
 pub enum Refusal {
     Number(u32),
     Conflict(Round),
+}
+
+// Document 01's number alone.
+pub fn refusal_number(why: Refusal) -> u32
+    ensures { λ r. ⌜ r ≡ numberOf (refusalOf why) ⌝ }
+{
+    match why {
+        Refusal::Number(n) => n,
+        Refusal::Conflict(_round) => CONFLICT,
+    }
 }
 
 // A test: passed, or what it refuses with.

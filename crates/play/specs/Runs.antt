@@ -1,49 +1,59 @@
 -- Records played one after another.
 use Prim.Native.Nat.{ℕ, _+_, _-_, _<_, _≤_}
-use mathlib.Core.Path.{_≡_, refl, ap}
-use mathlib.Core.List.{List}
-use mathlib.Core.Bool.{Bool, true, false, true≢false}
+use mathlib.Core.Path.{_≡_, refl, sym, ap, subst, _∙_}
+use mathlib.Core.List.{List, [], _++_, append-assoc, append-nil}
+use mathlib.Core.Logic.{_⊎_}
+use mathlib.Core.Bool.{Bool}
 use native.Mathlib.Omega.{arith}
-use lib.ListN.{length}
-use Rattle.laws.specs.Test.{byTest, clash, cond-yes, cond-no}
-use Rattle.commit_answer.specs.Answer.{Tables}
-use Rattle.trace.specs.Head.{known, headOk, headAt, restAt, leastLeft}
-use Rattle.trace.specs.declared.head.Kind.the-variants.{Broken}
-use Rattle.trace.specs.declared.head.Record.{Record}
+use native.Mathlib.Nat.{add-zero}
+use lib.ListN.{length, getD}
+use Rattle.commit_answer.specs.Answer.{Tables, answerOf}
 use Rattle.commit_answer.specs.declared.answer.Outcome.{Outcome}
-use Rattle.play.specs.Plays.{PlaysAt}
+use Rattle.trace.specs.Kinds.{kindOf}
+use Rattle.trace.specs.Head.{codeAt, headAt, restAt, fieldsAt, leastLeft, head-good, code-whole}
+use Rattle.trace.specs.Within.{code-within, kind-within, rest-within, fields-within}
+use Rattle.trace.specs.declared.head.Record.{Record}
+use Rattle.lines.specs.Lines.{saidText}
+use Rattle.play.specs.Plays.{Plays, PlaysAt, plays-good}
 
--- the records of bs before p, one after another, make c of the tables b, and u of the buffer w
-pub data Runs (bs : List ℕ) (b : Tables) (w : List ℕ) : ℕ → Tables → List ℕ → Type 0 where
-  none-yet : Runs bs b w 0 b w
-  one-more : {p : ℕ} {c : Tables} {u : List ℕ} (o : Outcome) (d : Tables) (v : List ℕ) → Runs bs b w p c u → p < headAt bs p .end → PlaysAt bs p c u o d v → Runs bs b w (headAt bs p .end) d v
+-- The records of bs before p, one after another, make c of the tables b. room: the buffer that each call is lent, if it takes one. t: the bytes
+-- of N5's lines of what they answered. w: whether the bench's outlook is known
+pub data Runs (w : Bool) (room bs : List ℕ) (b : Tables) : ℕ → List ℕ → Tables → Type 0 where
+  none-yet : Runs w room bs b 0 [] b
+  one-more : {p : ℕ} {t : List ℕ} {c : Tables} (o : Outcome) (d : Tables) (v : List ℕ) → Runs w room bs b p t c → codeAt w bs p ≡ 0 → Plays (kindOf (getD bs (p + 5) 0)) (fieldsAt bs p) room c o d v
+      → Runs w room bs b (p + 4 + restAt bs p) (t ++ saidText (getD bs (p + 5) 0) (answerOf (o .answer)) v) d
 
--- the play stops at p: at a broken record, or where too few bytes are left
-abbrev pub Ends : List ℕ → Bool → ℕ → Bool → Type 0
-Ends bs last p broken = (broken ≡ true → headAt bs p .kind ≡ Broken) × (broken ≡ false → length bs - p < leastLeft last)
+-- the play of bs stops at p: code is the number that the record there is refused with, or 0 where too few bytes or too little room for lines is left
+abbrev pub Ends : Bool → List ℕ → Bool → ℕ → ℕ → ℕ → ℕ → Type 0
+Ends w bs last room most p code = (p ≤ length bs) × (code ≡ 0 → (length bs - p < leastLeft last) ⊎ (room < most)) × ((code ≡ 0 → ⊥) → (p < length bs) × (code ≡ codeAt w bs p))
 
 -- ---- laws
 
--- a record that ends where it begins is broken
-stays : (bs : List ℕ) (p : ℕ) → headAt bs p .end ≤ p → headAt bs p .kind ≡ Broken
-unfolding headAt
-stays bs p l =
-    byTest (headOk bs p)
-    (λ t. let g : headAt bs p .end ≡ p + 4 + restAt bs p = ap (λ (x : Record). x .end) (cond-yes _ _ _ t refl) in absurd (omega (arith, g)))
-    (λ t. ap (λ (x : Record). x .kind) (cond-no _ _ _ t refl))
+module _ (w : Bool) (room bs : List ℕ) (b : Tables) where
+  moved : {p q : ℕ} {t u : List ℕ} {c : Tables} → p ≡ q → t ≡ u → Runs w room bs b p t c → Runs w room bs b q u c
+  moved {p} {q} {t} {u} {c} e f r = subst (λ (i : ℕ). Runs w room bs b i u c) e (subst (λ (l : List ℕ). Runs w room bs b p l c) f r)
 
-module _ (bs : List ℕ) (b c d : Tables) (w u v : List ℕ) (p e : ℕ) (o : Outcome) (r : Runs bs b w p c u) (g : e ≡ headAt bs p .end) (q : PlaysAt bs p c u o d v) where
-  -- a record more
-  pub runs-more : p < e → Runs bs b w e d v
-  runs-more l = rw g (one-more o d v r (rw g at l) q)
+  -- a record more, as it was found
+  pub runs-more : (c d : Tables) (v t u : List ℕ) (p e k x : ℕ) (o : Outcome) → Runs w room bs b p t c → x ≡ codeAt w bs p → x ≡ 0 → k ≡ headAt w bs p .kind → e ≡ headAt w bs p .end → PlaysAt w room bs p c o d v
+      → u ≡ saidText k (answerOf (o .answer)) v → Runs w room bs b e (t ++ u) d
+  runs-more c d v t u p e k x o r g z h f q s =
+      let z0 : codeAt w bs p ≡ 0 = sym g ∙ z in
+      let n = head-good bs p (codeAt w bs p) z0 in
+      moved (sym (f ∙ ap (λ (y : Record). y .end) n)) (ap (λ (l : List ℕ). t ++ l) (ap (λ (i : ℕ). saidText i (answerOf (o .answer)) v) (sym (h ∙ ap (λ (y : Record). y .kind) n)) ∙ sym s))
+      (one-more o d v r z0 (plays-good w room bs p c d v o z0 q))
 
-  -- a broken one changes nothing
-  pub runs-stays : e ≤ p → Runs bs b w p d v
-  runs-stays l = let (x, h, k) = q .makes .broken (ap known (stays bs p (rw g at l))) in rw (h, k) r
-
-  pub ends-broken : (last : Bool) → e ≤ p → Ends bs last p true
-  ends-broken last l = (λ _. stays bs p (rw g at l), λ h. absurd (true≢false h))
-
--- too few bytes are left
-pub ends-short : (bs : List ℕ) (last w : Bool) (p n k : ℕ) → n ≡ length bs → k ≡ leastLeft last → w ≡ false → n - p < k → Ends bs last p w
-ends-short bs last w p n k e h z l = (λ f. absurd (clash f z), λ _. rw (e, h) at l)
+-- a run of the bytes xs goes on where a run of more bytes, with xs in them, has come to xs
+pub runs-on : (w : Bool) (room zs xs es : List ℕ) (b c d : Tables) (x : ℕ) (t u : List ℕ) → Runs w room xs c x u d → Runs w room (zs ++ (xs ++ es)) b (length zs) t c → Runs w room (zs ++ (xs ++ es)) b (length zs + x) (t ++ u) d
+runs-on w room zs xs es b c d x t u none-yet r = moved w room _ b (sym (add-zero (length zs))) (sym (append-nil t)) r
+runs-on w room zs xs es b c d x t u (one-more {p = y} {t = s} {c = e} o d2 v q z m) r =
+    let h = code-whole xs y w z in
+    let i = kind-within zs xs es y h in
+    moved w room _ b
+    (ap (λ (n : ℕ). length zs + y + 4 + n) (rest-within zs xs es y h) ∙ on (length zs) y (restAt xs y))
+    (ap (λ (k : ℕ). (t ++ s) ++ saidText k (answerOf (o .answer)) v) i ∙ append-assoc t s (saidText (getD xs (y + 5) 0) (answerOf (o .answer)) v))
+    (one-more o d2 v (runs-on w room zs xs es b c e y t s q r) (code-within zs xs es y h w ∙ z)
+    (subst (λ (f : List ℕ). Plays (kindOf (getD (zs ++ (xs ++ es)) (length zs + y + 5) 0)) f room e o d2 v) (sym (fields-within zs xs es y h))
+    (subst (λ (k : ℕ). Plays (kindOf k) (fieldsAt xs y) room e o d2 v) (sym i) m)))
+  where
+    on : (n y r : ℕ) → n + y + 4 + r ≡ n + (y + 4 + r)
+    on n y r = omega arith

@@ -1,19 +1,21 @@
 // Origin: none.
 // One record played.
 ghost use mathlib.Core.Path.{_≡_};
-ghost use mathlib.Core.Bool.{true};
 ghost use Prim.Native.Nat.{_<_, _≤_};
 ghost use lib.ListN.{length};
-ghost use Rattle.trace.specs.Head.{known, headAt};
+ghost use Rattle.trace.specs.Kinds.{kindOf};
+ghost use Rattle.trace.specs.Head.{codeAt, headAt};
 ghost use Rattle.commit_answer.specs.Answer.{tables};
 ghost use Rattle.commit_answer.specs.declared.answer.Answer.the-variants as answers;
+ghost use Rattle.play_calls.specs.Room.{zeros};
 ghost use Rattle.play.specs.Sized.{Sized};
-ghost use Rattle.play.specs.Plays.{Makes, PlaysAt};
+ghost use Rattle.play.specs.Plays.{Makes, PlaysAt, Still};
 use commit_answer::answer::Answer;
 use commit_answer::answer::Outcome;
 use commit_rounds::is_once_after_gap;
 use commit_start::reset;
 use commit_state::state::State;
+use models::refusal::BAD_RECORD;
 use play_calls::points::play_certify;
 use play_calls::points::play_commit;
 use play_calls::points::play_name;
@@ -23,18 +25,19 @@ use play_calls::rounds::play_drop;
 use play_calls::rounds::play_remove;
 use play_calls::rounds::play_round;
 use play_calls::rounds::play_start;
-use trace::head::Kind;
+use trace::codes::OUTLOOK;
 use trace::head::record_at;
 
-// The kind of a record, what its call answered and the state after it, and where the next record begins: for Broken, at the offset
-// itself.
+// code: the number that the record is refused with, 0 for none. Its kind byte, what its call answered and the state after it, and where the
+// next record begins. A record that is refused has kind 0, and ends at its own offset.
 pub struct Played {
-    pub kind: Kind,
+    pub code: u32,
+    pub kind: u32,
     pub outcome: Outcome,
     pub end: usize,
 }
 
-// What a broken record leaves: the state stays.
+// What a record that is refused leaves: the state stays.
 fn unmade(s: State) -> Outcome
     ensures { λ r. ⌜ r ≡ record { answer = answers.Done; state = s } ⌝ }
 {
@@ -44,9 +47,9 @@ fn unmade(s: State) -> Outcome
     }
 }
 
-// Makes the call of a kind and its fields; b: the buffer that is lent to a call that takes one.
+// Makes the call of a kind byte and its fields, each kind of a trace by its own decoder; b: the buffer that is lent to a call that takes one.
 fn play_fields(
-    kind: Kind,
+    kind: u32,
     s: State,
     keys: &mut [u64],
     links: &mut [u64],
@@ -55,28 +58,50 @@ fn play_fields(
     b: &mut [u8],
     f: &[u8],
 ) -> Outcome
-    requires { ⌜ Sized kind (now f) ⌝ }
-    ensures { λ r. ⌜ Makes kind (now (f .entry)) (tables s (now (keys .entry)) (now (links .entry)) (now (certs .entry)) (now (order .entry))) (now (b .entry)) r
+    requires { ⌜ Sized (kindOf kind) (now f) × (kind ≡ 11 → ⊥) ⌝ }
+    ensures makes { λ r. ⌜ Makes (kindOf kind) (now (f .entry)) (zeros (length (now (b .entry)))) (tables s (now (keys .entry)) (now (links .entry)) (now (certs .entry)) (now (order .entry))) r
         (tables (r .state) (now (keys .exit)) (now (links .exit)) (now (certs .exit)) (now (order .exit))) (now (b .exit)) ⌝ }
+    ensures still { λ _. ⌜ Still (kindOf kind) (now (b .entry)) (now (b .exit)) ⌝ }
 {
     match kind {
-        Kind::Start => play_start(s, keys, links, certs, order, f),
-        Kind::Round => play_round(s, keys, links, certs, order, f),
-        Kind::Name => play_name(s, keys, links, certs, order, f),
-        Kind::Resolve => play_resolve(s, keys, links, certs, order, f),
-        Kind::Certify => play_certify(s, keys, links, certs, order, f),
-        Kind::Commit => play_commit(s, keys, links, certs, order, b, f),
-        Kind::Remove => play_remove(s, keys, links, certs, order, b, f),
-        Kind::Drop => play_drop(s, keys, links, certs, order, f),
-        Kind::Gap => is_once_after_gap(s, keys, links, certs, order),
-        Kind::Reset => reset(s, keys, links, certs, order),
-        Kind::Outlook => play_outlook(s, keys, links, certs, order, b, f),
-        Kind::Broken => unmade(s),
+        1 => play_start(s, keys, links, certs, order, f),
+        2 => play_round(s, keys, links, certs, order, f),
+        3 => play_name(s, keys, links, certs, order, f),
+        4 => play_resolve(s, keys, links, certs, order, f),
+        5 => play_certify(s, keys, links, certs, order, f),
+        6 => play_commit(s, keys, links, certs, order, b, f),
+        7 => play_remove(s, keys, links, certs, order, b, f),
+        8 => play_drop(s, keys, links, certs, order, f),
+        9 => is_once_after_gap(s, keys, links, certs, order),
+        10 => reset(s, keys, links, certs, order),
+        _ => unmade(s),
     }
 }
 
-// Plays the record at the offset: its call is made on the state, the tables and the buffer b. An offset beyond the bytes has none, it is
-// Broken.
+// The same, and the outlook, which has no kind in a trace.
+fn play_known(
+    kind: u32,
+    s: State,
+    keys: &mut [u64],
+    links: &mut [u64],
+    certs: &mut [u64],
+    order: &mut [u64],
+    b: &mut [u8],
+    f: &[u8],
+) -> Outcome
+    requires { ⌜ Sized (kindOf kind) (now f) ⌝ }
+    ensures makes { λ r. ⌜ Makes (kindOf kind) (now (f .entry)) (zeros (length (now (b .entry)))) (tables s (now (keys .entry)) (now (links .entry)) (now (certs .entry)) (now (order .entry))) r
+        (tables (r .state) (now (keys .exit)) (now (links .exit)) (now (certs .exit)) (now (order .exit))) (now (b .exit)) ⌝ }
+    ensures still { λ _. ⌜ Still (kindOf kind) (now (b .entry)) (now (b .exit)) ⌝ }
+{
+    if kind == OUTLOOK {
+        return play_outlook(s, keys, links, certs, order, b, f);
+    }
+    play_fields(kind, s, keys, links, certs, order, b, f)
+}
+
+// Plays the record at the offset: its call is made on the state, the tables and, if it takes one, a buffer of zeros, b. An offset beyond the
+// bytes has none: it is cut short. bench: whether the bench's outlook is known.
 pub fn play_one(
     s: State,
     keys: &mut [u64],
@@ -86,24 +111,32 @@ pub fn play_one(
     b: &mut [u8],
     bytes: &[u8],
     at: usize,
+    bench: bool,
 ) -> Played
-    ensures end { λ r. ⌜ (r .end ≡ headAt (now (bytes .entry)) at .end) × (at ≤ r .end) × (at ≤ length (now (bytes .entry)) → r .end ≤ length (now (bytes .entry))) ⌝ }
-    ensures kind { λ r. ⌜ r .kind ≡ headAt (now (bytes .entry)) at .kind ⌝ }
-    ensures plays { λ r. ⌜ PlaysAt (now (bytes .entry)) at (tables s (now (keys .entry)) (now (links .entry)) (now (certs .entry)) (now (order .entry))) (now (b .entry))
+    ensures code { λ r. ⌜ (r .code ≡ codeAt bench (now (bytes .entry)) at) × (r .kind ≡ headAt bench (now (bytes .entry)) at .kind) ⌝ }
+    ensures end { λ r. ⌜ (r .end ≡ headAt bench (now (bytes .entry)) at .end) × (at ≤ r .end) × (at ≤ length (now (bytes .entry)) → r .end ≤ length (now (bytes .entry))) ⌝ }
+    ensures plays { λ r. ⌜ PlaysAt bench (zeros (length (now (b .entry)))) (now (bytes .entry)) at (tables s (now (keys .entry)) (now (links .entry)) (now (certs .entry)) (now (order .entry)))
         (r .outcome) (tables (r .outcome .state) (now (keys .exit)) (now (links .exit)) (now (certs .exit)) (now (order .exit))) (now (b .exit)) ⌝ }
-    ensures moves { λ r. ⌜ (known (headAt (now (bytes .entry)) at .kind) ≡ true → at < r .end) ⌝ }
+    ensures still { λ _. ⌜ Still (kindOf (headAt bench (now (bytes .entry)) at .kind)) (now (b .entry)) (now (b .exit)) ⌝ }
+    ensures moves { λ r. ⌜ (codeAt bench (now (bytes .entry)) at ≡ 0 → at < r .end) ⌝ }
 {
     if bytes.len() < at {
         return Played {
-            kind: Kind::Broken,
+            code: BAD_RECORD,
+            kind: 0,
             outcome: unmade(s),
             end: at,
         };
     }
-    let found = record_at(bytes, at);
+    let found = record_at(bytes, at, bench);
     let kind = found.kind;
     let from = found.from;
     let end = found.end;
-    let outcome = play_fields(kind, s, keys, links, certs, order, b, &bytes[from..end]);
-    Played { kind, outcome, end }
+    let outcome = play_known(kind, s, keys, links, certs, order, b, &bytes[from..end]);
+    Played {
+        code: found.code,
+        kind,
+        outcome,
+        end,
+    }
 }

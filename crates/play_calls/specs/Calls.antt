@@ -31,8 +31,8 @@ use Rattle.trace.specs.Numbers.{numberAt, idAt, pointIdAt, id-read}
 use Rattle.trace.specs.Head.{linksIn, listsIn}
 use Rattle.trace.specs.Fields.{callBy, startArgsIn, infoIn, sinceIn, start-read}
 use Rattle.trace.specs.Links.{linksWords, info-read, links-are, links-taken}
-use Rattle.trace.specs.declared.head.Kind.{Kind}
-use Rattle.trace.specs.declared.head.Kind.the-variants as kind
+use Rattle.trace.specs.Kinds.{Kind}
+use Rattle.trace.specs.Kinds as kind
 
 -- the kinds whose calls take a buffer
 abbrev pub takesBuffer : Kind → Bool
@@ -63,6 +63,10 @@ module _ (d : Tables) (o : Left) where
 
   made-two : {A B : Type 0} (c : A → B → calls.Call) (m : A → B → Tables → Left) (x y : A) (p q : B) (k : calls.Call) → x ≡ y → p ≡ q → c y q ≡ k → Did (c x p) (m x p) d o → Did k (m y q) d o
   made-two {A} {B} c m x y p q k e g j h = made (c y) (m y) p q k g j (made (λ (z : A). c z p) (λ (z : A). m z p) x y (c y p) e refl h)
+
+  -- with another name for the buffer
+  pub lent-made : (k : Kind) (f w v : List ℕ) → w ≡ v → Did (callBy k f w) (modelBy k f w) d o → Did (callBy k f v) (modelBy k f v) d o
+  lent-made k f w v e h = subst (λ (b : List ℕ). Did (callBy k f b) (modelBy k f b) d o) e h
 
   -- by what was read of the fields f
   module _ (f w : List ℕ) where

@@ -6,8 +6,10 @@ ghost use lib.ListN.{length};
 ghost use Rattle.commit_answer.specs.Answer.{tables, left, Did};
 ghost use Rattle.trace.specs.Head.{linksIn};
 ghost use Rattle.trace.specs.Fields.{callBy};
-ghost use Rattle.trace.specs.declared.head.Kind.the-variants as kinds;
+ghost use Rattle.trace.specs.Kinds as kinds;
 ghost use Rattle.play_calls.specs.Calls.{modelBy};
+ghost use Rattle.play_calls.specs.Room.{zeros};
+use crate::room::clear;
 use commit_answer::answer::Outcome;
 use commit_call::commit;
 use commit_outlook::outlook::outlook;
@@ -92,7 +94,7 @@ pub fn play_certify(
     certify(s, keys, links, certs, order, id)
 }
 
-// Commits the anchors that the point of the fields triggers, with the place lists after it; b: the buffer for their records.
+// Commits the anchors that the point of the fields triggers, with the place lists after it; b: the buffer for their records, which is zeroed first.
 pub fn play_commit(
     s: State,
     keys: &[u64],
@@ -103,15 +105,16 @@ pub fn play_commit(
     f: &[u8],
 ) -> Outcome
     requires { ⌜ 37 ≤ length (now f) ⌝ }
-    ensures { λ r. ⌜ Did (callBy kinds.Commit (now (f .entry)) (now (b .entry))) (modelBy kinds.Commit (now (f .entry)) (now (b .entry)))
+    ensures { λ r. ⌜ Did (callBy kinds.Commit (now (f .entry)) (zeros (length (now (b .entry))))) (modelBy kinds.Commit (now (f .entry)) (zeros (length (now (b .entry)))))
         (tables s (now (keys .entry)) (now (links .entry)) (now (certs .entry)) (now (order .entry)))
         (left r (now (keys .entry)) (now (links .entry)) (now (certs .exit)) (now (order .entry)) (now (b .exit))) ⌝ }
 {
     let id = id_of(f, 0);
+    clear(b);
     commit(s, keys, links, certs, order, id, &f[ID_BYTES..], b)
 }
 
-// Tells the anchors that a commit of the point of the fields would yield; b: the buffer for them.
+// Tells the anchors that a commit of the point of the fields would yield; b: the buffer for them, which is zeroed first.
 pub fn play_outlook(
     s: State,
     keys: &[u64],
@@ -122,10 +125,11 @@ pub fn play_outlook(
     f: &[u8],
 ) -> Outcome
     requires { ⌜ 37 ≤ length (now f) ⌝ }
-    ensures { λ r. ⌜ Did (callBy kinds.Outlook (now (f .entry)) (now (b .entry))) (modelBy kinds.Outlook (now (f .entry)) (now (b .entry)))
+    ensures { λ r. ⌜ Did (callBy kinds.Outlook (now (f .entry)) (zeros (length (now (b .entry))))) (modelBy kinds.Outlook (now (f .entry)) (zeros (length (now (b .entry)))))
         (tables s (now (keys .entry)) (now (links .entry)) (now (certs .entry)) (now (order .entry)))
         (left r (now (keys .entry)) (now (links .entry)) (now (certs .entry)) (now (order .entry)) (now (b .exit))) ⌝ }
 {
     let id = id_of(f, 0);
+    clear(b);
     outlook(s, keys, links, certs, order, id, b)
 }

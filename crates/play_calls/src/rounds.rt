@@ -5,8 +5,10 @@ ghost use mathlib.Core.List.{[]};
 ghost use lib.ListN.{length};
 ghost use Rattle.commit_answer.specs.Answer.{tables, left, Did};
 ghost use Rattle.trace.specs.Fields.{callBy};
-ghost use Rattle.trace.specs.declared.head.Kind.the-variants as kinds;
+ghost use Rattle.trace.specs.Kinds as kinds;
 ghost use Rattle.play_calls.specs.Calls.{modelBy};
+ghost use Rattle.play_calls.specs.Room.{zeros};
+use crate::room::clear;
 use commit_answer::answer::Outcome;
 use commit_remove::remove_committed;
 use commit_rounds::drop_upto;
@@ -57,7 +59,7 @@ pub fn play_round(
     extend_from_ahead(s, keys, links, certs, order, round, peers)
 }
 
-// Removes committed rounds, by the anchor's round that the fields say; b: the buffer for the counters and the events.
+// Removes committed rounds, by the anchor's round that the fields say; b: the buffer for the counters and the events, which is zeroed first.
 pub fn play_remove(
     s: State,
     keys: &mut [u64],
@@ -68,13 +70,14 @@ pub fn play_remove(
     f: &[u8],
 ) -> Outcome
     requires { ⌜ 9 ≤ length (now f) ⌝ }
-    ensures { λ r. ⌜ Did (callBy kinds.Remove (now (f .entry)) (now (b .entry))) (modelBy kinds.Remove (now (f .entry)) (now (b .entry)))
+    ensures { λ r. ⌜ Did (callBy kinds.Remove (now (f .entry)) (zeros (length (now (b .entry))))) (modelBy kinds.Remove (now (f .entry)) (zeros (length (now (b .entry)))))
         (tables s (now (keys .entry)) (now (links .entry)) (now (certs .entry)) (now (order .entry)))
         (left r (now (keys .exit)) (now (links .exit)) (now (certs .exit)) (now (order .exit)) (now (b .exit))) ⌝ }
 {
     let fields = remove_of(f);
     let round = fields.round;
     let since = fields.since;
+    clear(b);
     remove_committed(s, keys, links, certs, order, round, since, b)
 }
 

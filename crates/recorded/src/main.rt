@@ -7,12 +7,14 @@ use commit_state::back::unstarted;
 use models::output::COUNT_BYTES;
 use models::tables::KEY_WORDS;
 use models::tables::LINK_WORDS;
-use show::ANSWER_BYTES;
-use show::PLACES;
-use show::lines::write;
-use show::lines::write_number;
-use show::part::play_part;
+use play_input::ANSWER_BYTES;
+use play_input::LINES_BYTES;
+use play_input::PLACES;
+use play_input::part::play_part;
 use show::state::write_state;
+use show::text::write;
+use show::text::write_broken;
+use show::text::write_number;
 use trace::bytes::number_of;
 
 // What stands next in the input: nothing, a run that is cut short or too long, or a run.
@@ -75,6 +77,7 @@ fn play_run(bytes: &[u8]) {
     let mut certs = [0u64; PLACES];
     let mut order = [0u64; PLACES];
     let mut answer = [0u8; ANSWER_BYTES];
+    let mut out = [0u8; LINES_BYTES];
     let part = play_part(
         unstarted(),
         &mut keys,
@@ -83,10 +86,12 @@ fn play_run(bytes: &[u8]) {
         &mut order,
         &mut answer,
         bytes,
-        0,
+        &mut out,
+        true,
         true,
     );
     let s = part.state;
+    write_broken(part.code, part.at as u64);
     write_state(s, &keys, &links, &certs, &order);
 }
 

@@ -3,30 +3,20 @@
 // Its argument is the number of places of the tables, 1 to 256; without one there are 20.
 ghost use Prim.Native.Nat.{_≤_};
 ghost use mathlib.Core.Path.{_≡_};
-ghost use lib.ListN.{length};
 ghost use Rattle.replay.specs.Places.{mostPlaces, numberSaid, placesSaid};
-use commit_state::back::unstarted;
-use commit_state::state::State;
 use models::tables::KEY_WORDS;
 use models::tables::LINK_WORDS;
-use show::ANSWER_BYTES;
-use show::PLACES;
-use show::part::play_part;
+use play_input::ANSWER_BYTES;
+use play_input::PLACES;
+use play_input::input::play_input;
 use show::state::write_state;
+use show::text::write_broken;
 
 // The number of places asked for at most.
 const PLACES_ASKED_MAX: usize = 256;
 
 // Bytes of the argument that are read.
 const ARGUMENT_BYTES: usize = 16;
-
-// The state after some of the input, the offset of the first byte that was not played, how many such bytes are held, and whether to go on.
-struct Turn {
-    state: State,
-    base: u64,
-    held: usize,
-    more: bool,
-}
 
 // The number that the digits say, or 0 if it is above the most or not a number.
 fn number_said(digits: &[u8]) -> usize
@@ -75,99 +65,23 @@ fn places_asked() -> usize
     places_said(count, &text[..n])
 }
 
-// Reads after the bytes held; says how many are held then.
-fn refill(input: &mut [u8], held: usize) -> usize
-    requires { ⌜ held ≤ length (now input) ⌝ }
-    ensures { λ r. ⌜ r ≤ length (now (input .exit)) ⌝ }
-{
-    let got = io::read_full(0, &mut input[held..]);
-    held + got
-}
-
-// Moves the bytes from `from` to n to the front.
-fn move_down(input: &mut [u8], from: usize, n: usize)
-    requires { ⌜ (from ≤ n) × (n ≤ length (now input)) ⌝ }
-{
-    let mut i: usize = 0;
-    while i < n - from {
-        let moved = input[from + i];
-        input[i] = moved;
-        i += 1;
-    }
-}
-
-// Fills the input buffer, plays the records in it and keeps the rest. A buffer that isn't full holds the end of the input.
-fn play_some(
-    s: State,
-    keys: &mut [u64],
-    links: &mut [u64],
-    certs: &mut [u64],
-    order: &mut [u64],
-    answer: &mut [u8],
-    input: &mut [u8],
-    base: u64,
-    held: usize,
-) -> Turn
-    requires { ⌜ held ≤ length (now input) ⌝ }
-    ensures { λ r. ⌜ r .held ≤ length (now (input .exit)) ⌝ }
-{
-    let n = refill(input, held);
-    let last = n < input.len();
-    let part = play_part(
-        s,
+// Plays the input on the tables lent, with 4,096 bytes for answers, and writes what is left.
+fn play_on(keys: &mut [u64], links: &mut [u64], certs: &mut [u64], order: &mut [u64]) {
+    let mut answer = [0u8; ANSWER_BYTES];
+    let mut input = io::large_buffer();
+    let mut out = io::large_buffer();
+    let turn = play_input(
         keys,
         links,
         certs,
         order,
-        answer,
-        &input[..n],
-        base,
-        last,
+        &mut answer,
+        &mut input,
+        &mut out,
+        true,
     );
-    let state = part.state;
-    let at = part.at;
-    let broken = part.broken;
-    move_down(input, at, n);
-    Turn {
-        state,
-        base: std::num::wrapping_add_u64(base, at as u64),
-        held: n - at,
-        more: !last && !broken,
-    }
-}
-
-// Plays the whole input. Nothing says that it ends, so turns are counted, from a number that no input uses up.
-fn play_input(
-    keys: &mut [u64],
-    links: &mut [u64],
-    certs: &mut [u64],
-    order: &mut [u64],
-    answer: &mut [u8],
-    input: &mut [u8],
-) -> State {
-    let mut now = unstarted();
-    let mut base: u64 = 0;
-    let mut held: usize = 0;
-    let mut turns = u64::MAX;
-    while turns > 0 {
-        let turn = play_some(now, keys, links, certs, order, answer, input, base, held);
-        let state = turn.state;
-        now = state;
-        base = turn.base;
-        held = turn.held;
-        if !turn.more {
-            break;
-        }
-        turns -= 1;
-    }
-    now
-}
-
-// Plays the input on the tables lent, with 4,096 bytes for anchor records, and writes what is left.
-fn play_on(keys: &mut [u64], links: &mut [u64], certs: &mut [u64], order: &mut [u64]) {
-    let mut answer = [0u8; ANSWER_BYTES];
-    let mut input = io::large_buffer();
-    let s = play_input(keys, links, certs, order, &mut answer, &mut input);
+    let s = turn.state;
+    write_broken(turn.code, turn.base);
     write_state(s, keys, links, certs, order);
 }
 

@@ -1,14 +1,10 @@
 // Origin: none.
 // The lines of committed anchors, from the records in an answer buffer.
 ghost use Prim.Native.Nat.{_+_, _*_, _≤_};
-ghost use mathlib.Core.Path.{_≡_};
 ghost use lib.ListN.{length};
-ghost use Rattle.spec.specs.Demand.{finished};
-ghost use Rattle.commit_answer.specs.Answer.{answerOf};
-use crate::lines::write;
-use crate::lines::write_digest;
-use crate::lines::write_number;
-use commit_answer::answer::Answer;
+use crate::text::write;
+use crate::text::write_digest;
+use crate::text::write_number;
 use models::output::ID_BYTES;
 use models::output::RECORD_BYTES;
 use models::output::RECORD_HEAD_BYTES;
@@ -18,18 +14,6 @@ use trace::anchors::AnchorSums;
 use trace::anchors::anchor_head;
 use trace::anchors::anchor_sums;
 use trace::bytes::id_of;
-
-// The anchors that an answer hands out, or that were finished before a refusal.
-pub fn anchors_of(answer: Answer) -> u32
-    ensures { λ r. ⌜ r ≡ finished (answerOf answer) ⌝ }
-{
-    match answer {
-        Answer::Done => 0,
-        Answer::Flag(_said) => 0,
-        Answer::Anchors(n) => n,
-        Answer::Refused(_why, finished) => finished,
-    }
-}
 
 // An id after its name, with a mark between its parts.
 pub fn write_id(name: &[u8], id: PointId, mark: &[u8]) {

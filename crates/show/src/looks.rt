@@ -3,8 +3,8 @@
 ghost use Prim.Native.Nat.{_+_, _*_, _≤_};
 ghost use lib.ListN.{length};
 use crate::anchors::write_id;
-use crate::lines::write;
-use crate::lines::write_number;
+use crate::text::write;
+use crate::text::write_number;
 use models::output::COUNT_BYTES;
 use models::output::LOOK_BYTES;
 use models::output::LOOK_POINTS;

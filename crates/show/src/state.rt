@@ -3,9 +3,9 @@
 ghost use Prim.Native.Nat.{_+_, _*_, _≤_};
 ghost use lib.ListN.{length};
 ghost use Rattle.show.specs.Points.{Readable};
-use crate::lines::write;
-use crate::lines::write_digest;
-use crate::lines::write_number;
+use crate::text::write;
+use crate::text::write_digest;
+use crate::text::write_number;
 use commit_state::state::State;
 use models::parts::OptionRound;
 use models::place::author;

@@ -132,6 +132,10 @@ record-anchor : (s : Store) (ls : List ℕ) (e : EnqueuedAnchor) (rest : List �
 unfolding recordBytes
 record-anchor s ls e rest = (_, append-assoc (idBytes (idAt s (e .anchor))) _ rest)
 
+-- the number of points stands at byte 79
+pub number-at : (s : Store) (ls : List ℕ) (e : EnqueuedAnchor) (rest : List ℕ) → drop 79 (recordBytes s ls e ++ rest) ≡ be 4 (length (inOrder s (e .anchor) ls)) ++ (joined idBytes (inOrder s (e .anchor) ls) ++ (tailBytes s (e .anchor) ++ rest))
+number-at s ls e rest = ap (drop 79) (record-shape s ls e rest) ∙ drop-at (headBytes s e) _ 79 (head-length s e)
+
 -- what is read back: the anchor, the history and what follows it
 abbrev pub readAs : Store → Store → List ℕ → EnqueuedAnchor → History
 readAs at s ls e = record { at = at; anchor = idAt s (e .anchor); ids = inOrder s (e .anchor) ls; tail = tailBytes s (e .anchor) }

@@ -20,8 +20,8 @@ use Rattle.models.specs.declared.parts.PointId.{PointId}
 use Rattle.models.specs.declared.info.PointInfo.{PointInfo}
 use Rattle.trace.specs.Numbers.{numberAt, idAt, pointIdAt}
 use Rattle.trace.specs.Head.{linksIn, listsIn}
-use Rattle.trace.specs.declared.head.Kind.{Kind}
-use Rattle.trace.specs.declared.head.Kind.the-variants as kind
+use Rattle.trace.specs.Kinds.{Kind}
+use Rattle.trace.specs.Kinds as kind
 
 -- "a flag is no only at 0"
 abbrev pub flagIn : List ℕ → ℕ → Bool

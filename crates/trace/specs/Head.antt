@@ -9,15 +9,8 @@ use lib.ListN.{length, length-take, getD, take, drop}
 use borrow.Author.Tests.{eq-eqb, ne-eqb, le-leb, lt-leb, leb-true, eqb-true}
 use Rattle.laws.specs.Test.{byTest, clash, same-test, both, and-l, and-r, and-no, and-no-r, cond-yes, cond-no}
 use Rattle.trace.specs.Numbers.{numberAt}
-use Rattle.trace.specs.declared.head.Kind.{Kind}
-use Rattle.trace.specs.declared.head.Kind.the-variants.{Start, Round, Name, Resolve, Certify, Commit, Remove, Drop, Gap, Reset, Outlook, Broken}
+use Rattle.trace.specs.Kinds.{Kind, Start, Round, Name, Resolve, Certify, Commit, Remove, Drop, Gap, Reset, Outlook, Broken, kindOf, kindKnown, known}
 use Rattle.trace.specs.declared.head.Record.{Record}
-
--- "Kinds 1 to 9: start, round, name, resolve, certify, commit, remove, drop, gap question; reset is 10", outlook 11
-unfoldable pub kindOf : ℕ → Kind
-kindOf k =
-    cond (eqb k 1) Start (cond (eqb k 2) Round (cond (eqb k 3) Name (cond (eqb k 4) Resolve (cond (eqb k 5) Certify (cond (eqb k 6) Commit (
-    cond (eqb k 7) Remove (cond (eqb k 8) Drop (cond (eqb k 9) Gap (cond (eqb k 10) Reset (cond (eqb k 11) Outlook Broken))))))))))
 
 -- a resolution's "number of includes, of witness (1 each)": both
 unfoldable pub linksIn : List ℕ → ℕ
@@ -41,10 +34,6 @@ sizeOf Gap f = 0
 sizeOf Reset f = 0
 sizeOf Outlook f = 37
 sizeOf Broken f = 0
-
--- every kind but broken
-abbrev pub known : Kind → Bool
-known k = elim k [ Start ↦ true | Round ↦ true | Name ↦ true | Resolve ↦ true | Certify ↦ true | Commit ↦ true | Remove ↦ true | Drop ↦ true | Gap ↦ true | Reset ↦ true | Outlook ↦ true | Broken ↦ false ]
 
 -- a known kind, and fields of its length
 unfoldable pub fits : Kind → List ℕ → Bool
@@ -70,14 +59,25 @@ part bs a b = take (b - a) (drop a bs)
 abbrev pub fieldsAt : List ℕ → ℕ → List ℕ
 fieldsAt bs p = part bs (p + 6) (p + 4 + restAt bs p)
 
--- "length of the rest (4 bytes), version byte 1, kind byte, fields"
-unfoldable pub headOk : List ℕ → ℕ → Bool
-headOk bs p = wholeAt bs p && (eqb (getD bs (p + 4) 0) 1 && fieldsFit (getD bs (p + 5) 0) (fieldsAt bs p))
+-- "version byte 1"
+unfoldable pub versionOk : ℕ → ℕ → Bool
+versionOk v k = eqb v 1
 
--- the record at p: its kind, where its fields begin, where they end
-unfoldable pub headAt : List ℕ → ℕ → Record
-headAt bs p =
-    cond (headOk bs p) (record { kind = kindOf (getD bs (p + 5) 0); from = p + 6; end = p + 4 + restAt bs p }) (record { kind = Broken; from = p; end = p })
+-- "It refuses with 26 a record .. of wrong length for its kind, and with 27, before that last test, an unknown version or kind": the number that the
+-- fields f of the kind byte k are refused with, 0 for none. w: whether the bench's outlook is known
+unfoldable pub kindCode : Bool → ℕ → List ℕ → ℕ
+kindCode w k f = cond (kindKnown w k) (cond (fieldsFit k f) 0 26) 27
+
+-- the number that the record at p is refused with, first of all "a record cut short, with a rest under 2 or above 4,096 bytes"
+unfoldable pub codeAt : Bool → List ℕ → ℕ → ℕ
+codeAt w bs p = cond (wholeAt bs p) (cond (versionOk (getD bs (p + 4) 0) (getD bs (p + 5) 0)) (kindCode w (getD bs (p + 5) 0) (fieldsAt bs p)) 27) 26
+
+-- the record at p: its kind byte, where its fields begin, where they end; or the number that it is refused with
+unfoldable pub headBy : ℕ → List ℕ → ℕ → Record
+headBy c bs p = cond (eqb c 0) (record { code = 0; kind = getD bs (p + 5) 0; from = p + 6; end = p + 4 + restAt bs p }) (record { code = c; kind = 0; from = p; end = p })
+
+abbrev pub headAt : Bool → List ℕ → ℕ → Record
+headAt w bs p = headBy (codeAt w bs p) bs p
 
 -- as many bytes must be left for a record to be played: the most that a record has, unless the bytes are the last
 abbrev pub leastLeft : Bool → ℕ
@@ -86,19 +86,12 @@ leastLeft last = cond last 1 4100
 -- ---- laws
 
 -- two comparisons that hold together are one
-same-le : (a b c d : ℕ) → (a ≤ b → c ≤ d) → (c ≤ d → a ≤ b) → leb a b ≡ leb c d
+pub same-le : (a b c d : ℕ) → (a ≤ b → c ≤ d) → (c ≤ d → a ≤ b) → leb a b ≡ leb c d
 same-le a b c d f g = same-test (leb a b) (leb c d) (λ h. le-leb c d (f (leb-true a b h))) (λ h. le-leb a b (g (leb-true c d h)))
 
--- no other number is a kind
-pub kind-none : (k : ℕ) → (k ≡ 1 → ⊥) → (k ≡ 2 → ⊥) → (k ≡ 3 → ⊥) → (k ≡ 4 → ⊥) → (k ≡ 5 → ⊥) → (k ≡ 6 → ⊥) → (k ≡ 7 → ⊥) → (k ≡ 8 → ⊥)
-    → (k ≡ 9 → ⊥) → (k ≡ 10 → ⊥) → (k ≡ 11 → ⊥) → Broken ≡ kindOf k
-unfolding kindOf
-kind-none k a b c d e f g h i j l =
-    rw (ne-eqb k 1 a, ne-eqb k 2 b, ne-eqb k 3 c, ne-eqb k 4 d, ne-eqb k 5 e, ne-eqb k 6 f, ne-eqb k 7 g, ne-eqb k 8 h, ne-eqb k 9 i, ne-eqb k 10 j, ne-eqb k 11 l) refl
-
--- the length of a kind that is known
-pub fits-at : (j k : Kind) (f : List ℕ) → k ≡ j → fits j f ≡ fits k f
-fits-at j k f e = ap (λ (i : Kind). fits i f) (sym e)
+-- 0 or not
+pub by-zero : (c : ℕ) {A : Type 0} → (c ≡ 0 → A) → ((c ≡ 0 → ⊥) → A) → A
+by-zero c y n = byTest (eqb c 0) (λ t. y (eqb-true c 0 t)) (λ t. n (λ z. clash (eq-eqb c 0 z) t))
 
 module _ (f : List ℕ) where
   pub commit-size : leb 37 (length f) ≡ eqb (length f) (37 + (length f - 37))
@@ -142,54 +135,57 @@ module _ (bs : List ℕ) (p : ℕ) where
       let u = and-r (leb 2 (restAt bs p)) _ t in
       (leb-true _ _ (and-l _ _ t), leb-true _ _ (and-l _ _ u), leb-true _ _ (and-r (leb (restAt bs p) 4096) _ u))
 
-  -- a record, or a broken one
-  module _ (broken : Record) (b : broken ≡ record { kind = Broken; from = p; end = p }) where
-    pub head-cut : wholeAt bs p ≡ false → broken ≡ headAt bs p
-    unfolding headAt headOk
-    head-cut h = rw (b, h) refl
+  -- a record that isn't refused
+  pub code-whole : (w : Bool) → codeAt w bs p ≡ 0 → wholeAt bs p ≡ true
+  unfolding codeAt
+  code-whole w h = byTest (wholeAt bs p) (λ t. t) (λ t. absurd (zero-no (cond-no _ _ 26 t refl) h))
+    where
+      zero-no : {n : ℕ} → n ≡ 26 → n ≡ 0 → ⊥
+      zero-no e g = omega arith
 
-    pub head-version : (v : ℕ) → v ≡ getD bs (p + 4) 0 → (v ≡ 1 → ⊥) → broken ≡ headAt bs p
-    unfolding headAt headOk
-    head-version v e n = b ∙ sym (cond-no _ _ _ (and-no-r (wholeAt bs p) (and-no _ (ne-eqb _ 1 (rw e at n)))) refl)
+  pub code-fits : (w : Bool) → codeAt w bs p ≡ 0 → (kindKnown w (getD bs (p + 5) 0) ≡ true) × (fieldsFit (getD bs (p + 5) 0) (fieldsAt bs p) ≡ true)
+  unfolding codeAt kindCode
+  code-fits w h = last (wholeAt bs p) (versionOk (getD bs (p + 4) 0) (getD bs (p + 5) 0)) (kindKnown w (getD bs (p + 5) 0)) (fieldsFit (getD bs (p + 5) 0) (fieldsAt bs p)) h
+    where
+      last : (a b c d : Bool) → _≡_ {A = ℕ} (cond a (cond b (cond c (cond d 0 26) 27) 27) 26) 0 → (c ≡ true) × (d ≡ true)
+      last false b c d e = absurd (omega arith)
+      last true false c d e = absurd (omega arith)
+      last true true false d e = absurd (omega arith)
+      last true true true false e = absurd (omega arith)
+      last true true true true e = (refl, refl)
 
-    pub head-misfit : (k : Kind) (y r : ℕ) → y ≡ getD bs (p + 5) 0 → k ≡ kindOf y → r ≡ restAt bs p → fits k (part bs (p + 6) (p + 4 + r)) ≡ false → broken ≡ headAt bs p
-    unfolding headAt headOk fieldsFit
-    head-misfit k y r e q s h =
-        b ∙ sym (cond-no _ _ _ (and-no-r (wholeAt bs p) (and-no-r (eqb (getD bs (p + 4) 0) 1) (rw (q, e, s) at h))) refl)
+  -- by the number that it is refused with
+  pub head-good : (c : ℕ) → c ≡ 0 → headBy c bs p ≡ record { code = 0; kind = getD bs (p + 5) 0; from = p + 6; end = p + 4 + restAt bs p }
+  unfolding headBy
+  head-good c e = rw e refl
 
-  pub head-good : (k : Kind) (v y r : ℕ) → v ≡ getD bs (p + 4) 0 → y ≡ getD bs (p + 5) 0 → k ≡ kindOf y → r ≡ restAt bs p
-      → wholeAt bs p ≡ true → v ≡ 1 → fits k (part bs (p + 6) (p + 4 + r)) ≡ true → _≡_ {A = Record} (record { kind = k; from = p + 6; end = p + 4 + r }) (headAt bs p)
-  unfolding headAt headOk fieldsFit
-  head-good k v y r d e q s w o h =
-      rw (q, e, s) (sym (cond-yes _ _ _ (both w (both (eq-eqb _ 1 (sym d ∙ o)) (rw (q, e, s) at h))) refl))
+  pub head-bad : (c : ℕ) → (c ≡ 0 → ⊥) → headBy c bs p ≡ record { code = c; kind = 0; from = p; end = p }
+  unfolding headBy
+  head-bad c n = cond-no _ _ _ (ne-eqb c 0 n) refl
+
+  pub head-code : (w : Bool) → headAt w bs p .code ≡ codeAt w bs p
+  head-code w = by-zero (codeAt w bs p) (λ z. ap (λ (x : Record). x .code) (head-good (codeAt w bs p) z) ∙ sym z) (λ n. ap (λ (x : Record). x .code) (head-bad (codeAt w bs p) n))
 
   -- a record that isn't broken: its kind, and its fields, which are within the bytes, at most 4,094 and have the length of their kind
-  pub head-known : (r : Record) (k : Kind) → r ≡ headAt bs p → r .kind ≡ k → known k ≡ true
-      → (kindOf (getD bs (p + 5) 0) ≡ k) × (fits k (part bs (r .from) (r .end)) ≡ true) × (r .from ≡ p + 6) × (r .from ≤ r .end) × (r .end ≤ length bs) × (length (part bs (r .from) (r .end)) ≤ 4094)
-  unfolding headAt headOk fieldsFit
-  head-known r k e q h =
-      byTest (headOk bs p)
-      (λ t.
-      let w = whole-elim (and-l _ _ t) in
-      let g : r ≡ record { kind = kindOf (getD bs (p + 5) 0); from = p + 6; end = p + 4 + restAt bs p } = e ∙ cond-yes _ _ _ t refl in
-      let n : kindOf (getD bs (p + 5) 0) ≡ k = sym (ap (λ (x : Record). x .kind) g) ∙ q in
-      let a : r .from ≡ p + 6 = ap (λ (x : Record). x .from) g in
-      let b : r .end ≡ p + 4 + restAt bs p = ap (λ (x : Record). x .end) g in
-      (n, rw (a, b, sym n) (and-r (eqb (getD bs (p + 4) 0) 1) _ (and-r (wholeAt bs p) _ t)), a, omega (arith, w, a, b), omega (arith, w, b), omega (arith, w, a, b, length-take (r .end - r .from) (drop (r .from) bs))))
-      (λ t. absurd (clash h (ap known (sym q ∙ ap (λ (x : Record). x .kind) (e ∙ cond-no _ _ _ t refl)))))
+  module _ (w : Bool) (r : Record) (e : r ≡ headAt w bs p) where
+    pub head-known : known (kindOf (r .kind)) ≡ true → (codeAt w bs p ≡ 0) × (fits (kindOf (r .kind)) (part bs (r .from) (r .end)) ≡ true) × (r .from ≡ p + 6) × (r .from ≤ r .end) × (r .end ≤ length bs) × (length (part bs (r .from) (r .end)) ≤ 4094)
+    unfolding fieldsFit kindOf
+    head-known h =
+        by-zero (codeAt w bs p)
+        (λ z.
+        let g = e ∙ head-good (codeAt w bs p) z in
+        let l = whole-elim (code-whole w z) in
+        rw g (z, code-fits w z .1, refl, omega (arith, l), omega (arith, l), omega (arith, l, length-take (p + 4 + restAt bs p - (p + 6)) (drop (p + 6) bs))))
+        (λ n. absurd (clash h (ap (λ (x : Record). known (kindOf (x .kind))) (e ∙ head-bad (codeAt w bs p) n))))
 
-  -- from an offset within the bytes, broken or not
-  pub head-inside : (r : Record) → r ≡ headAt bs p → p ≤ length bs → (r .from ≤ r .end) × (r .end ≤ length bs)
-  unfolding headAt headOk
-  head-inside r e l =
-      byTest (headOk bs p)
-      (λ t.
-      let w = whole-elim (and-l _ _ t) in
-      let g : r ≡ record { kind = kindOf (getD bs (p + 5) 0); from = p + 6; end = p + 4 + restAt bs p } = e ∙ cond-yes _ _ _ t refl in
-      rw g (omega (arith, w), omega (arith, w)))
-      (λ t.
-      let g : r ≡ record { kind = Broken; from = p; end = p } = e ∙ cond-no _ _ _ t refl in
-      rw g (omega arith, l))
+    -- from an offset within the bytes, broken or not
+    pub head-inside : p ≤ length bs → (r .from ≤ r .end) × (r .end ≤ length bs)
+    head-inside l =
+        by-zero (codeAt w bs p)
+        (λ z.
+        let m = whole-elim (code-whole w z) in
+        rw (e ∙ head-good (codeAt w bs p) z) (omega (arith, m), omega (arith, m)))
+        (λ n. rw (e ∙ head-bad (codeAt w bs p) n) (omega arith, l))
 
 -- the fields of a known kind have its length
 pub fits-length : (k : Kind) (f : List ℕ) → fits k f ≡ true → length f ≡ sizeOf k f

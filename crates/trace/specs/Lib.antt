@@ -1,7 +1,16 @@
 pub mod Numbers
+pub mod Kinds
 pub mod Head
 pub mod Fields
 pub mod Links
 pub mod Anchors
 pub mod PeerStats
 pub mod Events
+pub mod Codes
+pub mod Write
+pub mod ReadBack
+pub mod WriteBack
+pub mod Unread
+pub mod Put
+pub mod CodeAt
+pub mod Within

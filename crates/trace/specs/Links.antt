@@ -69,7 +69,7 @@ unfolding words
 words-left xs ys p zero l = refl
 words-left xs ys p (suc m) l = ap₂ _∷_ (List·getD-append xs ys 0 p (omega arith)) (words-left xs ys (p + 1) m (omega arith))
 
-words-right : (xs ys : List ℕ) (q p m : ℕ) → q ≡ length xs + p → words (xs ++ ys) q m ≡ words ys p m
+pub words-right : (xs ys : List ℕ) (q p m : ℕ) → q ≡ length xs + p → words (xs ++ ys) q m ≡ words ys p m
 unfolding words
 words-right xs ys q p zero e = refl
 words-right xs ys q p (suc m) e = ap₂ _∷_ (rw e (getD-append-add xs ys p 0)) (words-right xs ys (q + 1) (p + 1) m (omega arith))

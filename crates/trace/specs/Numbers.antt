@@ -30,7 +30,7 @@ pointIdAt f p = record { round = record { 0 = numberAt f p 4 }; author = getD f 
 -- ---- laws
 
 -- m words, then n more
-words-append : (f : List ℕ) (p m n q : ℕ) → q ≡ p + m → words f p m ++ words f q n ≡ words f p (m + n)
+pub words-append : (f : List ℕ) (p m n q : ℕ) → q ≡ p + m → words f p m ++ words f q n ≡ words f p (m + n)
 unfolding words
 words-append f p zero n q e = rw (e, add-zero p, zero-add n) refl
 words-append f p (suc m) n q e = rw (suc-add m n) (ap (λ (xs : List ℕ). getD f p 0 ∷ xs) (words-append f (p + 1) m n q (omega arith)))

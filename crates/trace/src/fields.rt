@@ -24,7 +24,7 @@ use models::tables::REF_WORDS;
 use stats::ranges::Since;
 
 // The byte of a used author that stands for nobody.
-const NOBODY: u32 = 255;
+pub const NOBODY: u32 = 255;
 
 // A start: genesis (4), H (4), rounds to deduplicate (4), bottom (4), peers (4), after a gap (1), used author (1).
 pub const START_BYTES: usize = 22;

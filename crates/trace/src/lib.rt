@@ -3,6 +3,7 @@
 // takes. anchors reads the records that a commit writes, peer_stats and events what a remove writes.
 pub mod anchors;
 pub mod bytes;
+pub mod codes;
 pub mod events;
 pub mod fields;
 pub mod head;

@@ -13,7 +13,7 @@ returns-3 : tie.Need-returns-3
 returns-3 c = reply-handed _ _ (c .before .answer2 .given .1)
 
 returns-4 : tie.Need-returns-4
-returns-4 c = reply-refused _ _ _ _ _ (c .before .before .before .answer3 .given .1) (c .before .number-of .ensures) (c .round-in .ensures)
+returns-4 c = reply-refused _ _ _ _ _ (c .before .before .before .answer3 .given .1) (c .before .refusal-number .ensures) (c .round-in .ensures)
 
 pub reply-of-spec : {M : Type 1} → statement M
 reply-of-spec =

@@ -1,13 +1,14 @@
-use mathlib.Core.Path.{refl, sym, _∙_}
+use mathlib.Core.Path.{sym, _∙_}
 use native.Mathlib.Omega.{arith}
 use borrow.Author.Tests.{not-true, not-false}
 use borrow.Author.Needs.{needs}
-use Rattle.trace.specs.Head.{head-cut, whole-elim}
+use Rattle.trace.specs.Head.{whole-elim}
+use Rattle.trace.specs.CodeAt.{record-cut}
 use Rattle.trace.proofs.head.record_at.Statement.{statement}
 use Rattle.trace.proofs.head.record_at.Tie as tie
 
 returns : tie.Need-returns
-returns c = head-cut _ _ _ refl (sym (c .before .whole-at .ensures) ∙ not-true _ (c .if1 .taken))
+returns c = record-cut _ _ _ (sym (c .before .whole-at .ensures) ∙ not-true _ (c .if1 .taken))
 
 number-of-requires : tie.Need-number-of-requires
 number-of-requires c κs = omega (arith, whole-elim _ _ (sym (c .before .whole-at .ensures) ∙ not-false _ (c .if1 .left)))

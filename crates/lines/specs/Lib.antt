@@ -1,0 +1,5 @@
+pub mod Decimal
+pub mod Held
+pub mod Lines
+pub mod Put
+pub mod Said
