@@ -47,7 +47,7 @@ extern "C" {
  * the minor number for an addition. The patch number is raised for anything else. A number that is raised sets those after it to 0.
  */
 #define COMMITTER_VERSION_MAJOR 0
-#define COMMITTER_VERSION_MINOR 6
+#define COMMITTER_VERSION_MINOR 7
 #define COMMITTER_VERSION_PATCH 0
 
 /* As text, "major.minor.patch". */
@@ -71,7 +71,7 @@ extern "C" {
 /* ---- platform */
 
 /*
- * The library is one ELF object for x86-64 with the System V calling convention; `rt staticlib` writes no other. It has some 48 KB of
+ * The library is one ELF object for x86-64 with the System V calling convention; `rt staticlib` writes no other. It has some 51 KB of
  * position-independent code and constants, and no variables. It uses SSE2, which must be enabled, and nothing beyond it.
  *
  * It needs from outside: memcpy, memset.
@@ -79,12 +79,13 @@ extern "C" {
  *
  * Interrupts: a call may be interrupted, and the handler may make calls on a state and tables of its own. What the interrupted call was
  * lent it may not change, nor read where that call changes it. It saves the registers that it changes, those of SSE2 too. It may run on the
- * same stack, because nothing is kept below the stack pointer.
+ * same stack, 128 bytes below the stack pointer if it may interrupt the one function that uses those bytes, as the convention allows.
+ * It keeps something below the stack pointer in: committer_write_resolve.
  *
  * Power cuts: a call isn't atomic. It changes the tables word by word, and the state that goes with them is in its reply. Tables that a
  * call left halfway, with the state that it was given, may be refused with 2, but may pass the tests as well: after a name one point may
  * stand in the order in another's stead, after a commit points may be marked as committed that stand in no record. So a host whose tables
- * outlive a power cut copies tables and state before a call that changes tables, and goes on from the copy; or it keeps a recording of the
+ * outlive a power cut copies tables and state before a call that changes tables, and goes on from the copy; or it keeps a trace of the
  * calls and makes them again. Round, gap question and outlook change no table.
  */
 
@@ -244,6 +245,17 @@ extern "C" {
         + 511u * COMMITTER_PEERS_MAX * COMMITTER_EVIDENCE_BYTES(0) \
         + COMMITTER_AS(size_t, COMMITTER_PLACES_MAX + COMMITTER_MEMORY_MAX) * (2u + COMMITTER_PEERS_MAX) * COMMITTER_ID_BYTES)
 
+/* ---- traces */
+
+/*
+ * A trace is a run of records, one for each call, numbers big-endian: the length of the rest (4), version 1 (1), kind (1), the fields of
+ * the kind. Kinds: 1 start, 2 round, 3 name, 4 resolve, 5 certify, 6 commit, 7 remove, 8 drop, 9 gap question, 10 reset; an outlook has
+ * none. docs/FORMATS.md has their fields. The rest is of 2 to 4,096 bytes, so a commit's record has room for 4,057 bytes of place lists, a
+ * resolution's for 121 links. The program `player` plays a trace on 20 places and says its anchors and refusals; it ends with 26 at a record
+ * that is cut short or of wrong length, with 27 at one of an unknown version or kind. 'writing a trace' has the functions that write records.
+ */
+#define COMMITTER_RECORD_MAX 4100u /* bytes: a buffer of so many has room for any record */
+
 /* ---- numbers */
 
 /* Statuses of a resolved point. 4 and 5 come without links and evidence. */
@@ -289,6 +301,8 @@ enum committer_refusal {
     COMMITTER_REMOVE_AHEAD = 23,
     COMMITTER_BAD_LISTS = 24,
     COMMITTER_NEVER_NAMED = 25,
+    COMMITTER_BAD_RECORD = 26, /* of a trace; no call's */
+    COMMITTER_UNKNOWN_RECORD = 27, /* of a trace; no call's, and no function's here */
     COMMITTER_BAD_GAME = 31 /* no call's */
 };
 
@@ -413,6 +427,12 @@ typedef struct committer_resolution {
     uint32_t payload_bytes; /* any number, of any status */
 } committer_resolution;
 
+/* What a writer of records answers. */
+typedef struct committer_written {
+    uint32_t refused; /* COMMITTER_BAD_RECORD, COMMITTER_NO_ROOM, or 0 for none */
+    size_t length; /* of the record, 0 if refused */
+} committer_written;
+
 /* The counters of a peer over the rounds that a remove reports. */
 typedef struct committer_counters {
     uint16_t was_leader; /* rounds with its used mark */
@@ -454,6 +474,8 @@ COMMITTER_ASSERT(state_of_a_reply, offsetof(committer_reply, state) == 16);
 COMMITTER_ASSERT(size_of_a_reply, sizeof(committer_reply) == 15448);
 COMMITTER_ASSERT(size_of_start_args, sizeof(committer_start_args) == 28);
 COMMITTER_ASSERT(size_of_a_resolution, sizeof(committer_resolution) == 80);
+COMMITTER_ASSERT(length_of_what_is_written, offsetof(committer_written, length) == 8);
+COMMITTER_ASSERT(size_of_what_is_written, sizeof(committer_written) == 16);
 COMMITTER_ASSERT(size_of_counters, sizeof(committer_counters) == 18);
 COMMITTER_ASSERT(bytes_of_a_place, COMMITTER_PLACE_BYTES == 2704u);
 COMMITTER_ASSERT(bytes_of_the_tables, COMMITTER_TABLES_BYTES(COMMITTER_PLACES_MAX) == 11075584u);
@@ -554,6 +576,10 @@ static inline const char *committer_refusal_text(uint32_t number)
         return "place list that isn't each place from 0 once";
     case COMMITTER_NEVER_NAMED:
         return "point needed, never named";
+    case COMMITTER_BAD_RECORD:
+        return "record of a trace cut short or of wrong length, or a call that has no room in one";
+    case COMMITTER_UNKNOWN_RECORD:
+        return "record of a trace of an unknown version or kind";
     case COMMITTER_BAD_GAME:
         return "numbers or sets of a game of keepers and spoilers out of range";
     default:
@@ -791,6 +817,53 @@ committer_reply committer_remove(committer_state state,
  * null.
  */
 void committer_merge(committer_counters *counters, committer_counters other);
+
+/* ---- writing a trace. No state and no tables are taken. */
+
+/*
+ * Each writes the record of one call from the buffer's first byte on, says its length, and leaves the bytes beyond it as they are. They
+ * take what the call takes; the host writes what it calls before it calls it, and keeps the records one after the other. What is written
+ * reads back as the same call, whether or not the call is refused.
+ * Refused, in this order: 26 something has no room: an author, a link's peer or a status above 255, a used author of 255 or above that isn't
+ * COMMITTER_NOBODY, more than 255 includes or witness, refs_len another number than 5 * (resolution.includes + resolution.witness), a rest
+ * above 4,096 bytes; 21 the buffer is shorter than the record. Nothing is written then. The buffer may have any length, and may be null with
+ * the length 0. It doesn't overlap links or place lists.
+ */
+committer_written committer_write_start(uint8_t *buffer, size_t buffer_len, committer_start_args with);
+
+committer_written committer_write_round(uint8_t *buffer, size_t buffer_len, uint32_t round, uint32_t peers);
+
+committer_written committer_write_name(uint8_t *buffer, size_t buffer_len, committer_point_id id);
+
+/* Mark bits above the third are written 0. */
+committer_written committer_write_resolve(uint8_t *buffer, size_t buffer_len,
+    committer_point_id id, committer_resolution resolution, const uint64_t *refs, size_t refs_len);
+
+committer_written committer_write_certify(uint8_t *buffer, size_t buffer_len, committer_point_id id);
+
+committer_written committer_write_commit(uint8_t *buffer, size_t buffer_len,
+    committer_point_id id, const uint8_t *lists, size_t lists_len);
+
+/* With has_since 0 the round `since` is written 0. */
+committer_written committer_write_remove(uint8_t *buffer, size_t buffer_len, uint32_t round, uint32_t has_since, uint32_t since);
+
+committer_written committer_write_drop(uint8_t *buffer, size_t buffer_len, uint32_t round);
+
+committer_written committer_write_gap(uint8_t *buffer, size_t buffer_len);
+
+committer_written committer_write_reset(uint8_t *buffer, size_t buffer_len);
+
+/* The bytes of stack that they take at most, as above. */
+#define COMMITTER_STACK_WRITE_START 100u
+#define COMMITTER_STACK_WRITE_ROUND 100u
+#define COMMITTER_STACK_WRITE_NAME 100u
+#define COMMITTER_STACK_WRITE_RESOLVE 200u
+#define COMMITTER_STACK_WRITE_CERTIFY 100u
+#define COMMITTER_STACK_WRITE_COMMIT 100u
+#define COMMITTER_STACK_WRITE_REMOVE 100u
+#define COMMITTER_STACK_WRITE_DROP 100u
+#define COMMITTER_STACK_WRITE_GAP 100u
+#define COMMITTER_STACK_WRITE_RESET 100u
 
 #endif /* COMMITTER_TYPES_ONLY */
 

@@ -29,6 +29,7 @@ static int check_numbers(void)
 {
     CHECK(COMMITTER_TABLES_BYTES(PLACES) == sizeof keys + sizeof links + sizeof certs + sizeof order);
     CHECK(COMMITTER_RECORD_BYTES(4) == 247 && COMMITTER_SUMS_AT(4) == 231 && COMMITTER_LOOK_BYTES(3) == 53);
+    CHECK(COMMITTER_RECORD_MAX == 4100 && COMMITTER_BAD_RECORD == 26 && COMMITTER_UNKNOWN_RECORD == 27);
     CHECK(COMMITTER_COMMIT_MAX == 202141 && COMMITTER_OUTLOOK_MAX == 544215 && COMMITTER_REMOVE_MAX == 5785509);
     CHECK(COMMITTER_FORK_BYTES(2) == 74 && COMMITTER_EVIDENCE_BYTES(3) == 121 && COMMITTER_EVENTS_AT(2) == 63);
     CHECK(COMMITTER_CERT_TOP + COMMITTER_CERT_STARTED + COMMITTER_CERT_COMPLETED + COMMITTER_CERT_COMMITTED + COMMITTER_CERT_HEIGHT == 0xffff);
@@ -60,6 +61,22 @@ static int check_helpers(void)
     return 0;
 }
 
+/* the record of a gap question: length of the rest, version, kind */
+static int check_writing(void)
+{
+    const uint8_t expected[6] = {0, 0, 0, 2, 1, 9};
+    uint8_t buffer[COMMITTER_RECORD_MAX];
+    committer_written written = committer_write_gap(buffer, sizeof buffer);
+    CHECK(written.refused == COMMITTER_DONE && written.length == sizeof expected);
+    for (unsigned i = 0; i < sizeof expected; i++) {
+        CHECK(buffer[i] == expected[i]);
+    }
+    committer_point_id id = {1, 256, {{0, 0, 0, 0}}};
+    written = committer_write_name(buffer, sizeof buffer, id);
+    CHECK(written.refused == COMMITTER_BAD_RECORD && written.length == 0);
+    return 0;
+}
+
 static int check_start(void)
 {
     committer_start_args with = {10, 2, 0, 10, 3, 0, COMMITTER_NOBODY};
@@ -71,7 +88,7 @@ static int check_start(void)
 
 int main(void)
 {
-    int (*const checks[])(void) = {check_numbers, check_version, check_helpers, check_start};
+    int (*const checks[])(void) = {check_numbers, check_version, check_helpers, check_writing, check_start};
     for (unsigned i = 0; i < sizeof checks / sizeof checks[0]; i++) {
         int line = checks[i]();
         if (line != 0) {

@@ -391,6 +391,294 @@ static void check_games(void)
     CHECK(refused.refused == COMMITTER_BAD_GAME && refused.forced == 0);
 }
 
+/* ---- records of a trace */
+
+/* Where the last record was written, with some bytes behind the longest one. */
+static uint8_t trace_room[COMMITTER_RECORD_MAX + 3u];
+#define UNTOUCHED 0xa5
+
+static bool untouched(size_t from)
+{
+    for (size_t i = from; i < sizeof trace_room; i++) {
+        if (trace_room[i] != UNTOUCHED) {
+            return false;
+        }
+    }
+    return true;
+}
+
+/* The call, which takes `buffer` and `buffer_len`, with the buffer's bytes set before it. */
+#define WRITE(length, call) \
+    do { \
+        uint8_t *buffer = trace_room; \
+        size_t buffer_len = (length); \
+        memset(trace_room, UNTOUCHED, sizeof trace_room); \
+        written = (call); \
+    } while (0)
+
+/* The call writes just these bytes, and is refused with 21 where one byte, or all, are missing. */
+#define WRITES(bytes, count, call) \
+    do { \
+        committer_written written; \
+        WRITE(sizeof trace_room, call); \
+        CHECK(written.refused == 0 && written.length == (count)); \
+        CHECK(memcmp(trace_room, (bytes), (count)) == 0 && untouched(count)); \
+        WRITE(count, call); \
+        CHECK(written.refused == 0 && written.length == (count) && memcmp(trace_room, (bytes), (count)) == 0 && untouched(count)); \
+        WRITE((count) - 1, call); \
+        CHECK(written.refused == COMMITTER_NO_ROOM && written.length == 0 && untouched(0)); \
+        WRITE(0, call); \
+        CHECK(written.refused == COMMITTER_NO_ROOM && written.length == 0 && untouched(0)); \
+    } while (0)
+
+/* The call is refused with 26, whatever the buffer. */
+#define WRITES_NOTHING(call) \
+    do { \
+        committer_written written; \
+        WRITE(sizeof trace_room, call); \
+        CHECK(written.refused == COMMITTER_BAD_RECORD && written.length == 0 && untouched(0)); \
+        WRITE(0, call); \
+        CHECK(written.refused == COMMITTER_BAD_RECORD && written.length == 0 && untouched(0)); \
+    } while (0)
+
+/* What a record is to be: its fields are put one after the other. */
+typedef struct {
+    uint8_t bytes[COMMITTER_RECORD_MAX + 100u];
+    size_t length;
+} trace_record;
+
+static void field(trace_record *r, uint64_t number, size_t width)
+{
+    for (size_t i = 0; i < width; i++) {
+        r->bytes[r->length + i] = (uint8_t)(number >> 8 * (width - 1 - i));
+    }
+    r->length += width;
+}
+
+static void id_field(trace_record *r, committer_point_id id)
+{
+    field(r, id.round, 4);
+    field(r, id.author, 1);
+    committer_digest_bytes(id.digest, r->bytes + r->length);
+    r->length += 32;
+}
+
+static trace_record record_of(uint32_t kind)
+{
+    trace_record r = {{0}, 4};
+    field(&r, 1, 1);
+    field(&r, kind, 1);
+    return r;
+}
+
+static const trace_record *ended(trace_record *r)
+{
+    size_t length = r->length;
+    r->length = 0;
+    field(r, length - 4, 4);
+    r->length = length;
+    return r;
+}
+
+#define WRITES_RECORD(r, call) \
+    do { \
+        const trace_record *expected = ended(r); \
+        WRITES(expected->bytes, expected->length, call); \
+    } while (0)
+
+static committer_point_id by(uint32_t author)
+{
+    committer_point_id id = point(0x01020304, 7);
+    id.author = author;
+    return id;
+}
+
+static void check_written_starts(void)
+{
+    committer_start_args with = {1, 2, 0x01020304, UINT32_MAX, 5, 0, 6};
+    const uint32_t used[] = {0, 31, 32, 254, COMMITTER_NOBODY}, flags[] = {0, 1, 2, 0x100, UINT32_MAX};
+    for (size_t i = 0; i < 5; i++) {
+        trace_record r = record_of(1);
+        with.used = used[i];
+        with.after_gap = flags[i];
+        field(&r, 1, 4);
+        field(&r, 2, 4);
+        field(&r, 0x01020304, 4);
+        field(&r, UINT32_MAX, 4);
+        field(&r, 5, 4);
+        field(&r, flags[i] != 0, 1);
+        field(&r, used[i] == COMMITTER_NOBODY ? 255 : used[i], 1);
+        WRITES_RECORD(&r, committer_write_start(buffer, buffer_len, with));
+    }
+    const uint32_t none[] = {255, 256, 0x01000000, COMMITTER_NOBODY - 1};
+    for (size_t i = 0; i < 4; i++) {
+        with.used = none[i];
+        WRITES_NOTHING(committer_write_start(buffer, buffer_len, with));
+    }
+}
+
+/* Authors to 255 are written, whether or not a call refuses them. */
+static void check_written_ids(void)
+{
+    const uint8_t lists[] = {2, 0, 1, 255};
+    const uint32_t authors[] = {0, 31, 32, 255};
+    for (size_t i = 0; i < 4; i++) {
+        committer_point_id id = by(authors[i]);
+        trace_record named = record_of(3), certified = record_of(5), committed = record_of(6), bare = record_of(6);
+        id_field(&named, id);
+        WRITES_RECORD(&named, committer_write_name(buffer, buffer_len, id));
+        id_field(&certified, id);
+        WRITES_RECORD(&certified, committer_write_certify(buffer, buffer_len, id));
+        id_field(&bare, id);
+        WRITES_RECORD(&bare, committer_write_commit(buffer, buffer_len, id, NULL, 0));
+        id_field(&committed, id);
+        for (size_t k = 0; k < sizeof lists; k++) {
+            field(&committed, lists[k], 1);
+        }
+        WRITES_RECORD(&committed, committer_write_commit(buffer, buffer_len, id, lists, sizeof lists));
+    }
+    const uint32_t above[] = {256, 0x0100001f, UINT32_MAX};
+    for (size_t i = 0; i < 3; i++) {
+        WRITES_NOTHING(committer_write_name(buffer, buffer_len, by(above[i])));
+        WRITES_NOTHING(committer_write_certify(buffer, buffer_len, by(above[i])));
+        WRITES_NOTHING(committer_write_commit(buffer, buffer_len, by(above[i]), lists, sizeof lists));
+    }
+}
+
+/* 4,057 bytes of lists just fit. */
+static void check_written_lists(void)
+{
+    static uint8_t lists[5000];
+    trace_record r = record_of(6);
+    id_field(&r, by(0));
+    for (size_t i = 0; i < sizeof lists; i++) {
+        lists[i] = (uint8_t)i;
+    }
+    for (size_t i = 0; i < 4057; i++) {
+        field(&r, lists[i], 1);
+    }
+    CHECK(r.length == COMMITTER_RECORD_MAX);
+    WRITES_RECORD(&r, committer_write_commit(buffer, buffer_len, by(0), lists, 4057));
+    WRITES_NOTHING(committer_write_commit(buffer, buffer_len, by(0), lists, 4058));
+    WRITES_NOTHING(committer_write_commit(buffer, buffer_len, by(0), lists, sizeof lists));
+}
+
+static uint64_t written_links[600 * COMMITTER_REF_WORDS];
+
+/* The record of a resolution with that many links, of the peers that stand there. */
+static trace_record resolved(committer_point_id id, committer_resolution with)
+{
+    trace_record r = record_of(4);
+    id_field(&r, id);
+    field(&r, with.status, 1);
+    field(&r, with.marks % 8, 1);
+    id_field(&r, with.top_proof);
+    field(&r, with.evidence, 4);
+    field(&r, with.includes, 1);
+    field(&r, with.witness, 1);
+    for (size_t i = 0; i < with.includes + with.witness; i++) {
+        field(&r, written_links[5 * i], 1);
+        for (size_t k = 1; k < 5; k++) {
+            field(&r, written_links[5 * i + k], 8);
+        }
+    }
+    field(&r, with.payload_len, 4);
+    field(&r, with.payload_bytes, 4);
+    return r;
+}
+
+#define WRITE_RESOLVE(id, with) committer_write_resolve(buffer, buffer_len, id, with, written_links, 5 * ((with).includes + (with).witness))
+
+static void check_written_resolutions(void)
+{
+    const size_t fit[][2] = {{0, 0}, {1, 0}, {0, 1}, {32, 2}, {61, 60}, {121, 0}, {0, 121}};
+    const size_t none[][2] = {{61, 61}, {122, 0}, {0, 122}, {255, 255}, {256, 0}, {0, 256}, {257, 1}, {300, 300}};
+    for (size_t i = 0; i < 600; i++) {
+        put_link(written_links, i, by((uint32_t)i % 256));
+        written_links[5 * i + 4] = 0xf1e2d3c4b5a69788u + i;
+    }
+    committer_resolution with = valid(0, 0);
+    with.top_proof = by(9);
+    with.evidence = 0xdeadbeef;
+    with = paid(with, (payload){0x0a0b0c0d, UINT32_MAX});
+    for (size_t i = 0; i < sizeof fit / sizeof fit[0]; i++) {
+        with.includes = fit[i][0];
+        with.witness = fit[i][1];
+        with.status = i == 0 ? 255 : (uint32_t)i;
+        with.marks = (uint32_t)i;
+        trace_record r = resolved(by(31), with);
+        CHECK(i < 4 || r.length == 4089);
+        WRITES_RECORD(&r, WRITE_RESOLVE(by(31), with));
+    }
+    /* mark bits that aren't read are written 0 */
+    with.marks = 0xfffffffd;
+    trace_record r = resolved(by(31), with);
+    WRITES_RECORD(&r, WRITE_RESOLVE(by(31), with));
+    for (size_t i = 0; i < sizeof none / sizeof none[0]; i++) {
+        with.includes = none[i][0];
+        with.witness = none[i][1];
+        WRITES_NOTHING(WRITE_RESOLVE(by(31), with));
+    }
+}
+
+static void check_unwritten_resolutions(void)
+{
+    committer_resolution with = valid(2, 1), wrong;
+    WRITES_NOTHING(WRITE_RESOLVE(by(256), with));
+    wrong = with;
+    wrong.status = 256;
+    WRITES_NOTHING(WRITE_RESOLVE(by(0), wrong));
+    wrong = with;
+    wrong.top_proof = by(256);
+    WRITES_NOTHING(WRITE_RESOLVE(by(0), wrong));
+    const uint64_t peers[] = {256, 0x100000000u, UINT64_MAX};
+    for (size_t i = 0; i < 3; i++) {
+        uint64_t right = written_links[10];
+        written_links[10] = peers[i];
+        WRITES_NOTHING(WRITE_RESOLVE(by(0), with));
+        written_links[10] = right;
+    }
+    /* links that aren't as many as the numbers say, also where the product of a number has no room in 64 bits */
+    const size_t lengths[] = {0, 1, 14, 16, 20};
+    for (size_t i = 0; i < 5; i++) {
+        WRITES_NOTHING(committer_write_resolve(buffer, buffer_len, by(0), with, written_links, lengths[i]));
+    }
+    wrong = valid(SIZE_MAX, 1);
+    WRITES_NOTHING(committer_write_resolve(buffer, buffer_len, by(0), wrong, NULL, 0));
+    wrong = valid((size_t)1 << 63, (size_t)1 << 63);
+    WRITES_NOTHING(committer_write_resolve(buffer, buffer_len, by(0), wrong, NULL, 0));
+}
+
+static void check_written_rounds(void)
+{
+    const uint8_t round[] = {0, 0, 0, 10, 1, 2, 0, 0, 0, 1, 0, 0, 0, 2}, dropped[] = {0, 0, 0, 6, 1, 8, 1, 2, 3, 4};
+    const uint8_t gap[] = {0, 0, 0, 2, 1, 9}, cleared[] = {0, 0, 0, 2, 1, 10};
+    const uint8_t none[] = {0, 0, 0, 11, 1, 7, 0, 0, 0, 1, 0, 0, 0, 0, 0};
+    const uint8_t since_two[] = {0, 0, 0, 11, 1, 7, 0, 0, 0, 1, 1, 0, 0, 0, 2};
+    const uint8_t since_zero[] = {0, 0, 0, 11, 1, 7, 0, 0, 0, 1, 1, 0, 0, 0, 0};
+    WRITES(round, sizeof round, committer_write_round(buffer, buffer_len, 1, 2));
+    WRITES(dropped, sizeof dropped, committer_write_drop(buffer, buffer_len, 16909060));
+    WRITES(gap, sizeof gap, committer_write_gap(buffer, buffer_len));
+    WRITES(cleared, sizeof cleared, committer_write_reset(buffer, buffer_len));
+    WRITES(none, sizeof none, committer_write_remove(buffer, buffer_len, 1, 0, 0));
+    WRITES(none, sizeof none, committer_write_remove(buffer, buffer_len, 1, 0, 2));
+    WRITES(since_two, sizeof since_two, committer_write_remove(buffer, buffer_len, 1, 1, 2));
+    WRITES(since_two, sizeof since_two, committer_write_remove(buffer, buffer_len, 1, 0x100, 2));
+    WRITES(since_zero, sizeof since_zero, committer_write_remove(buffer, buffer_len, 1, UINT32_MAX, 0));
+    CHECK(committer_write_gap(NULL, 0).refused == COMMITTER_NO_ROOM);
+    CHECK(committer_write_name(NULL, 0, by(256)).refused == COMMITTER_BAD_RECORD);
+}
+
+static void check_writing(void)
+{
+    check_written_starts();
+    check_written_ids();
+    check_written_lists();
+    check_written_resolutions();
+    check_unwritten_resolutions();
+    check_written_rounds();
+}
+
 /* ---- refusals */
 
 static void check_start_refusals(void)
@@ -1628,6 +1916,7 @@ int main(void)
     check_helpers();
     check_generator();
     check_games();
+    check_writing();
     check_start_refusals();
     check_places();
     check_lengths();

@@ -253,7 +253,7 @@ impl Committer {
         run!(self, committer_remove, round, has_since, since, buffer.as_mut_ptr(), buffer.len()).map(drop)
     }
 
-    /// Runs a recorded call. A commit, an outlook or a remove gets a buffer that is large enough.
+    /// Makes a call. A commit, an outlook or a remove gets a buffer that is large enough.
     pub fn call(&mut self, call: &Call) -> Answer {
         match call {
             Call::Start(with) => done(self.start(with)),

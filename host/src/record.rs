@@ -1,11 +1,13 @@
-//! Calls as records of a recording: the format of docs/FORMATS.md.
+//! Calls as records of a trace: the format of docs/FORMATS.md. The library writes them; they are read here, apart from it.
 
 use std::fmt;
 
 use crate::anchor::ID_BYTES;
+use crate::refusal::Refusal;
+use crate::sys;
 use crate::types::{Link, PointId, PointInfo, Start};
 
-/// A call that can be recorded; a commit has its place lists.
+/// A call; a commit has its place lists. All but an outlook have a record in a trace.
 #[derive(Clone, Debug, PartialEq, Eq, Hash)]
 pub enum Call {
     Start(Start),
@@ -21,21 +23,26 @@ pub enum Call {
     Outlook(PointId),
 }
 
-/// A record that is cut short, too short or long, of an unknown version or kind, or of another length than its kind's.
+/// A record that ends a trace. [`Refusal::BadRecord`] (26): it is cut short, its rest is under 2 or above 4,096 bytes, or it
+/// has another length than its kind's. [`Refusal::UnknownRecord`] (27), before that last test: its version or kind is
+/// unknown.
 #[derive(Clone, Copy, Debug, PartialEq, Eq)]
 pub struct Broken {
     /// offset of its first byte
     pub at: usize,
+    pub refusal: Refusal,
 }
 
 impl fmt::Display for Broken {
     fn fmt(&self, f: &mut fmt::Formatter<'_>) -> fmt::Result {
-        write!(f, "broken record {}", self.at)
+        write!(f, "refused {} {}", self.refusal.number(), self.at)
     }
 }
 
 impl std::error::Error for Broken {}
 
+/// Of the longest record's bytes: a buffer of so many has room for any.
+pub const RECORD_MAX: usize = 4 + REST_MAX;
 const VERSION: u8 = 1;
 const REST_MIN: usize = 2;
 const REST_MAX: usize = 4096;
@@ -46,109 +53,78 @@ const LINK: usize = 33;
 const RESOLVE: usize = 82;
 /// Of its payload numbers, after its links.
 const PAYLOAD: usize = 8;
-/// Of place lists that fit into a record.
-const LISTS_MAX: usize = REST_MAX - REST_MIN - ID_BYTES;
+/// The kind byte of the bench's outlooks; in a trace it is unknown.
+const OUTLOOK: u8 = 11;
+/// Where the kind byte stands.
+const KIND_AT: usize = 5;
 
-// ---- encoding
+// ---- writing, by the library
 
-/// The call as a record. What has no room in a record is cut so that the call is refused with the same number: authors,
-/// peers and statuses to 255, a used author to 254, links of a kind to 33. Place lists are cut to 4,057 bytes; a commit
-/// that reads more of them is refused with 24.
-pub fn encode(call: &Call) -> Vec<u8> {
-    let mut out = vec![0, 0, 0, 0, VERSION, kind(call)];
-    match call {
-        Call::Start(with) => put_start(&mut out, with),
-        Call::Round { round, peers } => {
-            put_number(&mut out, *round);
-            put_number(&mut out, *peers);
+/// Writes the record of a call to the buffer's beginning and returns its length. Refused with 26 if a field or the rest
+/// doesn't fit, with a used author of 255 or more, and for an outlook; then with 21 if the buffer is too short. A refused
+/// call writes nothing.
+pub fn write(call: &Call, buffer: &mut [u8]) -> Result<usize, Refusal> {
+    let (room, length) = (buffer.as_mut_ptr(), buffer.len());
+    // Safety: pointers and lengths are those of slices; the buffer is lent by `&mut`, so nothing overlaps it.
+    let written = unsafe {
+        match call {
+            Call::Start(with) => sys::committer_write_start(room, length, with.into()),
+            Call::Round { round, peers } => sys::committer_write_round(room, length, *round, *peers),
+            Call::Name(id) => sys::committer_write_name(room, length, id.into()),
+            Call::Resolve(id, info) => {
+                let refs = info.refs();
+                sys::committer_write_resolve(room, length, id.into(), info.into(), refs.as_ptr(), refs.len())
+            }
+            Call::Certify(id) => sys::committer_write_certify(room, length, id.into()),
+            Call::Commit(id, lists) => {
+                sys::committer_write_commit(room, length, id.into(), lists.as_ptr(), lists.len())
+            }
+            Call::Remove { round, since } => {
+                let (has_since, since) = (since.is_some().into(), since.unwrap_or(0));
+                sys::committer_write_remove(room, length, *round, has_since, since)
+            }
+            Call::Drop(round) => sys::committer_write_drop(room, length, *round),
+            Call::Gap => sys::committer_write_gap(room, length),
+            Call::Reset => sys::committer_write_reset(room, length),
+            Call::Outlook(_) => return Err(Refusal::BadRecord),
         }
-        Call::Name(id) | Call::Certify(id) | Call::Outlook(id) => put_id(&mut out, id),
-        Call::Commit(id, lists) => {
-            put_id(&mut out, id);
-            out.extend(&lists[..lists.len().min(LISTS_MAX)]);
-        }
-        Call::Resolve(id, info) => {
-            put_id(&mut out, id);
-            put_info(&mut out, info);
-        }
-        Call::Remove { round, since } => {
-            put_number(&mut out, *round);
-            out.push(since.is_some().into());
-            put_number(&mut out, since.unwrap_or(0));
-        }
-        Call::Drop(round) => put_number(&mut out, *round),
-        Call::Gap | Call::Reset => {}
-    }
-    let rest = out.len() as u32 - 4;
-    out[..4].copy_from_slice(&rest.to_be_bytes());
-    out
-}
-
-fn kind(call: &Call) -> u8 {
-    match call {
-        Call::Start(_) => 1,
-        Call::Round { .. } => 2,
-        Call::Name(_) => 3,
-        Call::Resolve(..) => 4,
-        Call::Certify(_) => 5,
-        Call::Commit(..) => 6,
-        Call::Remove { .. } => 7,
-        Call::Drop(_) => 8,
-        Call::Gap => 9,
-        Call::Reset => 10,
-        Call::Outlook(_) => 11,
+    };
+    match written.refused {
+        0 => Ok(written.length),
+        number => Err(Refusal::of(number, 0).expect("a record is refused with 26 or 21")),
     }
 }
 
-fn put_number(out: &mut Vec<u8>, number: u32) {
-    out.extend(number.to_be_bytes());
+/// The call as a record. Refused with 26, see [`write`].
+pub fn encode(call: &Call) -> Result<Vec<u8>, Refusal> {
+    let mut record = vec![0; RECORD_MAX];
+    let length = write(call, &mut record)?;
+    record.truncate(length);
+    Ok(record)
 }
 
-fn put_byte(out: &mut Vec<u8>, number: u32) {
-    out.push(number.min(255) as u8);
+/// An outlook as a record of the bench, which no trace has: kind 11, else as a name.
+pub fn outlook(id: &PointId) -> Result<Vec<u8>, Refusal> {
+    let mut record = encode(&Call::Name(*id))?;
+    record[KIND_AT] = OUTLOOK;
+    Ok(record)
 }
 
-fn put_id(out: &mut Vec<u8>, id: &PointId) {
-    put_number(out, id.round);
-    put_byte(out, id.author);
-    out.extend(id.digest);
-}
-
-fn put_start(out: &mut Vec<u8>, with: &Start) {
-    for number in [with.genesis, with.commit_history_rounds, with.deduplicate_rounds, with.bottom, with.peers] {
-        put_number(out, number);
-    }
-    out.push(with.after_gap.into());
-    out.push(with.used.map_or(NOBODY, |author| author.min(254) as u8));
-}
-
-fn put_info(out: &mut Vec<u8>, info: &PointInfo) {
-    let includes = &info.includes[..info.includes.len().min(33)];
-    let witness = &info.witness[..info.witness.len().min(33)];
-    put_byte(out, info.status);
-    put_byte(out, info.marks());
-    put_id(out, &info.top_proof);
-    put_number(out, info.evidence);
-    out.push(includes.len() as u8);
-    out.push(witness.len() as u8);
-    for link in includes.iter().chain(witness) {
-        put_byte(out, link.peer);
-        out.extend(link.digest);
-    }
-    put_number(out, info.payload_len);
-    put_number(out, info.payload_bytes);
-}
-
-// ---- decoding
+// ---- reading
 
 /// The call of the record at the beginning, and the length of the record.
 pub fn decode(bytes: &[u8]) -> Result<(Call, usize), Broken> {
-    decoded(bytes).ok_or(Broken { at: 0 })
+    decoded(bytes, false).map_err(|refusal| Broken { at: 0, refusal })
 }
 
-/// The calls of a recording, in order. A broken record ends it.
+/// The calls of a trace, in order. A record that is refused ends it.
 pub fn calls(bytes: &[u8]) -> Calls<'_> {
-    Calls { bytes, at: 0, ended: false }
+    Calls { bytes, at: 0, ended: false, bench: false }
+}
+
+/// The calls of what the bench's programs `replay` and `recorded` play: a trace that may have outlooks.
+pub fn bench_calls(bytes: &[u8]) -> Calls<'_> {
+    Calls { bench: true, ..calls(bytes) }
 }
 
 /// See [`calls`].
@@ -157,6 +133,7 @@ pub struct Calls<'a> {
     bytes: &'a [u8],
     at: usize,
     ended: bool,
+    bench: bool,
 }
 
 impl Iterator for Calls<'_> {
@@ -166,34 +143,43 @@ impl Iterator for Calls<'_> {
         if self.ended || self.at == self.bytes.len() {
             return None;
         }
-        match decoded(&self.bytes[self.at..]) {
-            Some((call, length)) => {
+        match decoded(&self.bytes[self.at..], self.bench) {
+            Ok((call, length)) => {
                 self.at += length;
                 Some(Ok(call))
             }
-            None => {
+            Err(refusal) => {
                 self.ended = true;
-                Some(Err(Broken { at: self.at }))
+                Some(Err(Broken { at: self.at, refusal }))
             }
         }
     }
 }
 
-fn decoded(bytes: &[u8]) -> Option<(Call, usize)> {
+fn decoded(bytes: &[u8], bench: bool) -> Result<(Call, usize), Refusal> {
+    let rest = whole(bytes).ok_or(Refusal::BadRecord)?;
+    let (version, kind, fields) = (rest[0], rest[1], &rest[2..]);
+    let length = 4 + rest.len();
+    if bench && (version, kind) == (VERSION, OUTLOOK) {
+        return if fields.len() == ID_BYTES { Ok((Call::Outlook(id(fields)), length)) } else { Err(Refusal::BadRecord) };
+    }
+    if version != VERSION || !(1..=10).contains(&kind) {
+        return Err(Refusal::UnknownRecord);
+    }
+    call_of(kind, fields).map(|call| (call, length)).ok_or(Refusal::BadRecord)
+}
+
+/// The rest of the record at the beginning, if it isn't too short or long and all there.
+fn whole(bytes: &[u8]) -> Option<&[u8]> {
     let rest = number(bytes.get(..4)?) as usize;
     if !(REST_MIN..=REST_MAX).contains(&rest) {
         return None;
     }
-    let end = 4 + rest;
-    let record = bytes.get(4..end)?;
-    if record[0] != VERSION {
-        return None;
-    }
-    Some((fields(record[1], &record[2..])?, end))
+    bytes.get(4..4 + rest)
 }
 
-/// The call of a kind and its fields.
-fn fields(kind: u8, f: &[u8]) -> Option<Call> {
+/// The call of a kind, 1 to 10, and its fields, if they are of the kind's length.
+fn call_of(kind: u8, f: &[u8]) -> Option<Call> {
     if kind == 4 {
         return resolve(f);
     }
@@ -207,7 +193,6 @@ fn fields(kind: u8, f: &[u8]) -> Option<Call> {
         (8, 4) => Call::Drop(number(f)),
         (9, 0) => Call::Gap,
         (10, 0) => Call::Reset,
-        (11, ID_BYTES) => Call::Outlook(id(f)),
         _ => return None,
     })
 }

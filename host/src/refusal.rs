@@ -3,7 +3,7 @@
 use std::fmt;
 
 /// One case for each number of document 01's table, and for those of document 02. 13 to 22 and 25 are of commits and, but
-/// for 20, of outlooks; 21 and 23 of remove.
+/// for 20, of outlooks; 21 and 23 of remove; 26 and 27 of a trace's records, 26 and 21 of writing one.
 #[derive(Clone, Copy, Debug, PartialEq, Eq, Hash)]
 pub enum Refusal {
     BadStart,
@@ -35,6 +35,10 @@ pub enum Refusal {
     BadLists,
     /// of a commit or an outlook, document 02's
     NeverNamed,
+    /// of a record, document 02's: cut short, of a wrong length, or of a call that has no room in one
+    BadRecord,
+    /// of a record, document 02's
+    UnknownRecord,
     /// of a game of keepers and spoilers, document 02's
     BadGame,
 }
@@ -68,6 +72,8 @@ impl Refusal {
             23 => Refusal::RemoveAhead,
             24 => Refusal::BadLists,
             25 => Refusal::NeverNamed,
+            26 => Refusal::BadRecord,
+            27 => Refusal::UnknownRecord,
             31 => Refusal::BadGame,
             _ => return None,
         })
@@ -101,6 +107,8 @@ impl Refusal {
             Refusal::RemoveAhead => 23,
             Refusal::BadLists => 24,
             Refusal::NeverNamed => 25,
+            Refusal::BadRecord => 26,
+            Refusal::UnknownRecord => 27,
             Refusal::BadGame => 31,
         }
     }
@@ -133,6 +141,8 @@ impl Refusal {
             Refusal::RemoveAhead => "remove above the last anchor handed out since the start, or none",
             Refusal::BadLists => "place list that isn't each place from 0 once",
             Refusal::NeverNamed => "point needed, never named",
+            Refusal::BadRecord => "record of a trace cut short or of wrong length, or a call that has no room in one",
+            Refusal::UnknownRecord => "record of a trace of an unknown version or kind",
             Refusal::BadGame => "numbers or sets of a game of keepers and spoilers out of range",
         }
     }

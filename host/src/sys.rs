@@ -63,6 +63,16 @@ pub struct Reach {
     pub forced: u32,
 }
 
+/// What a writer of records answers.
+#[repr(C)]
+#[derive(Clone, Copy, Debug, PartialEq, Eq)]
+pub struct Written {
+    /// 26 or 21, or 0 for none
+    pub refused: u32,
+    /// of the record, 0 if refused
+    pub length: usize,
+}
+
 /// A retained round: its peers, and the author of its used mark plus 1, or 0 for none.
 #[repr(C)]
 #[derive(Clone, Copy, Debug, PartialEq, Eq)]
@@ -192,6 +202,8 @@ const _: () = assert!(size_of::<PointId>() == 40);
 const _: () = assert!(size_of::<Pcg>() == 32);
 const _: () = assert!(size_of::<Drawn>() == 40);
 const _: () = assert!(size_of::<Reach>() == 8);
+const _: () = assert!(offset_of!(Written, length) == 8);
+const _: () = assert!(size_of::<Written>() == 16);
 const _: () = assert!(size_of::<Entry>() == 88);
 const _: () = assert!(size_of::<Memory>() == 11280);
 const _: () = assert!(offset_of!(State, rounds) == 56);
@@ -387,4 +399,47 @@ unsafe extern "C" {
     ) -> Reply;
 
     pub fn committer_merge(counters: *mut Counters, other: Counters);
+}
+
+// Safety, of all of them: each pointer is to as many bytes (or words, of a resolution's links) as its length says, and what
+// is lent doesn't overlap the buffer.
+unsafe extern "C" {
+    pub fn committer_write_start(buffer: *mut u8, buffer_len: usize, with: Start) -> Written;
+
+    pub fn committer_write_round(buffer: *mut u8, buffer_len: usize, round: u32, peers: u32) -> Written;
+
+    pub fn committer_write_name(buffer: *mut u8, buffer_len: usize, id: PointId) -> Written;
+
+    pub fn committer_write_resolve(
+        buffer: *mut u8,
+        buffer_len: usize,
+        id: PointId,
+        resolution: Resolution,
+        refs: *const u64,
+        refs_len: usize,
+    ) -> Written;
+
+    pub fn committer_write_certify(buffer: *mut u8, buffer_len: usize, id: PointId) -> Written;
+
+    pub fn committer_write_commit(
+        buffer: *mut u8,
+        buffer_len: usize,
+        id: PointId,
+        lists: *const u8,
+        lists_len: usize,
+    ) -> Written;
+
+    pub fn committer_write_remove(
+        buffer: *mut u8,
+        buffer_len: usize,
+        round: u32,
+        has_since: u32,
+        since: u32,
+    ) -> Written;
+
+    pub fn committer_write_drop(buffer: *mut u8, buffer_len: usize, round: u32) -> Written;
+
+    pub fn committer_write_gap(buffer: *mut u8, buffer_len: usize) -> Written;
+
+    pub fn committer_write_reset(buffer: *mut u8, buffer_len: usize) -> Written;
 }

@@ -17,9 +17,18 @@ pub fn written(list: &List) -> String {
     text
 }
 
-/// The records of a list, in hexadecimal.
+/// The records of a list, in hexadecimal. A call that has no record stands in brackets.
 pub fn records(list: &List) -> String {
-    list.calls.iter().flat_map(record::encode).map(|byte| format!("{byte:02x}")).collect()
+    let letters = letters(list);
+    let record = |call| match record::encode(call) {
+        Ok(bytes) => hex(&bytes),
+        Err(why) => format!("[{}: {why}]", Writer { letters: &letters }.call(call)),
+    };
+    list.calls.iter().map(record).collect()
+}
+
+pub fn hex(bytes: &[u8]) -> String {
+    bytes.iter().map(|byte| format!("{byte:02x}")).collect()
 }
 
 type Letters = BTreeMap<[u8; 32], String>;

@@ -9,14 +9,11 @@ use crate::counts::{Counts, kind};
 use crate::known::Known;
 use crate::library::{Library, with_lists};
 use crate::lists::{Growth, Taste, chained, removing};
+use crate::play::{BUFFER, PLACES};
 use crate::random::Random;
 use crate::rust::Rust;
 use crate::view::{Answer, Told, View};
 
-/// `replay` lends tables of so many places.
-const PLACES: usize = 20;
-/// And a buffer of so many bytes.
-const BUFFER: usize = 4096;
 /// It reads 65,536 bytes at most.
 const BYTES_MAX: usize = 59_000;
 /// Of the Rust's shuffle.
@@ -53,7 +50,7 @@ pub fn sample() -> Sample {
 }
 
 fn encoded(calls: &[Call]) -> Vec<u8> {
-    calls.iter().flat_map(record::encode).collect()
+    calls.iter().flat_map(|call| record::encode(call).expect("a call of the sample has a record")).collect()
 }
 
 /// A list that the Rust takes whole; it doesn't end with a reset.

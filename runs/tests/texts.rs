@@ -6,6 +6,7 @@ use runs::known::{ENTRIES, ROWS};
 use runs::library::{Library, Side};
 use runs::lists::{digest, link, point, shorts};
 use runs::notation;
+use runs::play::{brief, full};
 use runs::sample::{held, line, sample};
 
 const DIFFERENCES: &str = include_str!("../../docs/DIFFERENCES.md");
@@ -49,8 +50,19 @@ fn lists_are_written_as_in_the_document() {
          gap question\n\
          commit(11.1.b, lists 0 1 0)\n",
     );
-    let records: Vec<u8> = list.calls.iter().flat_map(record::encode).collect();
-    assert_eq!(notation::records(&list).len(), 2 * records.len());
+    let records: Vec<u8> = list.calls.iter().flat_map(|call| record::encode(call).unwrap()).collect();
+    assert_eq!(notation::records(&list), notation::hex(&records));
+}
+
+/// A call that has no record is said, not cut.
+#[test]
+fn calls_without_a_record() {
+    let calls = vec![Call::Gap, Call::Name(point(11, 256, 7)), Call::Outlook(point(11, 1, 7)), Call::Reset];
+    let why = "record of a trace cut short or of wrong length, or a call that has no room in one (26)";
+    assert_eq!(
+        notation::records(&List { places: 3, calls, order: 7 }),
+        format!("000000020109[name(11.256.a): {why}][outlook(11.1.a): {why}]00000002010a")
+    );
 }
 
 /// The library's text for the recorded calls is the Rust's.
@@ -67,6 +79,15 @@ fn the_sample_is_what_the_library_answers() {
     }
     text += &held(&library.view());
     assert_eq!(text, sample.text);
+}
+
+/// What the harness expects of `player` and `replay` for K13.
+#[test]
+fn programs_are_played_as_they_write() {
+    let read = |file: &str| std::fs::read(format!("{}/../crates/{file}", env!("CARGO_MANIFEST_DIR"))).unwrap();
+    let k13 = read("replay/stdin");
+    assert_eq!(brief(record::calls(&k13)), "anchor 13 0 4\nrounds 10 15\n");
+    assert_eq!(full(record::bench_calls(&k13)).as_bytes(), read("replay/stdout"));
 }
 
 #[test]

@@ -13,6 +13,7 @@ mod noise;
 mod outlooks;
 mod payloads;
 mod picks;
+mod plays;
 mod random_runs;
 mod records;
 mod refusals;

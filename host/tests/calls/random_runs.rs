@@ -7,6 +7,7 @@ use committer::{Anchor, Answer, Call, Committer, Link, PLACES_MAX, PointId, Poin
 
 use crate::common::{Noise, assert_outlook, assert_unchanged, paid, version};
 use crate::model::Model;
+use crate::records::assert_recorded;
 
 struct Run {
     noise: Noise,
@@ -59,6 +60,7 @@ impl Run {
     }
 
     fn make(&mut self, call: &Call) {
+        assert_recorded(call);
         let expected = self.model.call(call);
         let before = self.committer.clone();
         let answer = self.committer.call(call);

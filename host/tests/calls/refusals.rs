@@ -415,12 +415,12 @@ fn thirty_two_links_of_a_kind_will_do() {
 
 #[test]
 fn refusals_have_their_numbers_and_texts() {
-    let all: Vec<Refusal> = (1..=25).map(|number| Refusal::of(number, 77).unwrap()).collect();
+    let all: Vec<Refusal> = (1..=27).map(|number| Refusal::of(number, 77).unwrap()).collect();
     for (refusal, number) in all.iter().zip(1..) {
         assert_eq!(refusal.number(), number);
         assert!(refusal.to_string().contains(&format!("({number})")));
     }
     assert_eq!(all[12], Refusal::Conflict { round: 77 });
     assert!(all[12].to_string().ends_with("at round 77"));
-    assert_eq!((Refusal::of(0, 0), Refusal::of(26, 0)), (None, None));
+    assert_eq!((Refusal::of(0, 0), Refusal::of(28, 0)), (None, None));
 }

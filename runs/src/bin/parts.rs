@@ -1,14 +1,14 @@
 //! Writes the recorded runs of `crates/recorded` anew: parts 0 to 102 as they stand in CRATES/recorded/stdin, their commits with the Rust's place
-//! lists, the parts of remove, of place lists, of payloads and of needed points, the sample that `record` wrote into SAMPLE, and the part that is cut
-//! short. Texts are what the library answers, those of the sample the Rust's. What `crates/replay` plays, K13, is part 67 without its last commit.
+//! lists, the parts of remove, of place lists, of payloads, of needed points and of what a record's reader tests and leaves unread, the sample that
+//! `record` wrote into SAMPLE, and the part that is cut short. Texts are what the library answers, those of the sample the Rust's. What `crates/replay` plays, K13, is part 67 without its last commit.
 //!
 //!     cargo run --release --offline --bin parts -- CRATES SAMPLE
 
-use committer::{Anchor, Answer, Look};
-use committer::{Call, Committer, Link, PointId, PointInfo, Start, record};
+use committer::{Call, Link, PointId, PointInfo, Start, record};
 use runs::compare::{List, lent};
 use runs::counts::Counts;
 use runs::library::Library;
+use runs::play::{PLACES, full};
 use std::fs;
 use std::process::ExitCode;
 
@@ -258,6 +258,43 @@ fn needed() -> Vec<Vec<Call>> {
     ]
 }
 
+// ---- records of a trace (02, N5)
+
+/// The order of 26 and 27, and what isn't read.
+fn traced() -> Vec<Vec<u8>> {
+    let begun = |bytes: &[u8]| [encoded(&[Call::Start(start(0b11))]), bytes.to_vec()].concat();
+    // 145, 146: a version that is unknown, of wrong length: 27; cut short: 26
+    let mut parts = vec![begun(&[0, 0, 0, 3, 2, 9, 0]), begun(&[0, 0, 0, 4, 2, 9])];
+    let commit = || Call::Commit(id(15, 0, 'f'), vec![0, 0, 1, 0]);
+    let k13 = encoded(&with(four(from_10(2, 3)), [commit()]));
+    // 147: the flag of the start is yes at 255: 20, and after the question the anchor
+    let mut after_gap = k13.clone();
+    after_gap[FLAG_AT] = 255;
+    parts.push([after_gap, encoded(&[Call::Gap, commit()])].concat());
+    // 148: further mark bits
+    let mut marked = k13;
+    let mut at = 0;
+    while let Ok((call, length)) = record::decode(&marked[at..]) {
+        if matches!(call, Call::Resolve(..)) {
+            marked[at + MARKS_AT] |= 0xf8;
+        }
+        at += length;
+    }
+    parts.push(marked);
+    // 149, 150: the removes of 105 and 106, with a flag of 7, and with a round after a flag of 0
+    for (flag, since) in [(7, 0), (0, 3)] {
+        let mut removed = encoded(&[remove(5, Some(since))]);
+        removed[REMOVE_FLAG_AT] = flag;
+        parts.push([encoded(&entry_8()), removed].concat());
+    }
+    parts
+}
+
+/// Where the flag of a start, the marks of a resolution and the flag of a remove stand in their records.
+const FLAG_AT: usize = 26;
+const MARKS_AT: usize = 44;
+const REMOVE_FLAG_AT: usize = 10;
+
 fn parts() -> Vec<Vec<u8>> {
     let mut lists: Vec<Vec<Call>> = Vec::new();
     // 103: 23 before the anchor and above it, nothing to drain
@@ -307,8 +344,8 @@ fn parts() -> Vec<Vec<u8>> {
     let mut parts: Vec<Vec<u8>> = lists.iter().map(|calls| encoded(calls)).collect();
     // 125, 126: records of 8 and 10 bytes
     for length in [8, 10] {
-        let mut part = record::encode(&Call::Start(start(0b11)));
-        let mut broken = record::encode(&remove(5, Some(0)));
+        let mut part = encoded(&[Call::Start(start(0b11))]);
+        let mut broken = encoded(&[remove(5, Some(0))]);
         broken.resize(6 + length, 0);
         broken[3] = 2 + length as u8;
         part.extend(broken);
@@ -316,16 +353,27 @@ fn parts() -> Vec<Vec<u8>> {
     }
     parts.extend(listed().iter().chain(&summed()).map(|calls| encoded(calls)));
     // 142: a resolution without payload
-    let mut broken = record::encode(&Call::Resolve(id(2, 0, 'a'), valid()));
+    let mut broken = encoded(&[Call::Resolve(id(2, 0, 'a'), valid())]);
     broken.truncate(broken.len() - 8);
     broken[3] -= 8;
-    parts.push([record::encode(&Call::Start(start(0b11))), broken].concat());
+    parts.push([encoded(&[Call::Start(start(0b11))]), broken].concat());
     parts.extend(needed().iter().map(|calls| encoded(calls)));
+    parts.extend(traced());
     parts
 }
 
+/// The records of calls, the bench's of an outlook.
 fn encoded(calls: &[Call]) -> Vec<u8> {
-    calls.iter().flat_map(record::encode).collect()
+    let record = |call: &Call| match call {
+        Call::Outlook(id) => record::outlook(id),
+        _ => record::encode(call),
+    };
+    calls.iter().flat_map(|call| record(call).expect("a call of the parts has a record")).collect()
+}
+
+/// What `replay` writes.
+fn played(recording: &[u8]) -> String {
+    full(record::bench_calls(recording))
 }
 
 /// Of the Rust's shuffle.
@@ -334,7 +382,7 @@ const ORDER: u64 = 1;
 /// The part, its commits with the Rust's place lists. One that is broken or has no commit stays. The Rust has no other top proof of a proof than the proof itself,
 /// which is read of anchors only.
 fn lent_lists(part: &[u8]) -> Vec<u8> {
-    let Ok(mut calls) = record::calls(part).collect::<Result<Vec<Call>, _>>() else {
+    let Ok(mut calls) = record::bench_calls(part).collect::<Result<Vec<Call>, _>>() else {
         return part.to_vec();
     };
     if !calls.iter().any(|call| matches!(call, Call::Commit(..))) {
@@ -345,69 +393,13 @@ fn lent_lists(part: &[u8]) -> Vec<u8> {
         Call::Resolve(id, info) if info.proof => Call::Resolve(*id, PointInfo { top_proof: *id, ..info.clone() }),
         _ => call.clone(),
     };
-    let list = List { places: 20, calls: calls.iter().map(for_rust).collect(), order: ORDER };
+    let list = List { places: PLACES, calls: calls.iter().map(for_rust).collect(), order: ORDER };
     let (list, ended) = lent::<Library>(&list, &mut Counts::default());
     ended.unwrap_or_else(|why| panic!("{why}"));
     for (call, lent) in calls.iter_mut().zip(list.calls).filter(|(call, _)| matches!(call, Call::Commit(..))) {
         *call = lent;
     }
     encoded(&calls)
-}
-
-// ---- texts, as `replay` writes them
-
-fn lines_of(call: &Call, answer: Answer) -> Vec<String> {
-    let question = match call {
-        Call::Gap => "gap ",
-        Call::Drop(_) => "drop ",
-        _ => "",
-    };
-    let shown = |anchors: &[Anchor]| anchors.iter().map(Anchor::to_string).collect::<Vec<_>>();
-    let (mut lines, last) = match answer {
-        Answer::Done => (vec![], "ok".into()),
-        Answer::Said(yes) => (vec![], format!("{question}{}", if yes { "yes" } else { "no" })),
-        Answer::Handed(anchors) => (shown(&anchors), "ok".into()),
-        Answer::Looked(looks) => (looks.iter().map(Look::to_string).collect(), "ok".into()),
-        Answer::Removed(told) => {
-            assert!(told.bytes() <= 4096);
-            (told.to_string().lines().map(String::from).collect(), "ok".into())
-        }
-        Answer::Refused(why, finished) => (
-            shown(&finished),
-            match why.refusal {
-                committer::Refusal::Conflict { round } => format!("refused 13 {round}"),
-                other => format!("refused {}", other.number()),
-            },
-        ),
-    };
-    lines.push(last);
-    lines
-}
-
-fn last_lines(committer: &Committer) -> Vec<String> {
-    let Some(s) = committer.summary() else { return vec!["state none".into()] };
-    let proof = s.last_committed_proof.map_or("none".into(), |round| round.to_string());
-    let emit = s.emit_first_after_gap.map_or("none".into(), |flag| flag.to_string());
-    let state = format!(
-        "state bottom {} top {} lastproof {proof} fullbottom {} first {} emit {emit}",
-        s.bottom, s.top, s.full_history_bottom, s.first_executable
-    );
-    std::iter::once(state)
-        .chain(committer.points().into_iter().map(|p| format!("p {} {:04x}", p.id.text("."), p.cert)))
-        .collect()
-}
-
-fn played(recording: &[u8]) -> String {
-    let mut committer = Committer::new(20);
-    let mut lines = Vec::new();
-    for call in record::calls(recording) {
-        match call {
-            Ok(call) => lines.extend(lines_of(&call, committer.call(&call))),
-            Err(broken) => lines.push(broken.to_string()),
-        }
-    }
-    lines.extend(last_lines(&committer));
-    lines.iter().map(|line| format!("{line}\n")).collect()
 }
 
 fn main() -> ExitCode {
@@ -452,7 +444,7 @@ fn main() -> ExitCode {
     bytes.extend(cut);
     text += &format!("cut part {}\n", all.len());
     println!("{} parts, the sample is {sample_at}, {} bytes", all.len() + 1, bytes.len());
-    let mut k13: Vec<Call> = record::calls(&all[67]).map(Result::unwrap).collect();
+    let mut k13: Vec<Call> = record::bench_calls(&all[67]).map(Result::unwrap).collect();
     k13.pop();
     let k13 = encoded(&k13);
     write(&format!("{crates}/replay"), &k13, &played(&k13));
