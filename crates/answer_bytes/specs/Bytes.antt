@@ -1,11 +1,13 @@
--- The bytes of an id, from its place's words (01: parts.rs).
-use Prim.Native.Nat.{ℕ, zero, suc, _+_, _*_, _/_, _%_, _^_, _<_}
+-- Bytes in a lent buffer, and those of an id, from its place's words (01: parts.rs).
+use Prim.Native.Nat.{ℕ, zero, suc, _+_, _*_, _/_, _%_, _^_, _<_, _≤_}
 use mathlib.Core.Path.{_≡_, sym, ap, ap₂, _∙_}
 use mathlib.Core.List.{List, [], _∷_, _++_, append-nil, append-assoc}
 use native.Mathlib.Omega.{arith}
+use native.Mathlib.Numerals.{add-one}
 use native.Mathlib.Nat.{add-zero, add-suc, mul-assoc, pow-zero, pow-suc}
-use lib.ListN.{getD}
-use Rattle.laws.specs.Bytes.{be, number, written, be-length, andThen}
+use lib.ListN.{length, getD, set, take}
+use lib.Seq.{take-suc, take-all, length-take-le}
+use Rattle.laws.specs.Bytes.{be, number, written, written-append, be-length, andThen}
 use Rattle.spec.specs.Ids.{Id, idBytes}
 use Rattle.models.specs.Digest.{Fit, words, digestAt}
 use Rattle.models.specs.Tables.{roundAt, authorAt, digestOf}
@@ -13,6 +15,19 @@ use Rattle.models.specs.Tables.{roundAt, authorAt, digestOf}
 -- the id in the keys of place q
 abbrev pub placeId : List ℕ → ℕ → Id
 placeId ks q = record { round = roundAt ks q; author = authorAt ks q; digest = digestOf ks q }
+
+-- ---- bytes put one after another
+
+-- one byte more
+pub bytes-more : (b d g xs : List ℕ) (at k : ℕ) → k < length xs → d ≡ written b at (take k xs) → g ≡ set d (at + k) (getD xs k 0) → g ≡ written b at (take (k + 1) xs)
+unfolding written
+bytes-more b d g xs at k l e q =
+    q ∙ (ap (λ (y : List ℕ). set y (at + k) (getD xs k 0)) e ∙ sym (ap (written b at) (ap (λ (n : ℕ). take n xs) (add-one k) ∙ take-suc xs k 0 l) ∙ written-append b at (take k xs) (getD xs k 0 ∷ []) (at + k) (ap (λ (n : ℕ). at + n) (sym (length-take-le k xs (omega arith))))))
+
+pub bytes-end : (b d xs : List ℕ) (at k : ℕ) → length xs ≤ k → d ≡ written b at (take k xs) → d ≡ written b at xs
+bytes-end b d xs at k l e = e ∙ ap (written b at) (take-all k xs l)
+
+-- ---- numbers
 
 -- offsets
 twice : (p : ℕ) → p + 1 + 1 ≡ p + 2

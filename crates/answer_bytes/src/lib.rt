@@ -31,6 +31,19 @@ pub fn put_number(b: &mut [u8], at: usize, width: usize, v: u64) -> usize
     at + width
 }
 
+// The bytes as they are.
+pub fn put_bytes(b: &mut [u8], at: usize, bytes: &[u8]) -> usize
+    requires { ⌜ at + length (now bytes) ≤ length (now b) ⌝ }
+    ensures { λ r. ⌜ (r ≡ at + length (now (bytes .entry))) × (now (b .exit) ≡ written (now (b .entry)) at (now (bytes .entry))) ⌝ }
+{
+    let mut k: usize = 0;
+    while k < bytes.len() {
+        b[at + k] = bytes[k];
+        k += 1;
+    }
+    at + k
+}
+
 // The digest in four words from p on.
 pub fn put_digest(b: &mut [u8], at: usize, words: &[u64], p: usize) -> usize
     requires { ⌜ (at + 32 ≤ length (now b)) × (p + 4 ≤ length (now words)) ⌝ }

@@ -1,7 +1,7 @@
 -- What is played equals the same calls made directly (02: N5): the calls of a run are those that the bytes are read as, one after another, and
 -- demand 3 (01: 'Demand 3') of a trace of any length.
 use Prim.Native.Nat.{ℕ, zero, suc, _+_, _-_, _<_, _≤_}
-use mathlib.Core.Path.{_≡_, refl, sym, _∙_, subst, ap, ap₂}
+use mathlib.Core.Path.{_≡_, refl, sym, _∙_, subst, ap}
 use mathlib.Core.Bool.{Bool, true, false, not, _&&_, cond}
 use mathlib.Core.List.{List, [], _∷_, _++_, List·Memᴰ}
 use mathlib.Core.Logic.{_⊎_, inl, inr}
@@ -23,6 +23,7 @@ use Rattle.trace.specs.Head.{fieldsFit, wholeAt, restAt, fieldsAt, versionOk, k
 use Rattle.trace.specs.Fields.{callBy}
 use Rattle.trace.specs.Codes.{Found, readAt, Trace, more, goOn, traceFrom, traceIn}
 use Rattle.trace.specs.CodeAt.{codeOf, code-is}
+use Rattle.trace.specs.ReadBack.{trace-more, trace-end}
 use Rattle.trace.specs.WriteBack.{AllBytes, bytes-part}
 use Rattle.play.specs.Runs.{Runs, none-yet, one-more}
 use Rattle.demand.specs.Code.{Made, outcome, callsOf, last-is}
@@ -51,9 +52,7 @@ read-good room bs p z = reads (wholeAt bs p) (versionOk (getD bs (p + 4) 0) (get
 
 -- no byte is left
 trace-none : (n : ℕ) (room bs : List ℕ) (p : ℕ) → length bs ≤ p → traceFrom n room bs p ≡ record { calls = []; ended = 0 }
-unfolding traceFrom goOn
-trace-none zero room bs p l = refl
-trace-none (suc n) room bs p l = ap (λ (b : Bool). goOn b (readAt room bs p) (λ (f : Found). more (f .what) (traceFrom n room bs (f .end)))) (le-leb (length bs) p l)
+trace-none n room bs p l = trace-end n room bs p (le-leb (length bs) p l)
 
 -- a record is refused
 stops : (o : Out Found) (next : Found → Trace) → (codeOf o ≡ 0 → ⊥) → goOn false o next ≡ record { calls = []; ended = codeOf o }
@@ -69,11 +68,10 @@ trace-bad n room bs p l h =
     ap (λ (b : Bool). goOn b (readAt room bs p) next) (lt-leb (length bs) p l) ∙ (stops (readAt room bs p) next (λ z. h (sym c ∙ z)) ∙ ap (λ (k : ℕ). record { calls = []; ended = k }) c)
 
 -- its call is the next
-trace-more : (n : ℕ) (room bs : List ℕ) (p : ℕ) → codeAt false bs p ≡ 0 → traceFrom (suc n) room bs p ≡ more (callAt room bs p) (traceFrom n room bs (p + 4 + restAt bs p))
-unfolding traceFrom goOn
-trace-more n room bs p z =
+trace-next : (n : ℕ) (room bs : List ℕ) (p : ℕ) → codeAt false bs p ≡ 0 → traceFrom (suc n) room bs p ≡ more (callAt room bs p) (traceFrom n room bs (p + 4 + restAt bs p))
+trace-next n room bs p z =
     let (i, j, s) = whole-elim bs p (code-whole bs p false z) in
-    ap₂ (λ (b : Bool) (o : Out Found). goOn b o (λ (f : Found). more (f .what) (traceFrom n room bs (f .end)))) (lt-leb (length bs) p (omega arith)) (read-good room bs p z)
+    trace-more n room bs p _ (lt-leb (length bs) p (omega arith)) (read-good room bs p z)
 
 -- calls before a trace
 unfoldable pub prepend : List Call → Trace → Trace
@@ -104,7 +102,7 @@ run-read {room} {bs} (one-more {p = x} o d v r z q) n =
     ap (λ (ds : List Call). traceFrom (length ds + n) room bs 0) m
     ∙ (ap (λ (h : ℕ). traceFrom h room bs 0) (more-one (length (cs ++ (y ∷ []))) (length cs) n (length-append cs (y ∷ [])))
     ∙ (run-read r (suc n)
-    ∙ (ap (prepend cs) (trace-more n room bs x z)
+    ∙ (ap (prepend cs) (trace-next n room bs x z)
     ∙ (sym (prepend-last cs y (traceFrom n room bs (x + 4 + restAt bs x))) ∙ ap (λ (ds : List Call). prepend ds (traceFrom n room bs (x + 4 + restAt bs x))) (sym m)))))
   where
     more-one : (i j n : ℕ) → i ≡ j + 1 → i + n ≡ j + suc n
@@ -159,7 +157,7 @@ trace-fits (suc n) room bs p h =
     leOr (length bs) p
     (λ l. subst (λ (t : Trace). AllFit (t .calls)) (sym (trace-none (suc n) room bs p l)) tt)
     (λ l. by-zero (codeAt false bs p)
-    (λ z. subst (λ (t : Trace). AllFit (t .calls)) (sym (trace-more n room bs p z)) (bytes-fit (kindOf (getD bs (p + 5) 0)) (fieldsAt bs p) room (bytes-part bs (p + 6) (p + 4 + restAt bs p) h), trace-fits n room bs (p + 4 + restAt bs p) h))
+    (λ z. subst (λ (t : Trace). AllFit (t .calls)) (sym (trace-next n room bs p z)) (bytes-fit (kindOf (getD bs (p + 5) 0)) (fieldsAt bs p) room (bytes-part bs (p + 6) (p + 4 + restAt bs p) h), trace-fits n room bs (p + 4 + restAt bs p) h))
     (λ z. subst (λ (t : Trace). AllFit (t .calls)) (sym (trace-bad n room bs p l z)) tt))
 
 -- a stretch of its calls, up to a reset

@@ -7,9 +7,3 @@ pub mod said;
 
 // The longest line of a refusal: its word (8), a number (10), the newline. The lines of a call take at most this and its buffer's length.
 pub const REFUSED_BYTES: usize = 19;
-
-// The longest last line: its word (7), two numbers (10 each), a space, the newline.
-pub const ROUNDS_BYTES: usize = 29;
-
-// What the end of a play takes at most.
-pub const END_BYTES: usize = REFUSED_BYTES + ROUNDS_BYTES;

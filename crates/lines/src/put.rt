@@ -4,6 +4,7 @@ ghost use Prim.Native.Nat.{_+_, _≤_};
 ghost use lib.ListN.{length};
 ghost use Rattle.lines.specs.Lines.{decimal, named};
 ghost use Rattle.lines.specs.Put.{Put};
+use answer_bytes::put_bytes;
 
 // The digits of 64 bits.
 const DIGITS_MAX: usize = 20;
@@ -13,12 +14,7 @@ pub fn put_text(out: &mut [u8], at: usize, t: &[u8]) -> usize
     requires { ⌜ at + length (now t) ≤ length (now out) ⌝ }
     ensures { λ r. ⌜ Put (now (out .entry)) at (now (t .entry)) r (now (out .exit)) ⌝ }
 {
-    let mut i: usize = 0;
-    while i < t.len() {
-        out[at + i] = t[i];
-        i += 1;
-    }
-    at + t.len()
+    put_bytes(out, at, t)
 }
 
 // The number in decimal, in at most 10 bytes.

@@ -1,6 +1,6 @@
 -- Records played one after another.
 use Prim.Native.Nat.{ℕ, _+_, _-_, _<_, _≤_}
-use mathlib.Core.Path.{_≡_, refl, sym, ap, subst, _∙_}
+use mathlib.Core.Path.{_≡_, sym, ap, subst, _∙_}
 use mathlib.Core.List.{List, [], _++_, append-assoc, append-nil}
 use mathlib.Core.Logic.{_⊎_}
 use mathlib.Core.Bool.{Bool}
@@ -25,7 +25,7 @@ pub data Runs (w : Bool) (room bs : List ℕ) (b : Tables) : ℕ → List ℕ �
 
 -- the play of bs stops at p: code is the number that the record there is refused with, or 0 where too few bytes or too little room for lines is left
 abbrev pub Ends : Bool → List ℕ → Bool → ℕ → ℕ → ℕ → ℕ → Type 0
-Ends w bs last room most p code = (p ≤ length bs) × (code ≡ 0 → (length bs - p < leastLeft last) ⊎ (room < most)) × ((code ≡ 0 → ⊥) → (p < length bs) × (code ≡ codeAt w bs p))
+Ends w bs last room most p code = (p ≤ length bs) × (code ≡ 0 → (length bs - p < leastLeft last) ⊎ (room < most)) × ((code ≡ 0 → ⊥) → (leastLeft last ≤ length bs - p) × (code ≡ codeAt w bs p))
 
 -- ---- laws
 

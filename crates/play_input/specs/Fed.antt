@@ -11,10 +11,10 @@ use lib.Seq.{length-take-le, drop-append-add, drop-at, drop-drop, drop-set-lt, g
 use native.Mathlib.Nat.{zero-add}
 use borrow.Rule.Slice.PartMut.{midOf, putMid, same-len-mid, take-put}
 use borrow.Author.Tests.{eqb-true, eq-eqb, ne-eqb}
-use Rattle.laws.specs.Test.{byTest, clash, and-no-r}
+use Rattle.laws.specs.Test.{byTest, clash, and-l, and-r}
 use Rattle.commit_state.specs.declared.state.State.{State}
 use Rattle.commit_answer.specs.Answer.{Tables, tables}
-use Rattle.trace.specs.Head.{codeAt}
+use Rattle.trace.specs.Head.{codeAt, leastLeft}
 use Rattle.trace.specs.Within.{code-behind}
 use Rattle.play_calls.specs.Room.{zeros}
 use Rattle.play.specs.Runs.{Runs, none-yet, runs-on, Ends}
@@ -23,20 +23,25 @@ use Rattle.play.specs.Runs.{Runs, none-yet, runs-on, Ends}
 abbrev pub Refilled : List ℕ → ℕ → ℕ → List ℕ → Type 0
 Refilled b h n d = (h ≤ n) × (n ≤ length d) × (take h d ≡ take h b)
 
--- With the bytes h held and so many before them, `from`, more of the input was read and played. b, c: the tables before and after; base: the offset in
--- the input of the first byte that was not played, in 64 bits; code: the number that the record there is refused with, 0 for none; more: whether bytes are
--- left to be read or played; rest: what is held then.
--- read: what was read. runs: the records of all of it, up to `at`, were played. ended: if it doesn't go on and no record is refused, it is all played.
-pub record Fed (w : Bool) (room h : List ℕ) (from : ℕ) (b c : Tables) (base code : ℕ) (more : Bool) (rest : List ℕ) : Type 0 where
+-- With the bytes h held and so many before them, `from`, more of the input was read, into a buffer of so many bytes, `size`, and played. b, c: the
+-- tables before and after; base: the offset in the input of the first byte that was not played, in 64 bits; code: the number that the record there is
+-- refused with, 0 for none; more: whether bytes are left to be read or played; rest: what is held then.
+-- read: what was read. last: whether the input ended with it; then the buffer, from the byte `first` on, wasn't full. runs: the records of all of it, up to
+-- `at`, were played. refused: before the input's end as many bytes are there as a record may have. ended: if it doesn't go on and no record is refused,
+-- the input has ended, and all of it is played.
+pub record Fed (w : Bool) (room : List ℕ) (size : ℕ) (h : List ℕ) (from : ℕ) (b c : Tables) (base code : ℕ) (more : Bool) (rest : List ℕ) : Type 0 where
   pub read : List ℕ
+  pub first : ℕ
+  pub last : Bool
   pub said : List ℕ
   pub at : ℕ
   pub runs : Runs w room (h ++ read) b at said c
   pub inside : at ≤ length (h ++ read)
   pub kept : rest ≡ drop at (h ++ read)
   pub offset : base ≡ (from + at) % 2 ^ 64
-  pub refused : (code ≡ 0 → ⊥) → (at < length (h ++ read)) × (code ≡ codeAt w (h ++ read) at)
-  pub ended : more ≡ false → code ≡ 0 → at ≡ length (h ++ read)
+  pub short : last ≡ true → (first ≤ at) × (length (h ++ read) - first < size)
+  pub refused : (code ≡ 0 → ⊥) → (leastLeft last ≤ length (h ++ read) - at) × (code ≡ codeAt w (h ++ read) at)
+  pub ended : more ≡ false → code ≡ 0 → (last ≡ true) × (at ≡ length (h ++ read))
 
 -- ---- laws
 
@@ -85,15 +90,18 @@ module _ (code left : ℕ) (last : Bool) where
   on-more z f = rw (z, f) refl
 
 -- nothing yet
-pub fed-none : (w : Bool) (room : List ℕ) (s t : State) (ks ls cs os rest : List ℕ) → t ≡ s → rest ≡ [] → Fed w room [] 0 (tables s ks ls cs os) (tables t ks ls cs os) 0 0 true rest
-fed-none w room s t ks ls cs os rest g e = record {
+pub fed-none : (w : Bool) (room : List ℕ) (size : ℕ) (s t : State) (ks ls cs os rest : List ℕ) → t ≡ s → rest ≡ [] → Fed w room size [] 0 (tables s ks ls cs os) (tables t ks ls cs os) 0 0 true rest
+fed-none w room size s t ks ls cs os rest g e = record {
   read = [];
+  first = 0;
+  last = false;
   said = [];
   at = 0;
   runs = subst (λ (u : State). Runs w room [] (tables s ks ls cs os) 0 [] (tables u ks ls cs os)) (sym g) none-yet;
   inside = omega arith;
   kept = e;
   offset = refl;
+  short = λ t. absurd (clash t refl);
   refused = λ n. absurd (n refl);
   ended = λ f. absurd (clash refl f);
 }
@@ -107,11 +115,12 @@ part-is n a d l k =
     back : (n a : ℕ) → a ≤ n → a + (n - a) ≡ n
     back n a l = omega arith
 
--- it doesn't go on, and no record is refused: nothing is left
-last-left : (l code : ℕ) (last more : Bool) → more ≡ false → code ≡ 0 → more ≡ (eqb code 0 && not (last && eqb l 0)) → l ≡ 0
-last-left l code last more y q m =
-    byTest (eqb l 0) (λ t. eqb-true l 0 t)
-    (λ f. absurd (clash (m ∙ (ap₂ (λ (u v : Bool). u && not (last && v)) (eq-eqb code 0 q) f ∙ ap (λ (v : Bool). true && not v) (and-no-r last refl))) y))
+-- it doesn't go on, and no record is refused: the input has ended, and nothing is left
+last-left : (l code : ℕ) (last more : Bool) → more ≡ false → code ≡ 0 → more ≡ (eqb code 0 && not (last && eqb l 0)) → (last ≡ true) × (l ≡ 0)
+last-left l code last more y q m = (and-l last (eqb l 0) both-are, eqb-true l 0 (and-r last (eqb l 0) both-are))
+  where
+    both-are : (last && eqb l 0) ≡ true
+    both-are = byTest (last && eqb l 0) (λ t. t) (λ f. absurd (clash (m ∙ ap₂ (λ (u v : Bool). u && not v) (eq-eqb code 0 q) f) y))
 
 -- the part that is in the buffer
 module _ (w : Bool) (room b d : List ℕ) (h n : ℕ) (g : Refilled b h n d) where
@@ -122,41 +131,47 @@ module _ (w : Bool) (room b d : List ℕ) (h n : ℕ) (g : Refilled b h n d) whe
   whole : take h b ++ got ≡ take n d
   whole = ap (λ (l : List ℕ). l ++ got) (sym (g .2) ∙ sym (take-take h n d (g .0))) ∙ take-append-drop h (take n d)
 
-  pub fed-part : (from at base code : ℕ) (more last : Bool) (c e : Tables) (t rest : List ℕ) (room2 most : ℕ) → Runs w room (take n d) c at t e → Ends w (take n d) last room2 most at code
-      → base ≡ (from + at) % 2 ^ 64 → more ≡ (eqb code 0 && not (last && eqb (n - at) 0)) → rest ≡ take (n - at) (drop at d) → Fed w room (take h b) from c e base code more rest
-  fed-part from at base code more last c e t rest room2 most r (i, j, k) f m z = record {
+  pub fed-part : (from at base code size : ℕ) (more last : Bool) (c e : Tables) (t rest : List ℕ) (room2 most : ℕ) → Runs w room (take n d) c at t e → Ends w (take n d) last room2 most at code → (last ≡ true → n < size)
+      → base ≡ (from + at) % 2 ^ 64 → more ≡ (eqb code 0 && not (last && eqb (n - at) 0)) → rest ≡ take (n - at) (drop at d) → Fed w room size (take h b) from c e base code more rest
+  fed-part from at base code size more last c e t rest room2 most r (i, j, k) s f m z = record {
     read = got;
+    first = 0;
+    last = last;
     said = t;
     at = at;
     runs = subst (λ (l : List ℕ). Runs w room l c at t e) (sym whole) r;
     inside = subst (λ (l : List ℕ). at ≤ length l) (sym whole) i;
     kept = z ∙ (part-is n at d (omega (arith, i, length-take n d)) (omega (arith, i, length-take n d)) ∙ ap (drop at) (sym whole));
     offset = f;
-    refused = λ y. subst (λ (l : List ℕ). (at < length l) × (code ≡ codeAt w l at)) (sym whole) (k y);
-    ended = λ y q. all at n (length (take n d)) (length-take-le n d (g .1)) i (last-left (n - at) code last more y q m) ∙ ap length (sym whole);
+    short = λ y. (omega arith, omega (arith, s y, ap length whole, length-take n d));
+    refused = λ y. subst (λ (l : List ℕ). (leastLeft last ≤ length l - at) × (code ≡ codeAt w l at)) (sym whole) (k y);
+    ended = λ y q. let (u, v) = last-left (n - at) code last more y q m in (u, all at n (length (take n d)) (length-take-le n d (g .1)) i v ∙ ap length (sym whole));
   }
     where
       all : (a n l : ℕ) → l ≡ n → a ≤ l → n - a ≡ 0 → a ≡ l
       all a n l e k z = omega arith
 
 -- one part after another
-module _ (w : Bool) (h i : ℕ) (e : i ≡ h) (b c d : Tables) (base base2 code code2 : ℕ) (more more2 : Bool) (rest rest2 : List ℕ) where
-  pub fed-more : Fed w (zeros h) [] 0 b c base code more rest → Fed w (zeros i) rest base c d base2 code2 more2 rest2 → Fed w (zeros h) [] 0 b d base2 code2 more2 rest2
+module _ (w : Bool) (h i m n : ℕ) (e : i ≡ h) (g : n ≡ m) (b c d : Tables) (base base2 code code2 : ℕ) (more more2 : Bool) (rest rest2 : List ℕ) where
+  pub fed-more : Fed w (zeros h) m [] 0 b c base code more rest → Fed w (zeros i) n rest base c d base2 code2 more2 rest2 → Fed w (zeros h) m [] 0 b d base2 code2 more2 rest2
   fed-more x y0 = record {
     read = x .read ++ y .read;
+    first = x .at + y .first;
+    last = y .last;
     said = x .said ++ y .said;
     at = x .at + y .at;
     runs = subst (λ (l : List ℕ). Runs w (zeros h) l b (x .at + y .at) (x .said ++ y .said) d) (sym joined) (subst (λ (k : ℕ). Runs w (zeros h) (zs ++ xs) b (k + y .at) (x .said ++ y .said) d) size goes);
     inside = subst (λ (l : List ℕ). x .at + y .at ≤ length l) (sym joined) (omega (arith, length-append zs xs, size, y .inside));
     kept = y .kept ∙ (sym (drop-append-add zs xs (y .at)) ∙ (ap (λ (k : ℕ). drop (k + y .at) (zs ++ xs)) size ∙ ap (drop (x .at + y .at)) (sym joined)));
     offset = y .offset ∙ wraps (x .at) (y .at) base (x .offset);
-    refused = λ n. subst (λ (l : List ℕ). (x .at + y .at < length l) × (code2 ≡ codeAt w l (x .at + y .at))) (sym joined)
-        (omega (arith, y .refused n .0, length-append zs xs, size), y .refused n .1 ∙ (sym (code-behind zs xs (y .at) w) ∙ ap (λ (k : ℕ). codeAt w (zs ++ xs) (k + y .at)) size));
-    ended = λ f z. omega (arith, y .ended f z, length-append zs xs, size, ap length joined);
+    short = λ t. let (k, l) = y .short t in (omega arith, omega (arith, l, length-append zs xs, size, ap length joined));
+    refused = λ z. subst (λ (l : List ℕ). (leastLeft (y .last) ≤ length l - (x .at + y .at)) × (code2 ≡ codeAt w l (x .at + y .at))) (sym joined)
+        (behind _ _ _ _ _ (y .refused z .0) (length-append zs xs ∙ ap (λ (k : ℕ). k + length xs) size), y .refused z .1 ∙ (sym (code-behind zs xs (y .at) w) ∙ ap (λ (k : ℕ). codeAt w (zs ++ xs) (k + y .at)) size));
+    ended = λ f z. let (u, v) = y .ended f z in (u, omega (arith, v, length-append zs xs, size, ap length joined));
   }
     where
-      y : Fed w (zeros h) rest base c d base2 code2 more2 rest2
-      y = subst (λ (j : ℕ). Fed w (zeros j) rest base c d base2 code2 more2 rest2) e y0
+      y : Fed w (zeros h) m rest base c d base2 code2 more2 rest2
+      y = subst (λ (j : ℕ). Fed w (zeros h) j rest base c d base2 code2 more2 rest2) g (subst (λ (j : ℕ). Fed w (zeros j) n rest base c d base2 code2 more2 rest2) e y0)
 
       zs : List ℕ
       zs = take (x .at) (x .read)
@@ -179,6 +194,9 @@ module _ (w : Bool) (h i : ℕ) (e : i ≡ h) (b c d : Tables) (base base2 code 
           (runs-on w (zeros h) zs xs [] b c d (y .at) (x .said) (y .said) (y .runs)
           (subst (λ (l : List ℕ). Runs w (zeros h) (zs ++ l) b (length zs) (x .said) c) (sym (append-nil xs))
           (subst (λ (k : ℕ). Runs w (zeros h) (zs ++ xs) b k (x .said) c) (sym size) (subst (λ (l : List ℕ). Runs w (zeros h) l b (x .at) (x .said) c) joined grown))))
+
+      behind : (k l a b n : ℕ) → k ≤ l - a → n ≡ b + l → k ≤ n - (b + a)
+      behind k l a b n u v = omega arith
 
       wraps : (i j k : ℕ) → k ≡ (0 + i) % 2 ^ 64 → (k + j) % 2 ^ 64 ≡ (0 + (i + j)) % 2 ^ 64
       wraps i j k e = omega arith

@@ -4,7 +4,6 @@ use mathlib.Core.Path.{_≡_, refl, sym, ap, subst, _∙_}
 use mathlib.Core.List.{List, [], _++_, append-nil}
 use mathlib.Core.Bool.{Bool, true, false, cond}
 use native.Mathlib.Omega.{arith}
-use lib.ListN.{length}
 use Rattle.laws.specs.Test.{clash}
 use Rattle.laws.specs.Lists.{joined}
 use Rattle.spec.specs.Demand.{finished}
@@ -13,7 +12,7 @@ use Rattle.commit_answer.specs.Answer.{Tables, viewOf, answerOf, outcomeOf, Did
 use Rattle.commit_answer.specs.declared.answer.Answer.{Answer}
 use Rattle.commit_answer.specs.declared.answer.Outcome.{Outcome}
 use Rattle.trace.specs.Kinds as kind
-use Rattle.trace.specs.Kinds.{Kind, kindOf, known}
+use Rattle.trace.specs.Kinds.{kindOf, known}
 use Rattle.trace.specs.Numbers.{idAt}
 use Rattle.trace.specs.Fields.{callBy}
 use Rattle.trace.specs.Head.{codeAt, headAt, part, listsIn, head-bad}

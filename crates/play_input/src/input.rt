@@ -74,7 +74,7 @@ fn play_some(
     bench: bool,
 ) -> Turn
     requires { ⌜ (held ≤ length (now input)) × (length (now answer) ≤ 4096) ⌝ }
-    ensures { λ r. ⌜ (r .held ≤ length (now (input .exit))) × Fed bench (zeros (length (now (answer .entry)))) (take held (now (input .entry))) base
+    ensures { λ r. ⌜ (r .held ≤ length (now (input .exit))) × Fed bench (zeros (length (now (answer .entry)))) (length (now (input .entry))) (take held (now (input .entry))) base
         (tables s (now (keys .entry)) (now (links .entry)) (now (certs .entry)) (now (order .entry)))
         (tables (r .state) (now (keys .exit)) (now (links .exit)) (now (certs .exit)) (now (order .exit))) (r .base) (r .code) (r .more) (take (r .held) (now (input .exit))) ⌝ }
 {
@@ -120,7 +120,8 @@ pub fn play_input(
     bench: bool,
 ) -> Turn
     requires { ⌜ length (now answer) ≤ 4096 ⌝ }
-    ensures { λ r. ⌜ Fed bench (zeros (length (now (answer .entry)))) [] 0 (tables unstartedState (now (keys .entry)) (now (links .entry)) (now (certs .entry)) (now (order .entry)))
+    ensures { λ r. ⌜ Fed bench (zeros (length (now (answer .entry)))) (length (now (input .entry))) [] 0
+        (tables unstartedState (now (keys .entry)) (now (links .entry)) (now (certs .entry)) (now (order .entry)))
         (tables (r .state) (now (keys .exit)) (now (links .exit)) (now (certs .exit)) (now (order .exit))) (r .base) (r .code) (r .more) (take (r .held) (now (input .exit))) ⌝ }
 {
     let mut now = unstarted();

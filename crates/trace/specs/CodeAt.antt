@@ -1,17 +1,17 @@
 -- The number that a record is refused with, as the code finds it (02: N5).
 use Prim.Native.Nat.{ℕ, zero, suc, _+_, _<_}
 use mathlib.Core.Path.{_≡_, refl, sym, ap, ap₂, _∙_}
-use mathlib.Core.List.{List, []}
+use mathlib.Core.List.{List}
 use mathlib.Core.Bool.{Bool, true, false, not, _&&_, cond}
-use lib.Dec.{eqb, leb}
-use lib.ListN.{length, getD}
+use lib.Dec.{leb}
+use lib.ListN.{getD}
 use borrow.Author.Tests.{eq-eqb, ne-eqb, lt-leb}
 use native.Mathlib.Omega.{arith}
 use Rattle.laws.specs.Test.{and-no-r, cond-yes, cond-no}
-use Rattle.spec.specs.Chain.{Refusal, Out, bad, good, refuse}
+use Rattle.spec.specs.Chain.{Out, bad, good, refuse}
 use Rattle.spec.specs.Calls.{numberOf}
 use Rattle.trace.specs.Kinds.{kindOk, kindKnown}
-use Rattle.trace.specs.Head.{fieldsFit, wholeAt, fieldsAt, part, restAt, versionOk, kindCode, codeAt, headBy, headAt, head-good, head-bad}
+use Rattle.trace.specs.Head.{fieldsFit, wholeAt, fieldsAt, part, restAt, versionOk, kindCode, codeAt, headBy, headAt, code-cut, head-good, head-bad}
 use Rattle.trace.specs.Codes.{Found, readAt}
 use Rattle.trace.specs.declared.head.Record.{Record}
 
@@ -66,10 +66,6 @@ unfolding kindCode kindKnown
 bench-other k r f n q = q ∙ ap (λ (b : Bool). cond (cond b true (kindOk k)) (cond (fieldsFit k f) 0 26) 27) (sym (ne-eqb k 11 n))
 
 module _ (w : Bool) (bs : List ℕ) (p : ℕ) where
-  code-cut : wholeAt bs p ≡ false → codeAt w bs p ≡ 26
-  unfolding codeAt
-  code-cut h = cond-no _ _ 26 h refl
-
   pub code-version : (v : ℕ) → v ≡ getD bs (p + 4) 0 → wholeAt bs p ≡ true → (v ≡ 1 → ⊥) → 27 ≡ codeAt w bs p
   unfolding codeAt versionOk
   code-version v e y n = sym (cond-yes _ _ 27 y (cond-no _ _ 27 (ne-eqb _ 1 (λ q. n (e ∙ q))) refl))
@@ -81,7 +77,7 @@ module _ (w : Bool) (bs : List ℕ) (p : ℕ) where
 
   -- the record, by the ways out of the code
   pub record-cut : wholeAt bs p ≡ false → _≡_ {A = Record} (record { code = 26; kind = 0; from = p; end = p }) (headAt w bs p)
-  record-cut h = sym (ap (λ (c : ℕ). headBy c bs p) (code-cut h) ∙ head-bad bs p 26 (λ z. omega arith))
+  record-cut h = sym (ap (λ (c : ℕ). headBy c bs p) (code-cut bs p w h) ∙ head-bad bs p 26 (λ z. omega arith))
 
   pub record-bad : (c : ℕ) → c ≡ codeAt w bs p → (c ≡ 0 → ⊥) → _≡_ {A = Record} (record { code = c; kind = 0; from = p; end = p }) (headAt w bs p)
   record-bad c e n = sym (ap (λ (x : ℕ). headBy x bs p) (sym e) ∙ head-bad bs p c n)

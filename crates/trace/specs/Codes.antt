@@ -2,9 +2,9 @@
 use Prim.Native.Nat.{ℕ, zero, suc, _+_}
 use mathlib.Core.List.{List, [], _∷_}
 use mathlib.Core.Bool.{Bool, true, false, not, _&&_}
-use lib.Dec.{eqb, leb}
+use lib.Dec.{leb}
 use lib.ListN.{length, getD}
-use Rattle.spec.specs.Chain.{Refusal, Out, bad, good, refuse}
+use Rattle.spec.specs.Chain.{Out, bad, good, refuse}
 use Rattle.spec.specs.Calls.{Call, numberOf}
 use Rattle.trace.specs.Kinds.{kindOf, kindOk}
 use Rattle.trace.specs.Head.{fieldsFit, restAt, wholeAt, fieldsAt, versionOk}

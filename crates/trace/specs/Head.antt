@@ -7,7 +7,7 @@ use native.Mathlib.Omega.{arith}
 use lib.Dec.{eqb, leb}
 use lib.ListN.{length, length-take, getD, take, drop}
 use borrow.Author.Tests.{eq-eqb, ne-eqb, le-leb, lt-leb, leb-true, eqb-true}
-use Rattle.laws.specs.Test.{byTest, clash, same-test, both, and-l, and-r, and-no, and-no-r, cond-yes, cond-no}
+use Rattle.laws.specs.Test.{byTest, clash, same-test, both, and-l, and-r, and-no, and-no-r, cond-no}
 use Rattle.trace.specs.Numbers.{numberAt}
 use Rattle.trace.specs.Kinds.{Kind, Start, Round, Name, Resolve, Certify, Commit, Remove, Drop, Gap, Reset, Outlook, Broken, kindOf, kindKnown, known}
 use Rattle.trace.specs.declared.head.Record.{Record}
@@ -134,6 +134,17 @@ module _ (bs : List ℕ) (p : ℕ) where
       let t = and-r (leb (p + 4) (length bs)) _ h in
       let u = and-r (leb 2 (restAt bs p)) _ t in
       (leb-true _ _ (and-l _ _ t), leb-true _ _ (and-l _ _ u), leb-true _ _ (and-r (leb (restAt bs p) 4096) _ u))
+
+  pub whole-intro : 2 ≤ restAt bs p → restAt bs p ≤ 4096 → p + 4 + restAt bs p ≤ length bs → wholeAt bs p ≡ true
+  unfolding wholeAt
+  whole-intro a b c =
+      let d : p + 4 ≤ length bs = omega arith in
+      both (le-leb _ _ d) (both (le-leb _ _ a) (both (le-leb _ _ b) (le-leb _ _ c)))
+
+  -- one that isn't whole
+  pub code-cut : (w : Bool) → wholeAt bs p ≡ false → codeAt w bs p ≡ 26
+  unfolding codeAt
+  code-cut w h = cond-no _ _ 26 h refl
 
   -- a record that isn't refused
   pub code-whole : (w : Bool) → codeAt w bs p ≡ 0 → wholeAt bs p ≡ true

@@ -1,12 +1,11 @@
 -- A record written into a buffer, and the order of the refusals (02: N5).
 use Prim.Native.Nat.{ℕ, _+_, _<_, _≤_}
-use mathlib.Core.Path.{_≡_, refl, sym, ap, _∙_}
+use mathlib.Core.Path.{_≡_, refl, ap, _∙_}
 use mathlib.Core.List.{List, [], _∷_, _++_, map}
-use mathlib.Core.Bool.{Bool, true, false, not, _&&_}
+use mathlib.Core.Bool.{Bool}
 use native.Mathlib.Omega.{arith}
-use lib.Dec.{eqb, leb, ltb}
-use lib.ListN.{length, getD, take, drop}
-use lib.Seq.{take-at}
+use lib.Dec.{ltb}
+use lib.ListN.{length, drop}
 use borrow.Author.Tests.{lt-ltb, le-ltb}
 use Rattle.laws.specs.Bytes.{number, value, written, written-is}
 use Rattle.spec.specs.Chain as chain
@@ -14,9 +13,9 @@ use Rattle.spec.specs.Chain.{Out, bad, good, then, refuse}
 use Rattle.spec.specs.Calls.{Call, numberOf}
 use Rattle.models.specs.Digest.{words}
 use Rattle.trace.specs.Numbers.{numberAt}
-use Rattle.trace.specs.Head.{linksIn, sizeOf, fits, fieldsFit, wholeAt, versionOk}
+use Rattle.trace.specs.Head.{sizeOf, fits, fieldsFit, wholeAt, versionOk}
 use Rattle.trace.specs.Kinds.{kindOf, kindOk}
-use Rattle.trace.specs.Codes.{Found, readAt}
+use Rattle.trace.specs.Codes.{readAt}
 use Rattle.trace.specs.Write.{recordOf, putRecord}
 
 -- 26 whatever the buffer: "then with 21 a short buffer"

@@ -1,8 +1,8 @@
 -- What is written reads back (02: N5).
 use Prim.Native.Nat.{ℕ, zero, suc, _+_, _-_, _*_, _/_, _%_, _^_, _<_, _≤_}
-use mathlib.Core.Path.{_≡_, refl, sym, ap, ap₂, _∙_, subst}
-use mathlib.Core.List.{List, [], _∷_, _++_, map, append-assoc, append-nil}
-use mathlib.Core.Bool.{Bool, true, false, not, _&&_, _||_, cond, false≢true}
+use mathlib.Core.Path.{_≡_, refl, sym, ap, ap₂, _∙_}
+use mathlib.Core.List.{List, [], _∷_, _++_, map, append-assoc}
+use mathlib.Core.Bool.{Bool, true, false, not, _&&_, cond, false≢true}
 use mathlib.Core.Option.{Option, none, some}
 use native.Mathlib.Omega.{arith}
 use native.Mathlib.Nat.{add-zero, zero-add, mod-eq-of-lt}
@@ -10,22 +10,22 @@ use lib.Dec.{eqb, leb, ltb}
 use lib.ListN.{length, length-append, getD, take, drop}
 use lib.Seq.{take-at, drop-at, getD-at}
 use borrow.Author.Tests.{eq-eqb, le-leb, lt-leb, leb-true, ltb-true}
-use Rattle.laws.specs.Test.{both, and-l, and-r, not-yes, cond-no, byTest, clash}
+use Rattle.laws.specs.Test.{both, and-l, and-r, not-yes, cond-no, clash}
 use Rattle.laws.specs.Lists.{all}
 use Rattle.laws.specs.Bytes.{be, be-length, value, number, value-be-fits}
 use Rattle.spec.specs.Ids.{Id, Ref}
 use Rattle.spec.specs.Store.{Resolution, bit}
-use Rattle.spec.specs.Chain.{Out, bad, good, then, refuse}
+use Rattle.spec.specs.Chain.{Out, good}
 use Rattle.spec.specs.Walk.{then-good, refuse-good, refuse-back}
 use Rattle.spec.specs.Calls.{Call, StartArgs, start, resetAll, round, name, resolve, certify, gapQuestion, commit, outlook, remove, drop as dropTo}
 use Rattle.models.specs.Digest.{words}
 use Rattle.trace.specs.Numbers.{numberAt, idAt}
-use Rattle.trace.specs.Head.{linksIn, listsIn, sizeOf, fits, fieldsFit, versionOk, restAt, wholeAt, part, fieldsAt}
-use Rattle.trace.specs.Fields.{flagIn, usedIn, startIn, sinceIn, linkIn, linksFrom, payloadFrom, resolutionIn, callBy}
+use Rattle.trace.specs.Head.{linksIn, sizeOf, fits, fieldsFit, versionOk, restAt, wholeAt, fieldsAt, whole-intro}
+use Rattle.trace.specs.Fields.{usedIn, startIn, sinceIn, linksFrom, payloadFrom, resolutionIn, callBy}
 use Rattle.trace.specs.Links.{words-right}
-use Rattle.trace.specs.Kinds.{kindOf, kindOk, known}
-use Rattle.trace.specs.Codes.{Found, readAt, Trace, more, goOn, traceFrom, traceIn}
-use Rattle.trace.specs.Write.{Field, field, fieldBytes, fitsField, idThen, flagField, usedByte, startFields, linkFields, marksByte, resolveFields, removeFields, fieldsOf, kindByte, is255, sayable, fieldsIn, recordBytes, recordOf, recordsOf, lending}
+use Rattle.trace.specs.Kinds.{kindOf, kindOk}
+use Rattle.trace.specs.Codes.{Found, readAt, more, goOn, traceFrom, traceIn}
+use Rattle.trace.specs.Write.{Field, field, fieldBytes, fitsField, idThen, usedByte, startFields, linkFields, marksByte, resolveFields, removeFields, fieldsOf, kindByte, is255, sayable, fieldsIn, recordBytes, recordOf, recordsOf, lending}
 
 -- ---- a number where it was written
 
@@ -445,16 +445,7 @@ module _ (k : ℕ) (f xs ys : List ℕ) (p : ℕ) (l : length xs ≡ p) (m : 2 +
   total = ap length after-kind ∙ (length-append (((xs ++ be 4 (2 + length f)) ++ (1 ∷ [])) ++ (k ∷ [])) (f ++ ys) ∙ ap (λ (n : ℕ). n + length (f ++ ys)) kind-size)
 
   whole-back : wholeAt (xs ++ (recordBytes k f ++ ys)) p ≡ true
-  unfolding wholeAt
-  whole-back =
-      let q : length (f ++ ys) ≡ length f + length ys = length-append f ys in
-      let n : ℕ = length (xs ++ (recordBytes k f ++ ys)) in
-      let t : ℕ = restAt (xs ++ (recordBytes k f ++ ys)) p in
-      let one : p + 4 ≤ n = omega (arith, total) in
-      let two : 2 ≤ t = omega (arith, rest-back) in
-      let three : t ≤ 4096 = omega (arith, rest-back, m) in
-      let four : p + 4 + t ≤ n = omega (arith, rest-back, total, q) in
-      both (le-leb (p + 4) n one) (both (le-leb 2 t two) (both (le-leb t 4096 three) (le-leb (p + 4 + t) n four)))
+  whole-back = whole-intro _ p (omega (arith, rest-back)) (omega (arith, rest-back, m)) (omega (arith, rest-back, total, length-append f ys))
 
   fields-back : fieldsAt (xs ++ (recordBytes k f ++ ys)) p ≡ f
   fields-back =
@@ -491,11 +482,13 @@ reads-back room c r xs ys p e l =
 
 -- ---- a trace
 
-trace-more : (n : ℕ) (room bs : List ℕ) (p : ℕ) (f : Found) → leb (length bs) p ≡ false → readAt room bs p ≡ good f → traceFrom (suc n) room bs p ≡ more (f .what) (traceFrom n room bs (f .end))
+-- its next call
+pub trace-more : (n : ℕ) (room bs : List ℕ) (p : ℕ) (f : Found) → leb (length bs) p ≡ false → readAt room bs p ≡ good f → traceFrom (suc n) room bs p ≡ more (f .what) (traceFrom n room bs (f .end))
 unfolding traceFrom goOn
 trace-more n room bs p f h e = ap₂ (λ (b : Bool) (o : Out Found). goOn b o (λ g. more (g .what) (traceFrom n room bs (g .end)))) h e
 
-trace-end : (n : ℕ) (room bs : List ℕ) (p : ℕ) → leb (length bs) p ≡ true → traceFrom n room bs p ≡ record { calls = []; ended = 0 }
+-- no byte is left
+pub trace-end : (n : ℕ) (room bs : List ℕ) (p : ℕ) → leb (length bs) p ≡ true → traceFrom n room bs p ≡ record { calls = []; ended = 0 }
 unfolding traceFrom goOn
 trace-end zero room bs p h = refl
 trace-end (suc n) room bs p h = ap (λ (b : Bool). goOn b (readAt room bs p) (λ g. more (g .what) (traceFrom n room bs (g .end)))) h

@@ -1,31 +1,30 @@
 -- What is unread in a record changes no call, and comes out as it is written (02: N5).
 use Prim.Native.Nat.{ℕ, zero, suc, _+_, _-_, _*_, _/_, _%_, _<_, _≤_}
 use mathlib.Core.Path.{_≡_, refl, sym, ap, ap₂, _∙_, subst}
-use mathlib.Core.List.{List, [], _∷_, _++_}
-use mathlib.Core.Bool.{Bool, true, false, not, _&&_, cond}
+use mathlib.Core.List.{List, _∷_, _++_}
+use mathlib.Core.Bool.{Bool, true, false, not, cond}
 use mathlib.Core.Option.{Option, none, some}
 use mathlib.Core.Logic.{_≢_}
 use native.Mathlib.Omega.{arith}
-use lib.Dec.{eqb, leb, ltb}
+use lib.Dec.{eqb}
 use lib.ListN.{length, length-append, length-set, length-take, length-replicate, getD, getD-replicate, List·getD-append, List·getD-eq-default, take, drop, set, replicate}
 use lib.Seq.{getD-append-add, getD-set-same, getD-set-other, getD-take, set-out}
-use borrow.Author.Tests.{eq-eqb, ne-eqb, eqb-true, le-leb}
-use Rattle.laws.specs.Test.{both, not-yes, byTest, sameOr, leOr, cond-yes, cond-no}
+use borrow.Author.Tests.{eq-eqb, le-leb}
+use Rattle.laws.specs.Test.{both, not-yes, sameOr, leOr, cond-no}
 use Rattle.laws.specs.Bytes.{value, number}
-use Rattle.spec.specs.Ids.{Id, Ref}
-use Rattle.spec.specs.Store.{Resolution, bit}
-use Rattle.spec.specs.Chain.{Out, good, refuse}
+use Rattle.spec.specs.Store.{bit}
+use Rattle.spec.specs.Chain.{good}
 use Rattle.spec.specs.Walk.{refuse-back}
-use Rattle.spec.specs.Calls.{Call, StartArgs, start, resolve, remove}
+use Rattle.spec.specs.Calls.{Call, start, resolve, remove}
 use Rattle.models.specs.Digest.{words}
 use Rattle.trace.specs.Numbers.{numberAt, idAt}
-use Rattle.trace.specs.Head.{linksIn, sizeOf, fits, fieldsFit, fits-length, restAt, wholeAt, fieldsAt, whole-elim}
-use Rattle.trace.specs.Kinds.{Kind, kindOf, kindOk, known}
+use Rattle.trace.specs.Head.{linksIn, sizeOf, fits, fieldsFit, fits-length, restAt, fieldsAt, whole-elim}
+use Rattle.trace.specs.Kinds.{Kind, kindOf}
 use Rattle.trace.specs.Kinds as kind
-use Rattle.trace.specs.Fields.{flagIn, usedIn, startIn, sinceIn, linkIn, linksFrom, payloadFrom, resolutionIn, callBy}
+use Rattle.trace.specs.Fields.{flagIn, usedIn, startIn, sinceIn, linksFrom, resolutionIn, callBy}
 use Rattle.trace.specs.Codes.{Found, readAt}
 use Rattle.trace.specs.Write.{fieldsIn, recordBytes, recordOf}
-use Rattle.trace.specs.WriteBack.{AllBytes, bytes-part, Normal, WriteBack, write-back, ReadOf, read-of}
+use Rattle.trace.specs.WriteBack.{AllBytes, bytes-part, Normal, write-back, read-of}
 
 -- ---- bytes that agree but at some places
 

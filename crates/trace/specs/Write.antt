@@ -1,15 +1,15 @@
 -- Calls as records of a trace (02: N5).
 use Prim.Native.Nat.{ℕ, _+_, _^_}
 use mathlib.Core.List.{List, [], _∷_, _++_, map}
-use mathlib.Core.Bool.{Bool, true, false, not, _&&_, cond}
+use mathlib.Core.Bool.{Bool, true, false, not, _&&_}
 use mathlib.Core.Option.{Option, none, some}
 use lib.Dec.{eqb, leb, ltb}
 use lib.ListN.{length}
 use Rattle.laws.specs.Bytes.{be, written}
-use Rattle.laws.specs.Lists.{all, joined}
+use Rattle.laws.specs.Lists.{all}
 use Rattle.spec.specs.Ids.{Id, Ref}
 use Rattle.spec.specs.Store.{Resolution, bit}
-use Rattle.spec.specs.Chain.{Refusal, Out, bad, good, then, refuse}
+use Rattle.spec.specs.Chain.{Out, good, then, refuse}
 use Rattle.spec.specs.Calls.{Call, StartArgs, start, resetAll, round, name, resolve, certify, gapQuestion, commit, outlook, remove, drop}
 
 -- a field: its width in bytes and its number

@@ -1,32 +1,31 @@
 -- What was read is written as it stood, but for what is unread (02: N5).
 use Prim.Native.Nat.{ℕ, zero, suc, _+_, _-_, _*_, _/_, _%_, _^_, _<_, _≤_}
 use mathlib.Core.Path.{_≡_, refl, sym, ap, ap₂, _∙_, subst}
-use mathlib.Core.List.{List, [], _∷_, _++_, map, append-assoc, append-nil}
-use mathlib.Core.Bool.{Bool, true, false, not, _&&_, _||_, cond, false≢true}
+use mathlib.Core.List.{List, [], _∷_, _++_, map, append-nil}
+use mathlib.Core.Bool.{true, false, not, false≢true}
 use mathlib.Core.Option.{Option, none, some}
 use native.Mathlib.Omega.{arith}
-use native.Mathlib.Nat.{add-zero, zero-add}
-use lib.Dec.{eqb, leb, ltb}
-use lib.ListN.{length, length-append, length-take, length-drop, getD, take, drop, set, take-append-drop, List·getD-eq-default}
+use native.Mathlib.Nat.{add-zero}
+use lib.Dec.{eqb, leb}
+use lib.ListN.{length, length-take, length-drop, getD, take, drop, take-append-drop, List·getD-eq-default}
 use lib.Seq.{length-take-le, getD-take, getD-drop}
 use borrow.Author.Tests.{eq-eqb, ne-eqb, eqb-true, lt-ltb, le-leb, leb-true}
 use Rattle.laws.specs.Test.{both, and-l, and-r, not-yes, leOr, byTest, cond-yes, cond-no, sameOr}
 use Rattle.laws.specs.Lists.{all}
-use Rattle.laws.specs.Bytes.{be, be-length, be-bytes, Below, Bytes, value, number, number-same, number-fits, value-be-fits}
-use Rattle.spec.specs.Ids.{Id, Ref}
-use Rattle.spec.specs.Store.{Resolution, bit}
-use Rattle.spec.specs.Chain.{Out, bad, good, refuse}
+use Rattle.laws.specs.Bytes.{be, be-length, be-bytes, Below, value, number, number-same, number-fits, value-be-fits}
+use Rattle.spec.specs.Store.{bit}
+use Rattle.spec.specs.Chain.{good}
 use Rattle.spec.specs.Walk.{refuse-good, refuse-back}
 use Rattle.spec.specs.Calls.{Call}
 use Rattle.models.specs.Digest.{words, words-length}
 use Rattle.trace.specs.Numbers.{numberAt, idAt, words-append}
-use Rattle.trace.specs.Head.{linksIn, listsIn, sizeOf, fits, fieldsFit, fits-length, versionOk, restAt, wholeAt, part, fieldsAt, whole-elim}
+use Rattle.trace.specs.Head.{linksIn, sizeOf, fieldsFit, fits-length, versionOk, restAt, wholeAt, part, fieldsAt, whole-elim}
 use Rattle.trace.specs.Links.{words-right}
 use Rattle.trace.specs.Codes.{Found, readAt}
-use Rattle.trace.specs.Kinds.{Kind, kindOf, kindOk, known}
+use Rattle.trace.specs.Kinds.{Kind, kindOf, kindOk}
 use Rattle.trace.specs.Kinds as kind
-use Rattle.trace.specs.Fields.{flagIn, usedIn, startIn, sinceIn, linkIn, linksFrom, payloadFrom, resolutionIn, callBy}
-use Rattle.trace.specs.Write.{Field, field, fieldBytes, fitsField, idThen, flagField, usedByte, startFields, linkFields, marksByte, resolveFields, removeFields, fieldsOf, kindByte, is255, sayable, fieldsIn, recordBytes, recordOf}
+use Rattle.trace.specs.Fields.{usedIn, startIn, sinceIn, linksFrom, payloadFrom, resolutionIn, callBy}
+use Rattle.trace.specs.Write.{Field, field, fieldBytes, fitsField, idThen, usedByte, startFields, linkFields, marksByte, resolveFields, removeFields, fieldsOf, kindByte, is255, sayable, fieldsIn, recordBytes, recordOf}
 use Rattle.trace.specs.ReadBack.{byte-is, words-own, fields-append, lists-back, good-same, not-no}
 
 -- every element is a byte

@@ -10,7 +10,7 @@ use denote.Plain.{UInt}
 use denote.Array.{Array}
 use denote.Laws.{Is}
 use denote.Struct.Declared.{row}
-use lib.Dec.{leb, ltb}
+use lib.Dec.{leb}
 use lib.ListN.{length, length-map}
 use borrow.Author.Tests.{lt-ltb, le-ltb, le-leb, lt-leb}
 use Rattle.laws.specs.Test.{leOr, and-true}

@@ -1,15 +1,12 @@
 -- The calls of points as records.
-use Prim.Native.Nat.{ℕ, suc, _+_, _<_, _≤_}
+use Prim.Native.Nat.{ℕ, suc, _+_, _<_}
 use mathlib.Core.Path.{_≡_, refl, sym, ap, ap₂, _∙_}
 use mathlib.Core.List.{List, [], _∷_, map}
 use mathlib.Core.Bool.{Bool, true, _&&_}
-use native.Mathlib.Omega.{arith}
-use native.Mathlib.Numerals.{add-one}
-use lib.ListN.{length, getD, set, take, length-append}
-use lib.Seq.{take-suc, take-all, length-take-le}
+use lib.ListN.{length, getD, length-append}
 use Rattle.laws.specs.Test.{and-true}
 use Rattle.laws.specs.Lists.{all}
-use Rattle.laws.specs.Bytes.{written, written-append}
+use Rattle.laws.specs.Bytes.{written}
 use Rattle.spec.specs.Ids.{Id, idBytes}
 use Rattle.spec.specs.Calls.{name, certify, commit}
 use Rattle.trace.specs.Write.{field, fieldBytes, fitsField, idThen, fieldsOf, kindByte, sayable}
@@ -49,12 +46,3 @@ module _ (i : Id) (l : List ℕ) (h : (p : ℕ) → getD l p 0 < 256) where
 
   pub commit-put : (b b₁ d : List ℕ) (at e : ℕ) → b₁ ≡ written b at (idBytes i) → e ≡ at + 37 → d ≡ written b₁ e l → d ≡ written b at (fieldBytes (idThen i (map (field 1) l)))
   commit-put b b₁ d at e p n q = put-id b b₁ d at e i (map (field 1) l) p n (q ∙ ap (written b₁ e) (sym (bytes-are l h)))
-
--- one byte more
-pub bytes-more : (b d g xs : List ℕ) (at k : ℕ) → k < length xs → d ≡ written b at (take k xs) → g ≡ set d (at + k) (getD xs k 0) → g ≡ written b at (take (k + 1) xs)
-unfolding written
-bytes-more b d g xs at k l e q =
-    q ∙ (ap (λ (y : List ℕ). set y (at + k) (getD xs k 0)) e ∙ sym (ap (written b at) (ap (λ (n : ℕ). take n xs) (add-one k) ∙ take-suc xs k 0 l) ∙ written-append b at (take k xs) (getD xs k 0 ∷ []) (at + k) (ap (λ (n : ℕ). at + n) (sym (length-take-le k xs (omega arith))))))
-
-pub bytes-end : (b d xs : List ℕ) (at k : ℕ) → length xs ≤ k → d ≡ written b at (take k xs) → d ≡ written b at xs
-bytes-end b d xs at k l e = e ∙ ap (written b at) (take-all k xs l)

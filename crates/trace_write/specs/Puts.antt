@@ -12,6 +12,7 @@ use Rattle.laws.specs.Lists.{all}
 use Rattle.laws.specs.Bytes.{be, be-length, written, written-length, andThen}
 use Rattle.spec.specs.Chain.{Out, bad, good, then, refuse}
 use Rattle.spec.specs.Calls.{Call, numberOf, start, resetAll, round, name, resolve, certify, gapQuestion, commit, outlook, remove, drop}
+use Rattle.trace.specs.ReadBack.{record-size}
 use Rattle.trace.specs.Write.{Field, fieldBytes, fitsField, fieldsOf, kindByte, sayable, fieldsIn, recordBytes, recordOf, putRecord}
 
 -- what writing leaves: b, d the buffer before and after it, x the number of a refusal or 0, n the record's length or 0; l: that length
@@ -128,8 +129,8 @@ head-size : (n k : ℕ) → length (headBytes n k) ≡ 6
 unfolding headBytes
 head-size n k = length-append (be 4 (2 + n)) _ ∙ ap₂ _+_ (be-length 4 (2 + n)) (length-append (be 1 1) (be 1 k) ∙ ap₂ _+_ (be-length 1 1) (be-length 1 k))
 
-record-size : (k : ℕ) (xs : List ℕ) → length (recordBytes k xs) ≡ 6 + length xs
-record-size k xs = omega (arith, length-append (be 4 (2 + length xs)) (1 ∷ k ∷ xs), be-length 4 (2 + length xs))
+whole-size : (k : ℕ) (xs : List ℕ) → length (recordBytes k xs) ≡ 6 + length xs
+whole-size k xs = omega (arith, record-size k xs)
 
 -- the record of a call by the tests of the head
 then-tests : (b r : List ℕ) (u : Bool) → then (refuse (not u) 26 (good r)) (λ (x : List ℕ). refuse (ltb (length b) (length x)) 21 (good (written b 0 x))) ≡ tests u (ltb (length b) (length r)) (written b 0 r)
@@ -157,7 +158,7 @@ module _ {c : Call} {k : ℕ} {f : Bool} {n : ℕ} {fs : List Field} (said : Sai
           ≡ tests (f && leb (2 + n) 4096) (ltb (length b) (6 + n)) (written b 0 (recordBytes k (fieldBytes fs)))
       whole t =
           ap₂ (λ (u v : Bool). tests u v (written b 0 (recordBytes k (fieldBytes fs)))) (grouped ∙ ap (λ (m : ℕ). f && leb (2 + m) 4096) (sym (said .size t)))
-          (ap (ltb (length b)) (record-size k (fieldBytes fs) ∙ ap (λ (m : ℕ). 6 + m) (sym (said .size t))))
+          (ap (ltb (length b)) (whole-size k (fieldBytes fs) ∙ ap (λ (m : ℕ). 6 + m) (sym (said .size t))))
 
       unfit : f ≡ false → tests (sayable c && (all fitsField fs && leb (2 + length (fieldBytes fs)) 4096)) (ltb (length b) (length (recordBytes k (fieldBytes fs)))) (written b 0 (recordBytes k (fieldBytes fs)))
           ≡ tests (f && leb (2 + n) 4096) (ltb (length b) (6 + n)) (written b 0 (recordBytes k (fieldBytes fs)))
@@ -173,5 +174,5 @@ module _ {c : Call} {k : ℕ} {f : Bool} {n : ℕ} {fs : List Field} (said : Sai
         let t = tests-passed _ _ _ _ _ _ _ _ (o .left) z in
         let l = said .size (and-l _ _ (t .0)) in
         rw put-by
-        (tests-done _ _ _ _ _ _ b _ (t .0) (t .1) z (i ∙ ap (λ (y : ℕ). 6 + y) l ∙ sym (ap₂ (λ (y : ℕ) (gs : List Field). length (recordBytes y (fieldBytes gs))) (said .kind) (said .fields) ∙ record-size k (fieldBytes fs)))
+        (tests-done _ _ _ _ _ _ b _ (t .0) (t .1) z (i ∙ ap (λ (y : ℕ). 6 + y) l ∙ sym (ap₂ (λ (y : ℕ) (gs : List Field). length (recordBytes y (fieldBytes gs))) (said .kind) (said .fields) ∙ whole-size k (fieldBytes fs)))
         (andThen b d e 0 6 (headBytes n k) (fieldBytes fs) 6 (head-size n k) refl (t .2) q ∙ ap (written b 0) (sym (record-is n k (fieldBytes fs) (subst (λ (y : ℕ). be 1 y ≡ y ∷ []) (said .kind) (kind-byte c)) l))))

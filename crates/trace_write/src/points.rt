@@ -1,11 +1,8 @@
 // Origin: none.
 // Name, certify and commit as records.
-ghost use mathlib.Core.Path.{_≡_};
-ghost use Prim.Native.Nat.{ℕ, _+_, _≤_};
+ghost use Prim.Native.Nat.{ℕ};
 ghost use mathlib.Core.List.{List, []};
-ghost use lib.ListN.{length};
 ghost use Rattle.laws.specs.Lists.{all};
-ghost use Rattle.laws.specs.Bytes.{written};
 ghost use Rattle.spec.specs.Calls as calls;
 ghost use Rattle.models.specs.Parts.{idOf};
 ghost use Rattle.trace.specs.Write.{fitsField, idThen};
@@ -14,6 +11,7 @@ use crate::head::Written;
 use crate::head::id_fits;
 use crate::head::put_head;
 use crate::head::put_point;
+use answer_bytes::put_bytes;
 use models::output::ID_BYTES;
 use models::parts::PointId;
 use trace::codes::CERTIFY;
@@ -44,19 +42,6 @@ pub fn put_certify(b: &mut [u8], id: PointId) -> Written
     ensures { λ r. ⌜ Puts (now (b .entry)) (calls.certify (idOf id)) (r .refused) (r .length) (now (b .exit)) ⌝ }
 {
     put_named(b, CERTIFY, id)
-}
-
-// The bytes as they are.
-fn put_bytes(b: &mut [u8], at: usize, bytes: &[u8]) -> usize
-    requires { ⌜ at + length (now bytes) ≤ length (now b) ⌝ }
-    ensures { λ r. ⌜ (r ≡ at + length (now (bytes .entry))) × (now (b .exit) ≡ written (now (b .entry)) at (now (bytes .entry))) ⌝ }
-{
-    let mut k: usize = 0;
-    while k < bytes.len() {
-        b[at + k] = bytes[k];
-        k += 1;
-    }
-    at + k
 }
 
 // The call's own buffer isn't in its record.

@@ -25,7 +25,7 @@ abbrev Inv-loop : tie.InvT-loop
 Inv-loop keys₀ links₀ certs₀ order₀ answer₀ input₀ out₀ bench now₀ base₀ held₀ code₀ more₀ turns₀ keys links certs order answer input out now base held code more turns =
     (held ≤ length input) × (length answer₀ ≤ 4096)
     × (length keys ≡ length keys₀) × (length links ≡ length links₀) × (length certs ≡ length certs₀) × (length order ≡ length order₀) × (length answer ≡ length answer₀) × (length input ≡ length input₀) × (length out ≡ length out₀)
-    × Fed bench (zeros (length answer₀)) [] 0 (tables unstartedState keys₀ links₀ certs₀ order₀) (tables now keys links certs order) base code more (take held input)
+    × Fed bench (zeros (length answer₀)) (length input₀) [] 0 (tables unstartedState keys₀ links₀ certs₀ order₀) (tables now keys links certs order) base code more (take held input)
 
 abbrev μ-loop : tie.MeasureT-loop
 μ-loop keys₀ links₀ certs₀ order₀ answer₀ input₀ out₀ bench now₀ base₀ held₀ code₀ more₀ turns₀ keys links certs order answer input out now base held code more turns = turns
@@ -34,7 +34,7 @@ unstarted-requires : tie.Need-unstarted-requires Inv-loop μ-loop
 unstarted-requires c κs = search needs
 
 loop-holds : tie.Need-loop-holds Inv-loop μ-loop
-loop-holds c = (omega arith, c .before .before .before .before .before .before .before .before .pre, refl, refl, refl, refl, refl, refl, refl, fed-none _ _ _ _ _ _ _ _ _ (c .unstarted .ensures) refl)
+loop-holds c = (omega arith, c .before .before .before .before .before .before .before .before .pre, refl, refl, refl, refl, refl, refl, refl, fed-none _ _ _ _ _ _ _ _ _ _ (c .unstarted .ensures) refl)
 
 play-some-requires : tie.Need-play-some-requires Inv-loop μ-loop
 play-some-requires c κs = let i = c .before .before .before .before .before .before .before .before .loop .inv in (i .0, few _ _ (i .6) (i .1))
@@ -46,7 +46,7 @@ loop-less : tie.Need-loop-less Inv-loop μ-loop
 loop-less c = less _ (c .before .before .before .before .before .before .before .before .before .before .before .before .before .before .before .before .before .before .before .before .before .before .before .before .loop-test .taken)
 
 loop-again : tie.Need-loop-again Inv-loop μ-loop
-loop-again c = let i = c .before .before .before .before .before .before .before .before .before .before .before .before .before .before .before .before .before .before .before .before .before .before .before .before .before .loop .inv in let e = c .before .before .before .before .before .before .before .before .before .before .before .before .before .before .before .before .play-some .ensures in let k = c .before .before .before .before .before .before .before .before .before .before .before .before .before .before .before .before .play-some .kept in (e .0, i .1, k .1 .0 ∙ i .2, k .1 .1 .0 ∙ i .3, k .1 .1 .1 .0 ∙ i .4, k .1 .1 .1 .1 .0 ∙ i .5, k .1 .1 .1 .1 .1 .0 ∙ i .6, k .1 .1 .1 .1 .1 .1 .0 ∙ i .7, k .1 .1 .1 .1 .1 .1 .1 .0 ∙ i .8, fed-more _ _ _ (i .6) _ _ _ _ _ _ _ _ _ _ _ (i .9) (e .1))
+loop-again c = let i = c .before .before .before .before .before .before .before .before .before .before .before .before .before .before .before .before .before .before .before .before .before .before .before .before .before .loop .inv in let e = c .before .before .before .before .before .before .before .before .before .before .before .before .before .before .before .before .play-some .ensures in let k = c .before .before .before .before .before .before .before .before .before .before .before .before .before .before .before .before .play-some .kept in (e .0, i .1, k .1 .0 ∙ i .2, k .1 .1 .0 ∙ i .3, k .1 .1 .1 .0 ∙ i .4, k .1 .1 .1 .1 .0 ∙ i .5, k .1 .1 .1 .1 .1 .0 ∙ i .6, k .1 .1 .1 .1 .1 .1 .0 ∙ i .7, k .1 .1 .1 .1 .1 .1 .1 .0 ∙ i .8, fed-more _ _ _ _ _ (i .6) (i .7) _ _ _ _ _ _ _ _ _ _ _ (i .9) (e .1))
 
 same-length : tie.Need-same-length Inv-loop μ-loop
 same-length c = c .before .loop .inv .2
@@ -94,7 +94,7 @@ same-length-14 : tie.Need-same-length-14 Inv-loop μ-loop
 same-length-14 c = let i = c .before .before .before .before .before .before .before .before .before .before .before .before .before .before .before .before .before .before .before .before .before .before .before .before .before .loop .inv in let k = c .before .before .before .before .before .before .before .before .before .before .before .before .before .before .before .before .play-some .kept in k .1 .1 .1 .1 .1 .1 .1 .0 ∙ i .8
 
 returns-2 : tie.Need-returns-2 Inv-loop μ-loop
-returns-2 c = let i = c .before .before .before .before .before .before .before .before .before .before .before .before .before .before .before .before .before .before .before .before .before .before .before .before .before .loop .inv in let e = c .before .before .before .before .before .before .before .before .before .before .before .before .before .before .before .before .play-some .ensures in fed-more _ _ _ (i .6) _ _ _ _ _ _ _ _ _ _ _ (i .9) (e .1)
+returns-2 c = let i = c .before .before .before .before .before .before .before .before .before .before .before .before .before .before .before .before .before .before .before .before .before .before .before .before .before .loop .inv in let e = c .before .before .before .before .before .before .before .before .before .before .before .before .before .before .before .before .play-some .ensures in fed-more _ _ _ _ _ (i .6) (i .7) _ _ _ _ _ _ _ _ _ _ _ (i .9) (e .1)
 
 pub play-input-spec : {M : Type 1} → statement M
 play-input-spec =

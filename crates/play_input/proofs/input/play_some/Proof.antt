@@ -1,12 +1,14 @@
-use Prim.Native.Nat.{ℕ, _-_, _≤_}
+use Prim.Native.Nat.{ℕ, _-_, _<_, _≤_}
 use mathlib.Core.Path.{_≡_, sym, _∙_}
 use mathlib.Core.List.{List}
+use mathlib.Core.Bool.{true}
 use native.Mathlib.Omega.{arith}
 use lib.Dec.{ltb}
 use lib.ListN.{length, length-take, take}
 use lib.Seq.{length-take-le}
 use Rattle.play_input.specs.Fed.{fed-part}
 use borrow.Author.Needs.{needs}
+use borrow.Author.Tests.{ltb-true}
 use Rattle.play_input.proofs.input.play_some.Statement.{statement}
 use Rattle.play_input.proofs.input.play_some.Tie as tie
 
@@ -16,6 +18,9 @@ taken a n xs h = omega (arith, h, length-take n xs)
 
 rest-held : (a n l m : ℕ) → m ≡ l → n ≤ l → n - a ≤ m
 rest-held a n l m e h = omega arith
+
+not-full : (n l m : ℕ) → l ≡ m → ltb n l ≡ true → n < m
+not-full n l m e t = omega (arith, ltb-true n l t)
 
 slice-aggregate-play-part : tie.Need-slice-aggregate-play-part
 slice-aggregate-play-part c = sym (length-take-le _ _ (c .before .before .before .before .before .before .before .before .refill .ensures .1))
@@ -36,7 +41,13 @@ same-length-6 : tie.Need-same-length-6
 same-length-6 c = c .before .before .before .before .move-down .kept .0 ∙ c .before .before .before .before .before .before .before .before .before .before .before .before .before .before .before .before .before .before .before .before .before .before .before .before .before .before .before .before .before .before .before .refill .kept .0
 
 returns : tie.Need-returns
-returns c = let r = c .before .before .before .before .before .before .before .before .before .before .before .before .before .before .before .before .before .before .before .before .before .before .before .before .before .before .before .before .before .before .before .refill .ensures in let p = c .before .before .before .before .before .before .before .before .before .before .before .before .before .before .before .before .before .before .before .before .before .play-part .ensures in (rest-held _ _ _ _ (c .before .before .before .before .move-down .kept .0) (r .1), fed-part _ _ _ _ _ _ r _ _ _ _ _ (ltb (c .before .before .before .before .before .before .before .before .before .before .before .before .before .before .before .before .before .before .before .before .before .before .before .before .before .before .before .before .before .before .before .refill .result) (length (c .before .before .before .before .before .before .before .before .before .before .before .before .before .before .before .before .before .before .before .before .before .before .before .before .before .before .before .before .before .before .before .refill .last .0))) _ _ _ _ _ _ (p .0 .runs) (p .1 .1) (c .before .wrapping-add-u64 .ensures) (c .goes-on .ensures) (c .before .before .before .before .move-down .ensures))
+returns c =
+    let f = c .before .before .before .before .before .before .before .before .before .before .before .before .before .before .before .before .before .before .before .before .before .before .before .before .before .before .before .before .before .before .before .refill in
+    let r = f .ensures in
+    let p = c .before .before .before .before .before .before .before .before .before .before .before .before .before .before .before .before .before .before .before .before .before .play-part .ensures in (
+      rest-held _ _ _ _ (c .before .before .before .before .move-down .kept .0) (r .1),
+      fed-part _ _ _ _ _ _ r _ _ _ _ _ _ _ _ _ _ _ _ _ (p .0 .runs) (p .1 .1) (not-full _ _ _ (f .kept .0)) (c .before .wrapping-add-u64 .ensures) (c .goes-on .ensures) (c .before .before .before .before .move-down .ensures),
+    )
 
 pub play-some-spec : {M : Type 1} → statement M
 play-some-spec =

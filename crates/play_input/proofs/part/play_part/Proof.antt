@@ -1,7 +1,6 @@
 use borrow.Author.Needs.{needs}
 use Prim.Native.Nat.{ℕ, _+_, _-_, _<_, _≤_}
 use mathlib.Core.Path.{_≡_, refl, sym, _∙_}
-use mathlib.Core.Bool.{Bool, true, false}
 use mathlib.Core.Logic.{inl, inr}
 use native.Mathlib.Omega.{arith}
 use lib.ListN.{length}
@@ -33,12 +32,8 @@ fewer a b n l e k m = omega arith
 left-few : (a k n l m : ℕ) → n ≡ l → k ≡ m → n - a < k → l - a < m
 left-few a k n l m e f h = omega arith
 
-least-one : (last : Bool) → 1 ≤ leastLeft last
-least-one true = omega arith
-least-one false = omega arith
-
-some-left : (last : Bool) (a k n l : ℕ) → n ≡ l → k ≡ leastLeft last → k ≤ n - a → a < l
-some-left last a k n l e f h = omega (arith, least-one last)
+enough-left : (a k n l m : ℕ) → n ≡ l → k ≡ m → k ≤ n - a → m ≤ l - a
+enough-left a k n l m e f h = omega arith
 
 -- room for the lines of a call
 roomy : (put b b2 size out most : ℕ) → most ≡ b + 19 → b2 ≡ b → size ≡ out → put ≤ size → most ≤ size - put → put + b2 + 19 ≤ out
@@ -147,7 +142,7 @@ same-length-18 : tie.Need-same-length-18 Inv-loop μ-loop
 same-length-18 c = let i = c .before .before .before .before .before .before .before .before .before .before .before .before .before .before .before .before .before .before .before .before .before .before .before .loop .inv in let k = c .before .before .before .before .before .before .before .before .before .before .before .before .before .before .play-step .kept in k .1 .1 .1 .1 .1 .1 .1 .1 .0 ∙ i .13
 
 returns-3 : tie.Need-returns-3 Inv-loop μ-loop
-returns-3 c = let i = c .before .before .before .before .before .before .before .before .before .before .before .before .before .before .before .before .before .before .before .before .before .before .before .loop .inv in let e = c .before .before .before .before .before .before .before .before .before .before .before .before .before .before .play-step .ensures in let k = c .before .before .before .before .before .before .before .before .before .before .before .before .before .before .play-step .kept in (part-stays _ _ _ (i .12) _ _ _ _ _ _ _ _ _ _ _ _ (i .14) (e .1 .1) (e .0) (c .if2 .taken), (e .1 .0 .3, (inside _ _ _ (i .0) (i .1), λ z. absurd (c .if2 .taken z), λ _. (some-left (c .before .before .before .before .before .before .before .before .before .before .before .before .before .before .before .before .before .before .before .before .before .before .before .before .before .before .before .before .before .before .before .before .args .last) _ _ _ _ (i .0) (i .3) (c .before .before .before .before .before .before .before .before .before .before .before .before .before .before .before .before .before .before .before .before .before .before .loop-test .taken), e .0))))
+returns-3 c = let i = c .before .before .before .before .before .before .before .before .before .before .before .before .before .before .before .before .before .before .before .before .before .before .before .loop .inv in let e = c .before .before .before .before .before .before .before .before .before .before .before .before .before .before .play-step .ensures in let k = c .before .before .before .before .before .before .before .before .before .before .before .before .before .before .play-step .kept in (part-stays _ _ _ (i .12) _ _ _ _ _ _ _ _ _ _ _ _ (i .14) (e .1 .1) (e .0) (c .if2 .taken), (e .1 .0 .3, (inside _ _ _ (i .0) (i .1), λ z. absurd (c .if2 .taken z), λ _. (enough-left _ _ _ _ _ (i .0) (i .3) (c .before .before .before .before .before .before .before .before .before .before .before .before .before .before .before .before .before .before .before .before .before .before .loop-test .taken), e .0))))
 
 pub play-part-spec : {M : Type 1} → statement M
 play-part-spec =

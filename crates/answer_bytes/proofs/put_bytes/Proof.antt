@@ -4,9 +4,9 @@ use Prim.Native.Nat.{_-_, _≤_}
 use mathlib.Core.Path.{_≡_, refl, ap, _∙_}
 use lib.ListN.{length, take}
 use Rattle.laws.specs.Bytes.{written, written-length}
-use Rattle.trace_write.specs.Points.{bytes-more, bytes-end}
-use Rattle.trace_write.proofs.points.put_bytes.Statement.{statement}
-use Rattle.trace_write.proofs.points.put_bytes.Tie as tie
+use Rattle.answer_bytes.specs.Bytes.{bytes-more, bytes-end}
+use Rattle.answer_bytes.proofs.put_bytes.Statement.{statement}
+use Rattle.answer_bytes.proofs.put_bytes.Tie as tie
 
 abbrev Inv-loop : tie.InvT-loop
 Inv-loop b₀ at bytes k₀ b k = (b ≡ written b₀ at (take k bytes)) × (k ≤ length bytes)
