@@ -47,7 +47,7 @@ extern "C" {
  * the minor number for an addition. The patch number is raised for anything else. A number that is raised sets those after it to 0.
  */
 #define COMMITTER_VERSION_MAJOR 0
-#define COMMITTER_VERSION_MINOR 7
+#define COMMITTER_VERSION_MINOR 8
 #define COMMITTER_VERSION_PATCH 0
 
 /* As text, "major.minor.patch". */
@@ -161,9 +161,9 @@ extern "C" {
 #define COMMITTER_COMMIT_MAX (511u * COMMITTER_RECORD_BYTES(0) + COMMITTER_AS(size_t, COMMITTER_PLACES_MAX) * COMMITTER_ID_BYTES)
 
 /*
- * What an outlook writes for each anchor.
+ * What an outlook writes for each anchor. Its counts suppose that the anchors before it in the same outlook have been committed.
  *   0    id of the anchor
- *   37   number of points in its history (4)
+ *   37   number of points in its history (4), as many as the commit hands out with it
  *   41   for each round of its history, from the anchor's down to committer_lowest_round, the number of points linked in it (4), the
  *        anchor and committed ones too: the length of the round's place list
  */
@@ -183,11 +183,19 @@ extern "C" {
  * With a < b < c in a round, the list 1 2 0 says b, c, a, and they come out as a, c, b. The anchor's own round has the one byte 0; a round
  * without linked points has no byte. A round has at most 128 linked points, and an anchor's lists at most COMMITTER_PLACES_MAX bytes.
  *
- * An outlook tells how long the lists of its first anchor are. Those of a later one go by the marks that the anchors before it leave, and
- * may be shorter than what the outlook counts by the marks now. So a host commits anchor by anchor: it asks for the outlook, lends the
- * lists of the first anchor, and if more anchors wait, the commit is refused with 24 and 1 finished, since every anchor has a byte; then it
- * asks for the outlook again. An outlook that is refused for a later anchor tells no counts; they follow from the tables.
+ * An outlook tells how long the lists of all its anchors are, since the counts of each suppose those before it committed. So a host asks for
+ * one outlook, makes the lists of all anchors and makes one commit, with no call between. The lists have as many bytes as the linked counts
+ * add up to; the commit's buffer needs the sum of COMMITTER_RECORD_BYTES(n) over the anchors, n the number of points that is told. With the
+ * lists of the first anchors alone, as where a commit's record of a trace has no room for more, the commit is refused with 24 after these,
+ * since every anchor has a byte; the lists of the others are those of the same outlook, or of a new one. An outlook that is refused for a
+ * later anchor tells no counts; they follow from the tables.
  */
+
+/*
+ * A buffer of so many bytes has room for the place lists of any commit: of each of at most 511 anchors the byte of the anchor itself, and one
+ * for each link of a point, which is handed out with one anchor at most.
+ */
+#define COMMITTER_LISTS_MAX (511u + COMMITTER_AS(size_t, COMMITTER_PLACES_MAX) * 2u * COMMITTER_LINKS_MAX)
 
 /* ---- what a remove answers */
 
@@ -482,6 +490,7 @@ COMMITTER_ASSERT(bytes_of_the_tables, COMMITTER_TABLES_BYTES(COMMITTER_PLACES_MA
 COMMITTER_ASSERT(bytes_of_a_remove, COMMITTER_REMOVE_MAX == 5785509u);
 COMMITTER_ASSERT(bytes_of_a_commit, COMMITTER_COMMIT_MAX == 202141u);
 COMMITTER_ASSERT(bytes_of_an_outlook, COMMITTER_OUTLOOK_MAX == 511u * 1065u);
+COMMITTER_ASSERT(bytes_of_place_lists, COMMITTER_LISTS_MAX == 262655u);
 
 #undef COMMITTER_ASSERT
 
@@ -676,8 +685,8 @@ committer_reach committer_reach_of(
 #define COMMITTER_STACK_RESOLVE 83000u
 #define COMMITTER_STACK_CERTIFY 52000u
 #define COMMITTER_STACK_DROP 37000u
-#define COMMITTER_STACK_COMMIT 184000u
-#define COMMITTER_STACK_OUTLOOK 107000u
+#define COMMITTER_STACK_COMMIT 127000u
+#define COMMITTER_STACK_OUTLOOK 111000u
 #define COMMITTER_STACK_REMOVE 122000u
 #define COMMITTER_STACK_MERGE 100u
 
@@ -786,9 +795,11 @@ committer_reply committer_commit(committer_state state,
 /*
  * Tells which anchors a commit of this trigger would hand out, oldest first, without making it. Their number is in `anchors`, and
  * COMMITTER_LOOK_BYTES(rounds) bytes for each stand in the buffer one after the other, with the counts of its rounds at their end; the bytes
- * beyond them stay as they are. All numbers of points are counted from the committed marks now: a point that the histories of two anchors
- * reach is counted for both, and handed out with the first. Tables and state stay as they are, and the gap question needn't be put. The
- * buffer may have any length, and may be null with the length 0.
+ * beyond them stay as they are. The counts of an anchor suppose that the anchors before it in the same outlook have been committed: a point
+ * that the histories of two anchors reach is counted for the first, as it is handed out, and the numbers of points add up to those that the
+ * commit hands out. If no call lies between and the commit isn't refused, the commit's counts are the outlook's: the same anchors with as
+ * many points, and place lists as long as told; its buffer needs the sum of COMMITTER_RECORD_BYTES(n) over the anchors. Tables and state
+ * stay as they are, and the gap question needn't be put. The buffer may have any length, and may be null with the length 0.
  * Refused as the commit would be, in the same order of tests, but never with 20 or 24: 2; 5, 6, 5, 9; 13, 14, 25, 15, 16; 19; then for each
  * anchor 22; 13 to 15; 17; 18; 21 no COMMITTER_LOOK_BYTES(rounds) bytes left for it. A refused outlook writes no byte, and `anchors` is 0.
  */

@@ -203,11 +203,53 @@ static answer outlook(board *b, committer_point_id id, uint8_t *buffer, size_t l
     return a;
 }
 
+static uint32_t number_at(const uint8_t *bytes)
+{
+    return (uint32_t)bytes[0] << 24 | (uint32_t)bytes[1] << 16 | (uint32_t)bytes[2] << 8 | bytes[3];
+}
+
+/* The number of rounds of an anchor's history. */
+static uint32_t rounds_of(const committer_state *state, uint32_t anchor)
+{
+    return anchor + 1 - committer_lowest_round(state->genesis, state->commit_history_rounds, state->bottom, anchor);
+}
+
+/* What a commit takes and hands out by what an outlook tells of so many anchors: points, bytes of the place lists, bytes of the records. */
+typedef struct {
+    size_t points, lists, records;
+} sizes;
+
+static sizes sizes_of(const committer_state *state, const uint8_t *look, uint32_t anchors)
+{
+    sizes all = {0, 0, 0};
+    for (uint32_t i = 0; i < anchors; i++) {
+        uint32_t points = number_at(look + COMMITTER_ID_BYTES), rounds = rounds_of(state, number_at(look));
+        for (uint32_t n = 0; n < rounds; n++) {
+            all.lists += number_at(look + COMMITTER_LOOK_BYTES(n));
+        }
+        all.points += points;
+        all.records += COMMITTER_RECORD_BYTES(points);
+        look += COMMITTER_LOOK_BYTES(rounds);
+    }
+    return all;
+}
+
+/* The records of a commit are those that an outlook told of: the same anchors with as many points. */
+static void check_told(const committer_state *state, const uint8_t *look, const uint8_t *record, uint32_t anchors)
+{
+    for (uint32_t i = 0; i < anchors; i++) {
+        CHECK(memcmp(look, record, COMMITTER_ID_BYTES) == 0);
+        CHECK(number_at(look + COMMITTER_ID_BYTES) == number_at(record + 79));
+        look += COMMITTER_LOOK_BYTES(rounds_of(state, number_at(look)));
+        record += COMMITTER_RECORD_BYTES(number_at(record + 79));
+    }
+}
+
 /* Place lists and their length. */
 #define LISTS(...) (const uint8_t[]){__VA_ARGS__}, sizeof(const uint8_t[]){__VA_ARGS__}
 #define NO_LISTS NULL, 0
 
-/* With an outlook before it, which says the same unless the commit says 20, 24 or 21. */
+/* With an outlook before it, which says the same unless the commit says 20, 24 or 21, and has the counts of one that isn't refused. */
 static answer commit(board *b, committer_point_id id, const uint8_t *lists, size_t lists_len, uint8_t *buffer, size_t length)
 {
     static uint8_t large[COMMITTER_OUTLOOK_MAX];
@@ -220,6 +262,11 @@ static answer commit(board *b, committer_point_id id, const uint8_t *lists, size
     if (reply.refused != COMMITTER_GAP_QUESTION && reply.refused != COMMITTER_BAD_LISTS && reply.refused != COMMITTER_NO_ROOM) {
         CHECK(told == reply.refused && last_outlook.conflict == reply.conflict);
         CHECK(told != 0 || last_outlook.anchors == reply.anchors);
+    }
+    if (reply.refused == COMMITTER_DONE) {
+        sizes all = sizes_of(&b->state, large, reply.anchors);
+        CHECK(all.lists <= lists_len && all.lists <= COMMITTER_LISTS_MAX && all.records <= length);
+        check_told(&b->state, large, buffer, reply.anchors);
     }
     last_commit.anchors = reply.anchors;
     last_commit.conflict = reply.conflict;
@@ -1343,7 +1390,8 @@ static void check_lengths_of_outlook(board *b, const uint8_t *expected, size_t l
     free_board(&spare);
 }
 
-/* The second anchor counts the first one's points too, until they are committed; a refusal by the second leaves the buffer alone. */
+/* Two anchors whose histories don't overlap; what is told of the second stays when the first is committed; a refusal by the second leaves the
+ * buffer alone. */
 static void check_outlooks(void)
 {
     CHECK(COMMITTER_OUTLOOK_MAX == 511 * (41 + 4 * 256) && COMMITTER_OUTLOOK_MAX == 511 * 1065);
@@ -1454,7 +1502,7 @@ static void check_three_in_a_round(void)
     free_board(&b);
 }
 
-/* Lists for the first anchor alone: 24 with 1 finished, then those of the second, as a host commits. */
+/* Lists for the first anchor alone: 24 with 1 finished, then those of the second. */
 static void check_anchor_by_anchor(void)
 {
     board b = two_anchors(COMMITTER_VALID), whole = new_board(8);
@@ -1494,7 +1542,7 @@ static void check_committed_ones(void)
     uint8_t expected[COMMITTER_LOOK_BYTES(1) + COMMITTER_LOOK_BYTES(3)], bytes[ONE + 99 + 2 * 37], record[99 + 2 * 37];
     const uint8_t linked[3] = {1, 1, 1};
     size_t length = put_look(expected, first, 1, 1, linked);
-    length += put_look(expected + length, second, 3, 3, linked);
+    length += put_look(expected + length, second, 2, 3, linked);
     check_lengths_of_outlook(&b, expected, length, 2);
     CHECK(commit(&b, point(15, 0), LISTS(0, 0, 0), bytes, sizeof bytes).refused == COMMITTER_BAD_LISTS && last_commit.anchors == 1);
     check_lengths_of_outlook(&b, expected, put_look(expected, second, 2, 3, linked), 1);
@@ -1503,6 +1551,97 @@ static void check_committed_ones(void)
     put_record(record, second, 11, points, 2);
     CHECK(last_commit.anchors == 1 && memcmp(bytes + ONE, record, sizeof record) == 0);
     free_board(&b);
+}
+
+/* Writes place lists by what an outlook tells of so many anchors, each round's from the last place down, and says their length. */
+static size_t make_lists(const committer_state *state, const uint8_t *look, uint32_t anchors, uint8_t *lists)
+{
+    size_t length = 0;
+    for (uint32_t i = 0; i < anchors; i++) {
+        uint32_t rounds = rounds_of(state, number_at(look));
+        for (uint32_t n = 0; n < rounds; n++) {
+            for (uint32_t place = number_at(look + COMMITTER_LOOK_BYTES(n)); place > 0; place--) {
+                lists[length++] = (uint8_t)(place - 1);
+            }
+        }
+        look += COMMITTER_LOOK_BYTES(rounds);
+    }
+    return length;
+}
+
+/*
+ * Anchors 12.0 and 14.0 with H 4, the trigger 16.0; if broad, 14.0 includes 13.1 too, which includes 12.0 and 12.1. The second history
+ * reaches the first one's points, which are counted once.
+ */
+static board overlapping(bool broad)
+{
+    board b = started(10, used_beginning(4), 16);
+    put(&b, point(11, 0), COMMITTER_VALID, 0, point(10, 0), 0, point(11, 0), point(11, 0));
+    put_one(&b, point(12, 0), 0, point(10, 0), point(11, 0));
+    put_one(&b, point(13, 0), COMMITTER_PROOF, point(13, 0), point(12, 0));
+    if (broad) {
+        put_one(&b, point(12, 1), 0, point(10, 0), point(11, 0));
+        put(&b, point(13, 1), COMMITTER_VALID, 0, point(10, 0), 2, point(12, 0), point(12, 1));
+    }
+    put(&b, point(14, 0), COMMITTER_VALID, 0, point(13, 0), broad ? 2 : 1, point(13, 0), point(13, 1));
+    put_one(&b, point(15, 0), COMMITTER_PROOF, point(15, 0), point(14, 0));
+    put_one(&b, point(16, 0), COMMITTER_TRIGGER, point(13, 0), point(15, 0));
+    DONE(certify(&b, point(14, 0)));
+    return b;
+}
+
+/* The commit of 16.0 with so many bytes of lists and of buffer: refused after the first anchor, whose record is all that is written. */
+static void check_short(const board *b, uint32_t number, const uint8_t *lists, size_t lists_len, const uint8_t *records, size_t length)
+{
+    enum { FIRST = 99 + 2 * 37 };
+    uint8_t bytes[500];
+    board copy = new_board(b->places);
+    copy_board(&copy, b);
+    memset(bytes, 0xa5, sizeof bytes);
+    CHECK(commit(&copy, point(16, 0), lists, lists_len, bytes, length).refused == number && last_commit.anchors == 1);
+    CHECK(memcmp(bytes, records, FIRST) == 0);
+    for (size_t i = FIRST; i < sizeof bytes; i++) {
+        CHECK(bytes[i] == 0xa5);
+    }
+    free_board(&copy);
+}
+
+/* One outlook tells the place lists and the buffer of the commit of all anchors, to the byte. */
+static void check_sizes(void)
+{
+    static const uint8_t linked[2][4] = {{1, 1, 1, 0}, {1, 2, 2, 1}};
+    static const uint8_t points[2] = {2, 4};
+    static const size_t bytes_of_lists[2] = {5, 8};
+    for (int broad = 0; broad < 2; broad++) {
+        board b = overlapping(broad), spare = new_board(10);
+        uint8_t expected[106], looks[106], lists[8], records[500];
+        size_t length = put_look(expected, point(12, 0), 2, 2, (const uint8_t[]){1, 1});
+        length += put_look(expected + length, point(14, 0), points[broad], 4, linked[broad]);
+        CHECK(length == sizeof expected);
+        for (size_t room = 0; room <= length; room++) {
+            memset(looks, 0xa5, sizeof looks);
+            if (room < length) {
+                REFUSED(&b, &spare, COMMITTER_NO_ROOM, outlook(&b, point(16, 0), looks, room));
+                CHECK(looks[0] == 0xa5 && memcmp(looks, looks + 1, sizeof looks - 1) == 0);
+            } else {
+                copy_board(&spare, &b);
+                DONE(outlook(&b, point(16, 0), looks, room));
+                CHECK(last_outlook.anchors == 2 && same_board(&b, &spare) && memcmp(looks, expected, length) == 0);
+            }
+        }
+        sizes all = sizes_of(&b.state, looks, 2);
+        CHECK(all.points == 2u + points[broad] && all.lists == bytes_of_lists[broad]);
+        CHECK(all.records == COMMITTER_RECORD_BYTES(2) + COMMITTER_RECORD_BYTES(points[broad]) && all.records <= sizeof records);
+        CHECK(make_lists(&b.state, looks, 2, lists) == all.lists);
+        DONE(commit(&spare, point(16, 0), lists, all.lists, records, all.records));
+        CHECK(last_commit.anchors == 2);
+        check_short(&b, COMMITTER_NO_ROOM, lists, all.lists, records, all.records - 1);
+        check_short(&b, COMMITTER_BAD_LISTS, lists, all.lists - 1, records, all.records);
+        DONE(outlook(&spare, point(16, 0), NULL, 0));
+        CHECK(last_outlook.anchors == 0);
+        free_board(&b);
+        free_board(&spare);
+    }
 }
 
 /* ---- payloads */
@@ -1934,6 +2073,7 @@ int main(void)
     check_three_in_a_round();
     check_anchor_by_anchor();
     check_committed_ones();
+    check_sizes();
     check_payloads();
     check_freed_payloads();
     check_removes();

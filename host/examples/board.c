@@ -1,10 +1,9 @@
 /*
  * A board's use of the committer from C: case K13 of document 01. Genesis 10, H 2, a start at 10; the trigger 15.0 yields the anchor 13.0
- * with four points. Anchors are committed one by one, each with place lists by the counts of an outlook. What the outlook tells and the
- * anchor record are written as the lines that `replay` writes.
+ * with four points. One outlook tells the lengths of the place lists of all anchors and the buffer that they need; then they are committed at
+ * once. What the outlook tells and the anchor records are written as the lines that `replay` writes.
  */
 #include <inttypes.h>
-#include <stdbool.h>
 #include <stdio.h>
 #include <stdlib.h>
 
@@ -86,14 +85,14 @@ static uint32_t rounds_of(uint32_t anchor)
 }
 
 /* Prints what an outlook tells of an anchor. */
-static void print_look(const uint8_t *bytes)
+static void print_look(const uint8_t *look)
 {
-    uint32_t rounds = rounds_of(number(bytes));
+    uint32_t rounds = rounds_of(number(look));
     printf("outlook ");
-    print_id(bytes, ' ');
-    printf(" %" PRIu32 " linked", number(bytes + COMMITTER_ID_BYTES));
+    print_id(look, ' ');
+    printf(" %" PRIu32 " linked", number(look + COMMITTER_ID_BYTES));
     for (uint32_t n = 0; n < rounds; n++) {
-        printf(" %" PRIu32, number(bytes + COMMITTER_LOOK_BYTES(n)));
+        printf(" %" PRIu32, number(look + COMMITTER_LOOK_BYTES(n)));
     }
     putchar('\n');
 }
@@ -112,8 +111,8 @@ static size_t make_lists(const uint8_t *look, uint8_t *lists)
     return length;
 }
 
-/* Prints an anchor record. */
-static void print_record(const uint8_t *bytes)
+/* Prints an anchor record, and returns its length. */
+static size_t print_record(const uint8_t *bytes)
 {
     uint32_t points = number(bytes + 79);
     const uint8_t *sums = bytes + COMMITTER_SUMS_AT(points);
@@ -128,27 +127,29 @@ static void print_record(const uint8_t *bytes)
         print_id(bytes + 83 + i * COMMITTER_ID_BYTES, '.');
     }
     putchar('\n');
+    return COMMITTER_RECORD_BYTES(points);
 }
 
-/* Hands out the oldest anchor that a trigger yields, and says whether there was one. */
-static bool hand_out(committer_point_id trigger)
+/* Hands out the anchors that a trigger yields. The buffers have room for any outlook, lists and records; lent is as much as the outlook says. */
+static void hand_out(committer_point_id trigger)
 {
-    static uint8_t lists[COMMITTER_PLACES_MAX], buffer[COMMITTER_OUTLOOK_MAX]; /* the buffer has room for any commit too */
-    committer_reply reply = committer_outlook(state, TABLES, trigger, buffer, sizeof buffer);
+    static uint8_t looks[COMMITTER_OUTLOOK_MAX], lists[COMMITTER_LISTS_MAX], records[COMMITTER_COMMIT_MAX];
+    committer_reply reply = committer_outlook(state, TABLES, trigger, looks, sizeof looks);
     uint32_t told = keep("outlook", &reply);
-    if (told == 0) {
-        return false;
+    size_t lists_len = 0, records_len = 0;
+    const uint8_t *look = looks;
+    for (uint32_t i = 0; i < told; i++) {
+        print_look(look);
+        lists_len += make_lists(look, lists + lists_len);
+        records_len += COMMITTER_RECORD_BYTES(number(look + COMMITTER_ID_BYTES));
+        look += COMMITTER_LOOK_BYTES(rounds_of(number(look)));
     }
-    print_look(buffer);
-    reply = committer_commit(state, TABLES, trigger, lists, make_lists(buffer, lists), buffer, sizeof buffer);
-    /* no byte is left for the lists of the next anchor, if there is one */
-    if (told > 1 && reply.refused == COMMITTER_BAD_LISTS && reply.anchors == 1) {
-        state = reply.state;
-    } else {
-        keep("commit", &reply);
+    reply = committer_commit(state, TABLES, trigger, lists, lists_len, records, records_len);
+    uint32_t handed = keep("commit", &reply);
+    const uint8_t *record = records;
+    for (uint32_t i = 0; i < handed; i++) {
+        record += print_record(record);
     }
-    print_record(buffer);
-    return true;
 }
 
 int main(void)
@@ -171,7 +172,6 @@ int main(void)
     reply = committer_certify(state, TABLES, anchor);
     keep("certify", &reply);
 
-    while (hand_out(trigger)) {
-    }
+    hand_out(trigger);
     return 0;
 }

@@ -4,8 +4,8 @@
 //! down. Peer 0's are anchors in 12 and 14 with their proofs in 13 and 15, and the trigger in 16.
 
 use committer::{
-    Anchor, COMMIT_BYTES_MAX, Committer, Link, Look, OUTLOOK_BYTES_MAX, Point, PointId, PointInfo, Refusal, Refused,
-    Start, Status, anchors, looks,
+    Anchor, CommitSizes, Committer, Link, Look, OUTLOOK_BYTES_MAX, Point, PointId, PointInfo, Refused, Start, Status,
+    anchors, lists_in_order, looks,
 };
 
 const GENESIS: u32 = 10;
@@ -41,10 +41,16 @@ fn main() -> Result<(), Refused> {
     }
     print(&board);
 
-    println!("the anchors of the trigger in {TOP}:");
-    while let Some(look) = first_look(&board, &point_id(TOP, 0))? {
-        println!("  {} points, {:?} linked in its rounds", look.points, look.linked);
-        let anchor = hand_out(&mut board, &point_id(TOP, 0), &look)?;
+    println!("the outlook of the trigger in {TOP}:");
+    let told = outlook(&board, &point_id(TOP, 0))?;
+    for Look { anchor, points, linked } in &told {
+        println!("  {}.{}: {points} points, {linked:?} linked in its rounds", anchor.round, anchor.author);
+    }
+    let CommitSizes { points, lists, records } = CommitSizes::of(&told);
+    println!("  in all {points} points, {lists} bytes of lists, {records} bytes of records");
+
+    println!("its anchors:");
+    for anchor in hand_out(&mut board, &point_id(TOP, 0), &told)? {
         let points: Vec<String> = anchor.points.iter().map(|id| format!("{}.{}", id.round, id.author)).collect();
         println!("  {}.{}: {}", anchor.anchor.round, anchor.anchor.author, points.join(" "));
         println!("  payload {} of {} bytes", anchor.payload_len, anchor.payload_bytes);
@@ -58,23 +64,20 @@ fn main() -> Result<(), Refused> {
     Ok(())
 }
 
-/// What an outlook tells of the oldest anchor that a trigger yields, if there is one.
-fn first_look(board: &Committer, trigger: &PointId) -> Result<Option<Look>, Refused> {
+/// What an outlook tells of the anchors that a trigger yields.
+fn outlook(board: &Committer, trigger: &PointId) -> Result<Vec<Look>, Refused> {
     let mut buffer = vec![0; OUTLOOK_BYTES_MAX];
     let told = board.outlook(trigger, &mut buffer)?;
     let (_, state) = board.parts();
-    Ok(looks(&buffer, told.min(1), state).pop())
+    Ok(looks(&buffer, told, state))
 }
 
-/// The oldest anchor, handed out with lists for it alone: if there are more of them, that is 24 after it. A real host
-/// shuffles each list.
-fn hand_out(board: &mut Committer, trigger: &PointId, look: &Look) -> Result<Anchor, Refused> {
-    let mut buffer = vec![0; COMMIT_BYTES_MAX];
-    match board.commit(trigger, &look.lists_in_order(), &mut buffer) {
-        Ok(_) | Err(Refused { refusal: Refusal::BadLists, finished: 1 }) => {}
-        Err(why) => return Err(why),
-    }
-    Ok(anchors(&buffer, 1).remove(0))
+/// These anchors, handed out at once, with lists and a buffer of just the sizes that were told. A real host shuffles each
+/// list.
+fn hand_out(board: &mut Committer, trigger: &PointId, told: &[Look]) -> Result<Vec<Anchor>, Refused> {
+    let mut buffer = vec![0; CommitSizes::of(told).records];
+    let handed = board.commit(trigger, &lists_in_order(told), &mut buffer)?;
+    Ok(anchors(&buffer, handed))
 }
 
 /// A stand-in for the digest that a real point has.

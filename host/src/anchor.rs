@@ -43,8 +43,13 @@ impl fmt::Display for Anchor {
 impl Anchor {
     /// The length of its record.
     pub fn bytes(&self) -> usize {
-        RECORD_BYTES + ID_BYTES * self.points.len()
+        record_bytes(self.points.len())
     }
+}
+
+/// The length of a record with so many points.
+fn record_bytes(points: usize) -> usize {
+    RECORD_BYTES + ID_BYTES * points
 }
 
 /// The anchors of so many records that stand one after the other from the first byte on. Fewer if the bytes end before.
@@ -62,14 +67,15 @@ fn anchor(rest: &mut &[u8]) -> Option<Anchor> {
     Some(Anchor { anchor, proof, executable: executable != 0, previous, points, payload_len, payload_bytes })
 }
 
-/// What an outlook tells of an anchor.
+/// What an outlook tells of an anchor. Its counts suppose that the anchors before it in the same outlook have been
+/// committed; if no call lies between and the commit isn't refused, they are the commit's.
 #[derive(Clone, Debug, PartialEq, Eq, Hash)]
 pub struct Look {
     pub anchor: PointId,
-    /// of its history, by the committed marks at the outlook
+    /// of its history, as many as the commit hands out with it
     pub points: u32,
     /// how many points are linked in each round of its history, the anchor and committed ones too, the anchor's round
-    /// first: the lengths of its place lists, by the committed marks at the outlook
+    /// first: the lengths of its place lists
     pub linked: Vec<u32>,
 }
 
@@ -90,6 +96,33 @@ impl Look {
     /// The place lists of a shuffle that leaves every round's points by rising digest; they come out by falling digest.
     pub fn lists_in_order(&self) -> Vec<u8> {
         self.linked.iter().flat_map(|count| (0..*count).map(|place| place as u8)).collect()
+    }
+}
+
+/// The place lists of all anchors of an outlook, as a commit is lent them, each as [`Look::lists_in_order`] makes it.
+pub fn lists_in_order(looks: &[Look]) -> Vec<u8> {
+    looks.iter().flat_map(Look::lists_in_order).collect()
+}
+
+/// What the commit of all anchors of an outlook takes and hands out.
+#[derive(Clone, Copy, Debug, Default, PartialEq, Eq, Hash)]
+pub struct CommitSizes {
+    /// points of all histories
+    pub points: usize,
+    /// bytes of all place lists; [`Look::linked`] has the length of each
+    pub lists: usize,
+    /// bytes of all records: as many as its buffer needs
+    pub records: usize,
+}
+
+impl CommitSizes {
+    pub fn of(looks: &[Look]) -> CommitSizes {
+        let points = || looks.iter().map(|look| look.points as usize);
+        CommitSizes {
+            points: points().sum(),
+            lists: looks.iter().flat_map(|look| &look.linked).map(|count| *count as usize).sum(),
+            records: points().map(record_bytes).sum(),
+        }
     }
 }
 

@@ -2,7 +2,8 @@
 //!
 //! [`Committer`] owns the tables and the state. Every call on every input has an answer: a call that can't be done is
 //! refused with a number ([`Refusal`]) and changes nothing, but for the anchors that a commit finished before. What a
-//! commit would hand out, an outlook tells without a change; what a remove drains, it reports.
+//! commit would hand out, an outlook tells without a change, and how long its lists and records are ([`CommitSizes`]);
+//! what a remove drains, it reports.
 
 mod anchor;
 mod game;
@@ -15,7 +16,7 @@ pub mod sys;
 mod types;
 mod version;
 
-pub use anchor::{Anchor, LOOK_BYTES, Look, RECORD_BYTES, anchors, looks};
+pub use anchor::{Anchor, CommitSizes, LOOK_BYTES, Look, RECORD_BYTES, anchors, lists_in_order, looks};
 pub use game::{Game, Reach};
 pub use pcg::Pcg;
 pub use record::Call;
@@ -230,17 +231,18 @@ impl Committer {
     /// 15, 16, 19, then for each anchor 22, 13 to 15, 17, 18, 20, 24, 21. The records of the finished anchors
     /// ([`Refused::finished`]) then stand in the buffer, and what these anchors changed stays.
     ///
-    /// An outlook tells the lengths of the first anchor's lists ([`Look::linked`]). With these lists and more anchors it
-    /// is 24 after the first, and the outlook is asked again.
+    /// An outlook tells the lengths of all lists ([`Look::linked`]) and the buffer needed ([`CommitSizes`]), if no call
+    /// lies between. With the lists of the first anchors alone it is 24 after these.
     pub fn commit(&mut self, trigger: &PointId, lists: &[u8], buffer: &mut [u8]) -> Result<u32, Refused> {
         let (room, length) = (buffer.as_mut_ptr(), buffer.len());
         run!(self, committer_commit, trigger.into(), lists.as_ptr(), lists.len(), room, length).map(|kept| kept.anchors)
     }
 
     /// The anchors that a commit of this trigger would hand out now, oldest first, each with the number of points in
-    /// its history and of those linked in each round of it, by the committed marks now; they stand at the beginning of
-    /// the buffer ([`looks`] reads them). Returned is their number. Refused as the commit would be, but never with 20
-    /// or 24, and with 21 for its own buffer; then the buffer stays as it is.
+    /// its history and of those linked in each round of it, the anchors before it taken as committed; they stand at the
+    /// beginning of the buffer ([`looks`] reads them). Returned is their number. If no call lies between and the commit
+    /// isn't refused, its counts are these. Refused as the commit would be, but never with 20 or 24, and with 21 for its
+    /// own buffer; then the buffer stays as it is.
     pub fn outlook(&self, trigger: &PointId, buffer: &mut [u8]) -> Result<u32, Refused> {
         ask!(self, committer_outlook, trigger.into(), buffer.as_mut_ptr(), buffer.len()).map(|kept| kept.anchors)
     }

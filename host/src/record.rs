@@ -161,7 +161,11 @@ fn decoded(bytes: &[u8], bench: bool) -> Result<(Call, usize), Refusal> {
     let (version, kind, fields) = (rest[0], rest[1], &rest[2..]);
     let length = 4 + rest.len();
     if bench && (version, kind) == (VERSION, OUTLOOK) {
-        return if fields.len() == ID_BYTES { Ok((Call::Outlook(id(fields)), length)) } else { Err(Refusal::BadRecord) };
+        return if fields.len() == ID_BYTES {
+            Ok((Call::Outlook(id(fields)), length))
+        } else {
+            Err(Refusal::BadRecord)
+        };
     }
     if version != VERSION || !(1..=10).contains(&kind) {
         return Err(Refusal::UnknownRecord);

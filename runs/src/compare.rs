@@ -10,7 +10,7 @@ use crate::counts::Counts;
 use crate::known::{self, Known, Strict, Tried};
 use crate::library::Side;
 use crate::lists::commit;
-use crate::outlook;
+use crate::outlook::{self, Compared};
 use crate::removes;
 use crate::rules::{Due, due};
 use crate::rust::Rust;
@@ -58,7 +58,7 @@ pub enum Kind {
     Lists,
     /// the inspector's memory
     Memory,
-    /// an outlook tells other anchors than the commit hands out, or isn't refused as it is
+    /// an outlook tells other anchors or counts than the commit hands out, or isn't refused as it is
     Outlook,
 }
 
@@ -146,9 +146,12 @@ impl<'a, S: Side> Pair<'a, S> {
 
     fn step(&mut self, call: &'a Call, counts: &mut Counts) -> Result<Next, Found> {
         let first = self.first(call);
-        if let (Call::Commit(trigger, _) | Call::Outlook(trigger), Some(first)) = (call, &first) {
-            self.outlook(trigger, &first.lists, counts)?;
-        }
+        let told = match (call, &first) {
+            (Call::Commit(trigger, _) | Call::Outlook(trigger), Some(first)) => {
+                Some(self.outlook(trigger, &first.lists, counts)?)
+            }
+            _ => None,
+        };
         if let Call::Remove { round, since } = call {
             let tried = removes::smaller_buffers(&self.ours, *round, *since, &self.view);
             counts.removes_cut(tried.map_err(|text| (Kind::Buffer, format!("remove: {text}")))?);
@@ -160,6 +163,10 @@ impl<'a, S: Side> Pair<'a, S> {
         if let (Call::Commit(..), Some(first)) = (call, &first) {
             self.records(&answer, &first.lists, &view, counts)?;
         }
+        if let (Answer::Anchors(anchors), Some(told), Some(first)) = (&answer, &told, &first) {
+            outlook::handed_as_told(told, anchors, &first.lists).map_err(of_outlook)?;
+            counts.as_told(anchors.len());
+        }
         if let Answer::Refused(why) = &answer {
             counts.call(call, Some(why.number));
             if why.finished.is_empty() {
@@ -168,6 +175,7 @@ impl<'a, S: Side> Pair<'a, S> {
                 if !matches!(call, Call::Outlook(_)) {
                     self.tried(call, why, first, counts)?;
                 }
+                refused_as_told(told.as_ref(), &answer)?;
                 return Ok(Next::On);
             }
         } else {
@@ -177,7 +185,9 @@ impl<'a, S: Side> Pair<'a, S> {
         self.fingerprint = fingerprint;
         self.follow(call, &answer);
         let before = std::mem::replace(&mut self.view, view);
-        self.both(call, &answer, &before, first, counts)
+        let next = self.both(call, &answer, &before, first, counts)?;
+        refused_as_told(told.as_ref(), &answer)?;
+        Ok(next)
     }
 
     /// The Rust commits first: what its shuffles keep is lent to ours. For an outlook another oracle does.
@@ -232,10 +242,10 @@ impl<'a, S: Side> Pair<'a, S> {
     }
 
     /// The outlook of a trigger tells what its commit does, on a copy.
-    fn outlook(&self, trigger: &PointId, lists: &PlaceLists, counts: &mut Counts) -> Result<(), Found> {
-        let compared = outlook::compared(&self.ours, trigger, lists, &self.taken, &self.view);
-        counts.looked(&compared.map_err(|text| (Kind::Outlook, format!("outlook: {text}")))?);
-        Ok(())
+    fn outlook(&self, trigger: &PointId, lists: &PlaceLists, counts: &mut Counts) -> Result<Compared, Found> {
+        let compared = outlook::compared(&self.ours, trigger, lists, &self.taken, &self.view).map_err(of_outlook)?;
+        counts.looked(&compared);
+        Ok(compared)
     }
 
     /// 1 to 12 and 23 are given where document 01 asks for them and nowhere else.
@@ -494,6 +504,18 @@ impl<'a, S: Side> Pair<'a, S> {
             return Ok(Next::On);
         }
         Err((Kind::Points, format!("after {}: {}", name(call), points_text(&self.view, &rust))))
+    }
+}
+
+fn of_outlook(text: String) -> Found {
+    (Kind::Outlook, format!("outlook: {text}"))
+}
+
+/// The outlook before a refused commit was refused likewise, where it has to be.
+fn refused_as_told(told: Option<&Compared>, answer: &Answer) -> Result<(), Found> {
+    match (told, answer) {
+        (Some(told), Answer::Refused(why)) => outlook::refused_as_told(told, why).map_err(of_outlook),
+        _ => Ok(()),
     }
 }
 

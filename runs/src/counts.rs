@@ -45,8 +45,10 @@ pub struct Counts {
     pub outlooks_refused: BTreeMap<u32, u64>,
     /// outlooks into smaller buffers
     pub outlook_buffers: u64,
-    /// outlooks whose first linked counts are the lengths of the Rust's shuffles
-    pub outlooks_shuffled: u64,
+    /// anchors of outlooks whose linked counts are the lengths of the Rust's shuffles: the first ones, those after them
+    pub outlooks_shuffled: [u64; 2],
+    /// commits that weren't refused and had the counts of the outlook before them, by anchors
+    pub as_told: BTreeMap<usize, u64>,
     /// removes that both took, by rounds drained
     pub removes: BTreeMap<usize, u64>,
     /// removes into smaller buffers
@@ -126,13 +128,24 @@ impl Counts {
 
     pub fn looked(&mut self, compared: &Compared) {
         match compared {
-            Compared::Anchors { anchors, buffers, shuffled } => {
-                self.outlooks_shuffled += u64::from(*shuffled);
-                *self.outlooks.entry(*anchors).or_default() += 1;
+            Compared::Anchors { looks, buffers, shuffled } => {
+                self.outlooks_shuffled[0] += u64::from(*shuffled > 0);
+                self.outlooks_shuffled[1] += shuffled.saturating_sub(1) as u64;
+                *self.outlooks.entry(looks.len()).or_default() += 1;
                 self.outlook_buffers += buffers;
             }
-            Compared::Refused(number) => *self.outlooks_refused.entry(*number).or_default() += 1,
+            Compared::Refused(why) => *self.outlooks_refused.entry(why.number()).or_default() += 1,
         }
+    }
+
+    /// A commit of so many anchors that had the outlook's counts.
+    pub fn as_told(&mut self, anchors: usize) {
+        *self.as_told.entry(anchors).or_default() += 1;
+    }
+
+    /// Those of two anchors or more.
+    pub fn several_as_told(&self) -> u64 {
+        self.as_told.iter().filter(|(anchors, _)| **anchors > 1).map(|(_, times)| times).sum()
     }
 
     pub fn removes_cut(&mut self, buffers: u64) {
@@ -206,7 +219,12 @@ impl Counts {
             *self.outlooks_refused.entry(*number).or_default() += times;
         }
         self.outlook_buffers += other.outlook_buffers;
-        self.outlooks_shuffled += other.outlooks_shuffled;
+        for (ours, others) in self.outlooks_shuffled.iter_mut().zip(other.outlooks_shuffled) {
+            *ours += others;
+        }
+        for (anchors, times) in &other.as_told {
+            *self.as_told.entry(*anchors).or_default() += times;
+        }
         for (rounds, times) in &other.removes {
             *self.removes.entry(*rounds).or_default() += times;
         }
@@ -277,7 +295,17 @@ impl fmt::Display for Counts {
             self.outlooks_with_anchors()
         )?;
         writeln!(f, "outlooks by anchors: {}", listed(&self.outlooks))?;
-        writeln!(f, "outlooks with the first counts of the Rust's shuffles: {}", self.outlooks_shuffled)?;
+        let [first, later] = self.outlooks_shuffled;
+        writeln!(
+            f,
+            "anchors of outlooks with the counts of the Rust's shuffles: {first} first ones, {later} later ones"
+        )?;
+        let several = self.several_as_told();
+        writeln!(
+            f,
+            "commits with the outlook's counts, by anchors: {}; of two or more: {several}",
+            listed(&self.as_told)
+        )?;
         writeln!(f, "outlooks refused as the commit is, by number: {}", listed(&self.outlooks_refused))?;
         writeln!(f, "outlooks into buffers that are too small: {}", self.outlook_buffers)?;
         writeln!(f, "removes by rounds drained: {}", listed(&self.removes))?;

@@ -68,22 +68,7 @@ impl Side for Library {
     }
 
     fn view(&self) -> View {
-        let memory = memory(&self.committer.memory());
-        let Some(summary) = self.committer.summary() else {
-            return View { memory, ..View::default() };
-        };
-        let state = State {
-            bottom: summary.bottom,
-            top: summary.top,
-            last_committed_proof: summary.last_committed_proof,
-            full_history_bottom: summary.full_history_bottom,
-            first_executable: summary.first_executable,
-            emit_first_after_gap: summary.emit_first_after_gap,
-            rounds: (summary.rounds.iter())
-                .map(|round| Round { round: round.round, peers: round.peers, used: round.used })
-                .collect(),
-        };
-        View { state: Some(state), points: self.committer.points().iter().map(point).collect(), memory }
+        view(&self.committer)
     }
 
     fn fingerprint(&self) -> u64 {
@@ -102,25 +87,17 @@ impl Side for Library {
         let mut copy = self.committer.clone();
         // refused with 2 where nothing is started; so is the commit
         let _ = copy.gap_question();
-        let mut handed = Vec::new();
-        let mut lists = lists.to_vec();
-        loop {
-            let mut buffer = vec![UNTOUCHED; LARGE];
-            match copy.commit(trigger, &lists, &mut buffer) {
-                Ok(count) => {
-                    handed.extend(anchors(&buffer, count));
-                    return Ok(handed);
-                }
-                Err(why) if why.refusal == Refusal::BadLists && (why.finished > 0 || lists.is_empty()) => {
-                    handed.extend(anchors(&buffer, why.finished));
-                    lists = first_lists(&copy, trigger)?;
-                    if lists.is_empty() {
-                        return Err(why);
-                    }
-                }
-                Err(why) => return Err(why),
-            }
-        }
+        let mut buffer = vec![UNTOUCHED; LARGE];
+        let short = match copy.commit(trigger, lists, &mut buffer) {
+            Ok(count) => return Ok(anchors(&buffer, count)),
+            Err(why) if why.refusal == Refusal::BadLists && (why.finished > 0 || lists.is_empty()) => why,
+            Err(why) => return Err(why),
+        };
+        let mut handed = anchors(&buffer, short.finished);
+        let rest = lists_told(&copy, trigger)?;
+        let count = copy.commit(trigger, &rest, &mut buffer)?;
+        handed.extend(anchors(&buffer, count));
+        Ok(handed)
     }
 
     fn would_remove(&self, round: u32, since: Option<u32>, buffer: &mut [u8]) -> (Result<(), committer::Refused>, u64) {
@@ -144,35 +121,17 @@ impl Library {
     }
 }
 
-/// The place lists of the first anchor that a commit hands out, nothing shuffled.
-fn first_lists(committer: &Committer, trigger: &PointId) -> Result<Vec<u8>, committer::Refused> {
+/// The place lists of all anchors that a commit hands out, nothing shuffled, as long as its outlook tells.
+fn lists_told(committer: &Committer, trigger: &PointId) -> Result<Vec<u8>, committer::Refused> {
     let mut buffer = vec![UNTOUCHED; OUTLOOK_BYTES_MAX];
     let count = committer.outlook(trigger, &mut buffer)?;
-    Ok(looks(&buffer, count, committer.parts().1).first().map_or(Vec::new(), Look::lists_in_order))
+    Ok(committer::lists_in_order(&looks(&buffer, count, committer.parts().1)))
 }
 
-/// The place lists of all anchors that a commit hands out, nothing shuffled: an outlook tells the lengths of the first one's, so the others'
-/// are asked for on a copy. None where the outlook is refused.
-pub fn lists_in_order(committer: &Committer, trigger: &PointId) -> Vec<u8> {
-    let mut copy = committer.clone();
-    let mut buffer = vec![UNTOUCHED; LARGE];
-    let mut all = Vec::new();
-    while let Ok(lists) = first_lists(&copy, trigger)
-        && !lists.is_empty()
-    {
-        let given = copy.commit(trigger, &lists, &mut buffer);
-        all.extend(lists);
-        if !given.is_err_and(|why| why.refusal == Refusal::BadLists && why.finished > 0) {
-            break;
-        }
-    }
-    all
-}
-
-/// The call, or the commit with the place lists that hand out most on this committer, nothing shuffled.
+/// The call, or the commit with the place lists of all its anchors on this committer, nothing shuffled; with none where its outlook is refused.
 pub fn with_lists(committer: &Committer, call: &Call) -> Call {
     match call {
-        Call::Commit(trigger, _) => Call::Commit(*trigger, lists_in_order(committer, trigger)),
+        Call::Commit(trigger, _) => Call::Commit(*trigger, lists_told(committer, trigger).unwrap_or_default()),
         _ => call.clone(),
     }
 }
@@ -189,6 +148,26 @@ fn fingerprint(committer: &Committer) -> u64 {
     }
     sum.bytes(&state.to_bytes());
     sum.total()
+}
+
+/// What it holds.
+pub fn view(committer: &Committer) -> View {
+    let memory = memory(&committer.memory());
+    let Some(summary) = committer.summary() else {
+        return View { memory, ..View::default() };
+    };
+    let state = State {
+        bottom: summary.bottom,
+        top: summary.top,
+        last_committed_proof: summary.last_committed_proof,
+        full_history_bottom: summary.full_history_bottom,
+        first_executable: summary.first_executable,
+        emit_first_after_gap: summary.emit_first_after_gap,
+        rounds: (summary.rounds.iter())
+            .map(|round| Round { round: round.round, peers: round.peers, used: round.used })
+            .collect(),
+    };
+    View { state: Some(state), points: committer.points().iter().map(point).collect(), memory }
 }
 
 /// By peer: its points, and of the entries with its bit those of each previous digest, which rise.

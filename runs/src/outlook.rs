@@ -1,5 +1,5 @@
-//! Outlooks. The Rust has none: each is compared with the commit of the same trigger, made on a copy, and the first anchor's linked counts
-//! with the lengths of the Rust's shuffles.
+//! Outlooks. The Rust has none: each is compared with the commit of the same trigger, made on a copy, and the linked counts of its anchors with
+//! the lengths of the Rust's shuffles. What it told is then compared with the commit that follows.
 
 use std::collections::{HashMap, HashSet};
 
@@ -8,17 +8,17 @@ use oracle::PlaceLists;
 
 use crate::compare::in_a_row;
 use crate::library::{Side, UNTOUCHED};
-use crate::view::View;
+use crate::view::{self, View};
 
 /// What was found the same.
 pub enum Compared {
-    /// so many anchors, how many smaller buffers were refused, and whether the Rust came to the first anchor
+    /// what was told, how many smaller buffers were refused, and how many anchors the Rust came to
     Anchors {
-        anchors: usize,
+        looks: Vec<Look>,
         buffers: u64,
-        shuffled: bool,
+        shuffled: usize,
     },
-    Refused(u32),
+    Refused(Refused),
 }
 
 /// The outlook of a trigger on a side that took these calls and holds this; the lists are those of the Rust's commit.
@@ -39,10 +39,10 @@ pub fn compared<S: Side>(
                 return Err(format!("{told:?}, and the commit hands out {count} anchors"));
             }
             let looks = ours.looks(&buffer, count);
-            same_anchors(&anchors, &looks, &Histories::of(taken, view))?;
-            let shuffled = first_as_shuffled(&looks, lists)?;
+            same_anchors(&anchors, &looks, Histories::of(taken, view))?;
+            let shuffled = as_shuffled(&looks, lists)?;
             let buffers = other_buffers(ours, trigger, &buffer, &looks)?;
-            Compared::Anchors { anchors: anchors.len(), buffers, shuffled }
+            Compared::Anchors { looks, buffers, shuffled }
         }
         Err(why) => {
             let due = Err(Refused { finished: 0, ..why });
@@ -52,7 +52,7 @@ pub fn compared<S: Side>(
             if buffer.iter().any(|byte| *byte != UNTOUCHED) {
                 return Err(format!("refused with {} and the buffer was written", why.number()));
             }
-            Compared::Refused(why.number())
+            Compared::Refused(why)
         }
     };
     if ours.fingerprint() != before {
@@ -61,20 +61,20 @@ pub fn compared<S: Side>(
     Ok(compared)
 }
 
-/// The anchors of the commit, each with the number of points of its history, and those linked in each round, by the marks before the commit.
-fn same_anchors(anchors: &[Anchor], looks: &[Look], histories: &Histories) -> Result<(), String> {
-    let mut handed: HashSet<PointId> = HashSet::new();
+/// The anchors of the commit, each with the number of points of its history, and those linked in each round. The points of an anchor are
+/// marked before the next one is counted.
+fn same_anchors(anchors: &[Anchor], looks: &[Look], mut histories: Histories) -> Result<(), String> {
     for (look, anchor) in looks.iter().zip(anchors) {
-        let now = histories.of_anchor(&anchor.anchor);
-        let left: HashSet<PointId> = now.points.difference(&handed).copied().collect();
-        handed.extend(&anchor.points);
-        if left != anchor.points.iter().copied().collect() {
-            return Err(format!("{} points are linked from {}, and the commit hands out others", left.len(), look));
+        let history = histories.of_anchor(&anchor.anchor);
+        if history.points != anchor.points.iter().copied().collect() {
+            let linked = history.points.len();
+            return Err(format!("{linked} points are linked from {look}, and the commit hands out others"));
         }
-        let due = Look { anchor: anchor.anchor, points: now.points.len() as u32, linked: now.linked };
+        let due = history.look(&anchor.anchor);
         if *look != due {
-            return Err(format!("{look}; by the marks {due}"));
+            return Err(format!("{look}; by the links and marks {due}"));
         }
+        histories.commit(&history);
     }
     if looks.len() != anchors.len() {
         return Err(format!("{} anchors can be read, the commit hands out {}", looks.len(), anchors.len()));
@@ -82,13 +82,56 @@ fn same_anchors(anchors: &[Anchor], looks: &[Look], histories: &Histories) -> Re
     Ok(())
 }
 
-/// The first anchor's linked counts are the lengths of the Rust's shuffles, if it came to one.
-fn first_as_shuffled(looks: &[Look], lists: &PlaceLists) -> Result<bool, String> {
-    let (Some(look), Some(rounds)) = (looks.first(), lists.first()) else {
-        return Ok(false);
+/// The linked counts are the lengths of the Rust's shuffles, as far as it came: of so many anchors.
+fn as_shuffled(looks: &[Look], lists: &PlaceLists) -> Result<usize, String> {
+    for (look, rounds) in looks.iter().zip(lists) {
+        let due = lengths(rounds);
+        if look.linked != due {
+            return Err(format!("{look}; the Rust shuffles {due:?}"));
+        }
+    }
+    Ok(looks.len().min(lists.len()))
+}
+
+fn lengths(rounds: &[Vec<u8>]) -> Vec<u32> {
+    rounds.iter().map(|list| list.len() as u32).collect()
+}
+
+/// A commit that isn't refused hands out what the outlook before it told, with lists as long.
+pub fn handed_as_told(told: &Compared, anchors: &[Anchor], lists: &PlaceLists) -> Result<(), String> {
+    let Compared::Anchors { looks, .. } = told else {
+        return Err(format!("refused, and the commit hands out {} anchors", anchors.len()));
     };
-    let due: Vec<u32> = rounds.iter().map(|list| list.len() as u32).collect();
-    if look.linked == due { Ok(true) } else { Err(format!("{look}; the Rust shuffles {due:?}")) }
+    let handed: Vec<Look> = (anchors.iter().zip(lists))
+        .map(|(anchor, rounds)| Look {
+            anchor: anchor.anchor,
+            points: anchor.points.len() as u32,
+            linked: lengths(rounds),
+        })
+        .collect();
+    if handed != *looks || anchors.len() != looks.len() {
+        return Err(format!("{looks:?}; the commit hands out {handed:?}"));
+    }
+    Ok(())
+}
+
+/// A commit that is refused, but for 20, 21 and 24, is refused as the outlook before it.
+pub fn refused_as_told(told: &Compared, why: &view::Refused) -> Result<(), String> {
+    let same = |told: &Refused| {
+        let round = match told.refusal {
+            Refusal::Conflict { round } => round,
+            _ => 0,
+        };
+        (told.number(), round) == (why.number, why.round)
+    };
+    match told {
+        _ if [20, 21, 24].contains(&why.number) => Ok(()),
+        Compared::Refused(told) if same(told) => Ok(()),
+        Compared::Refused(told) => {
+            Err(format!("{told:?}, and the commit is refused with {} {}", why.number, why.round))
+        }
+        Compared::Anchors { .. } => Err(format!("not refused, and the commit is with {}", why.number)),
+    }
 }
 
 /// A buffer of just the bytes needed will do; one byte less, one anchor less or none: 21 and no byte written.
@@ -117,6 +160,17 @@ fn other_buffers<S: Side>(ours: &S, trigger: &PointId, whole: &[u8], looks: &[Lo
     Ok(shorter.len() as u64)
 }
 
+/// What an outlook is to tell of these anchors after these calls, by the links and marks alone.
+pub fn counted(anchors: &[PointId], taken: &[&Call], view: &View) -> Vec<Look> {
+    let mut histories = Histories::of(taken, view);
+    let look = |anchor: &PointId| {
+        let history = histories.of_anchor(anchor);
+        histories.commit(&history);
+        history.look(anchor)
+    };
+    anchors.iter().map(look).collect()
+}
+
 /// What links of uncommitted points lead to from an anchor, down to its lowest round.
 struct History {
     /// those not committed, with the anchor
@@ -125,7 +179,13 @@ struct History {
     linked: Vec<u32>,
 }
 
-/// Histories by the links that were resolved and the marks that there are.
+impl History {
+    fn look(&self, anchor: &PointId) -> Look {
+        Look { anchor: *anchor, points: self.points.len() as u32, linked: self.linked.clone() }
+    }
+}
+
+/// Histories by the links that were resolved, the marks that there are and those of the anchors that were counted.
 struct Histories {
     links: HashMap<PointId, Vec<PointId>>,
     uncommitted: HashSet<PointId>,
@@ -167,6 +227,11 @@ impl Histories {
             linked: (lowest..=anchor.round).rev().map(in_round).collect(),
             points: linked.intersection(&self.uncommitted).copied().collect(),
         }
+    }
+
+    /// Marks the points of an anchor, as its commit does.
+    fn commit(&mut self, history: &History) {
+        self.uncommitted.retain(|id| !history.points.contains(id));
     }
 }
 

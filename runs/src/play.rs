@@ -4,6 +4,9 @@
 use committer::record::Broken;
 use committer::{Anchor, Answer, Call, Committer, Look, PointId, Refusal, Refused, anchors, looks, removal};
 
+use crate::library::view;
+use crate::outlook::counted;
+
 /// The places that the programs lend.
 pub const PLACES: usize = 20;
 /// And the bytes of a buffer.
@@ -25,10 +28,38 @@ pub fn brief(calls: impl Iterator<Item = Result<Call, Broken>>) -> String {
 
 /// What `replay` writes for these calls, outlooks among them.
 pub fn full(calls: impl Iterator<Item = Result<Call, Broken>>) -> String {
+    full_by(calls, answer)
+}
+
+/// The same, but the counts of an outlook aren't the library's: they are made from the links that were taken and the marks.
+pub fn full_counted(calls: impl Iterator<Item = Result<Call, Broken>>) -> String {
+    let mut taken: Vec<Call> = Vec::new();
+    full_by(calls, |committer, call| {
+        let answer = match answer(committer, call) {
+            Answer::Looked(looks) => {
+                let anchors: Vec<PointId> = looks.iter().map(|look| look.anchor).collect();
+                Answer::Looked(counted(&anchors, &taken.iter().collect::<Vec<_>>(), &view(committer)))
+            }
+            other => other,
+        };
+        if !matches!(answer, Answer::Refused(..)) {
+            taken.push(call.clone());
+        }
+        answer
+    })
+}
+
+fn full_by(
+    calls: impl Iterator<Item = Result<Call, Broken>>,
+    mut answered: impl FnMut(&mut Committer, &Call) -> Answer,
+) -> String {
     let mut committer = Committer::new(PLACES);
     let mut text = String::new();
     for call in calls {
-        text += &call.map_or_else(|broken: Broken| broken.to_string(), |call| full_lines(&mut committer, &call));
+        text += &match call {
+            Ok(call) => full_lines(&call, answered(&mut committer, &call)),
+            Err(broken) => broken.to_string(),
+        };
         text += "\n";
     }
     text + &held(&committer)
@@ -72,14 +103,14 @@ fn brief_lines(answer: Answer) -> String {
 }
 
 /// The last without its newline.
-fn full_lines(committer: &mut Committer, call: &Call) -> String {
+fn full_lines(call: &Call, answer: Answer) -> String {
     let question = match call {
         Call::Gap => "gap ",
         Call::Drop(_) => "drop ",
         _ => "",
     };
     let shown = |anchors: &[Anchor]| anchors.iter().map(|anchor| format!("{anchor}\n")).collect::<String>();
-    match answer(committer, call) {
+    match answer {
         Answer::Done => "ok".into(),
         Answer::Said(yes) => format!("{question}{}", if yes { "yes" } else { "no" }),
         Answer::Handed(anchors) => shown(&anchors) + "ok",

@@ -7,8 +7,9 @@ use committer::{Anchor, Call, JournalDagEvent, LOOK_BYTES, Look, OUTLOOK_BYTES_M
 use runs::compare::{Difference, Kind, List, compare, lent};
 use runs::counts::Counts;
 use runs::library::{Library, Side};
-use runs::lists::{chained, grown, removing};
+use runs::lists::{chained, grown, point, removing};
 use runs::notation;
+use runs::outlook::{Compared, handed_as_told, refused_as_told};
 use runs::random::Random;
 use runs::shrink::shrink;
 use runs::view::{Answer, Refused, View};
@@ -349,6 +350,21 @@ impl Fault for Points {
     }
 }
 
+/// It counts the points of the first anchor for the second too, where the second links to one of them.
+struct CountedTwice;
+
+impl Fault for CountedTwice {
+    fn outlook(looks: &[Look], told: &mut [u8], count: u32) -> u32 {
+        if let [first, second, ..] = looks
+            && second.linked.iter().sum::<u32>() > second.points
+        {
+            let both = (first.points + second.points).to_be_bytes();
+            told[first.bytes()..][..LOOK_BYTES][LOOK_BYTES - 4..].copy_from_slice(&both);
+        }
+        count
+    }
+}
+
 /// Or one linked point too many in the lowest round.
 struct Linked;
 
@@ -373,8 +389,49 @@ impl Fault for LeftOut {
 #[test]
 fn faults_of_outlooks_are_caught() {
     assert_eq!(found_in_chains::<Points>(), Kind::Outlook);
+    assert_eq!(found_in_chains::<CountedTwice>(), Kind::Outlook);
     assert_eq!(found_in_chains::<Linked>(), Kind::Outlook);
     assert_eq!(found_in_chains::<LeftOut>(), Kind::Outlook);
+}
+
+/// What an outlook told is asked of the commit after it: anchors, numbers of points, lengths of lists, the refusal.
+#[test]
+fn a_commit_other_than_told_is_caught() {
+    let anchor = Anchor {
+        anchor: point(12, 0, 2),
+        proof: point(13, 0, 3),
+        executable: true,
+        previous: 0,
+        points: vec![point(11, 0, 1), point(12, 0, 2)],
+        payload_len: 0,
+        payload_bytes: 0,
+    };
+    let lists = vec![vec![vec![0], vec![0]]];
+    let told = |points, linked: &[u32]| Compared::Anchors {
+        looks: vec![Look { anchor: point(12, 0, 2), points, linked: linked.to_vec() }],
+        buffers: 0,
+        shuffled: 0,
+    };
+    let refused = |number, round| {
+        let refusal = committer::Refusal::of(number, round).expect("a number of the table");
+        Compared::Refused(committer::Refused { refusal, finished: 0 })
+    };
+    let anchors = [anchor];
+    assert_eq!(handed_as_told(&told(2, &[1, 1]), &anchors, &lists), Ok(()));
+    for other in [told(3, &[1, 1]), told(2, &[1, 2]), told(2, &[1]), refused(18, 0)] {
+        assert!(handed_as_told(&other, &anchors, &lists).is_err());
+    }
+    assert!(handed_as_told(&told(2, &[1, 1]), &[], &lists).is_err());
+    assert!(handed_as_told(&told(2, &[1, 1]), &anchors, &vec![]).is_err());
+    let why = |number, round| Refused { number, round, finished: Vec::new() };
+    for number in [20, 21, 24] {
+        assert_eq!(refused_as_told(&told(2, &[1, 1]), &why(number, 0)), Ok(()));
+        assert_eq!(refused_as_told(&refused(18, 0), &why(number, 0)), Ok(()));
+    }
+    assert_eq!(refused_as_told(&refused(13, 12), &why(13, 12)), Ok(()));
+    assert!(refused_as_told(&refused(13, 12), &why(13, 11)).is_err());
+    assert!(refused_as_told(&refused(18, 0), &why(17, 0)).is_err());
+    assert!(refused_as_told(&told(2, &[1, 1]), &why(18, 0)).is_err());
 }
 
 /// The first list that commits and shows a difference.
@@ -732,6 +789,7 @@ fn the_library_passes_chains() {
         compare::<Library>(&list, &mut counts).unwrap_or_else(|found| panic!("{found}\n{}", notation::written(&list)));
     }
     assert!(counts.anchors > 100 && counts.outlooks_with_anchors() > 100, "{counts}");
+    assert!(counts.several_as_told() > 50 && counts.outlooks_shuffled[1] > 50, "{counts}");
     assert!(counts.three_linked > 50 && counts.damaged_lists > 500, "{counts}");
     assert!(counts.sums > 100 && counts.wide_sums > 50, "{counts}");
 }

@@ -27,6 +27,7 @@ use Rattle.back_history.specs.Model.{limitOf, missing, marks, Range}
 use Rattle.back_history.specs.RefinesNeeded.{lowestOf, low-high}
 use Rattle.back_history.specs.Picked.{uncommittedAt, uncertifiedAt}
 use Rattle.back_committable.specs.declared.anchor.HistorySpan.{HistorySpan}
+use Rattle.back_committable.specs.declared.anchor.Gathered.{Gathered}
 use Rattle.back_committable.specs.declared.anchor.Tested.{Tested}
 use Rattle.back_committable.specs.ModelPoints.{foundFault, Rounds}
 
@@ -45,15 +46,24 @@ codeOf s ks cs os m x r =
     cond (leb r (s .genesis .0)) (failed 22) (orNext (foundFault ks cs os m (x .low) (x .high))
     (cond (missing (s .«full_history_bottom» .0) (x .limit .0) (s .bottom .0)) (failed 17) (cond (any (x .high - x .low) (uncertifiedAt cs os m (x .low))) (failed 18) Passed)))
 
--- the tests of the anchor a, whose history has these positions
-unfoldable pub testedIn : State → List ℕ → List ℕ → List ℕ → List ℕ → ℕ → HistorySpan → Tested
-testedIn s ks ls cs os a x =
+-- the history of the anchor a, which has these positions
+unfoldable pub gatheredIn : State → List ℕ → List ℕ → List ℕ → List ℕ → ℕ → HistorySpan → Gathered
+gatheredIn s ks ls cs os a x =
     let m = marks (s .bottom .0) ks ls cs os (x .low) (x .high) a in
-    record { check = codeOf s ks cs os m x (roundAt ks a); lowest = x .lowest; low = x .low; high = x .high; count = length (those (x .high - x .low) (uncommittedAt cs os m (x .low))); marks = m }
+    record { span = x; count = length (those (x .high - x .low) (uncommittedAt cs os m (x .low))); marks = m }
+
+-- the history of the anchor a
+unfoldable pub gatheredOf : State → List ℕ → List ℕ → List ℕ → List ℕ → ℕ → Gathered
+gatheredOf s ks ls cs os a = gatheredIn s ks ls cs os a (historySpan s ks os (roundAt ks a))
+
+-- its tests
+unfoldable pub testedIn : State → List ℕ → List ℕ → List ℕ → ℕ → Gathered → Tested
+testedIn s ks cs os a g =
+    record { check = codeOf s ks cs os (g .marks) (g .span) (roundAt ks a); lowest = g .span .lowest; low = g .span .low; high = g .span .high; count = g .count; marks = g .marks }
 
 -- the tests of the anchor a
 unfoldable pub testedOf : State → List ℕ → List ℕ → List ℕ → List ℕ → ℕ → Tested
-testedOf s ks ls cs os a = testedIn s ks ls cs os a (historySpan s ks os (roundAt ks a))
+testedOf s ks ls cs os a = testedIn s ks cs os a (gatheredOf s ks ls cs os a)
 
 -- ---- the steps of the code
 
@@ -99,15 +109,27 @@ module _ (s : State) (ks cs os : List ℕ) (m : List Bool) (x : HistorySpan) (r 
         unfolding codeOf orNext
         code-none t = rw (lt-leb r (s .genesis .0) l, sym e ∙ z, ← h, n, ← g, t) refl
 
--- all of it
-pub tested-by : (s : State) (ks ls cs os : List ℕ) (a : ℕ) (r : ℕ) (x : HistorySpan) (m : List Bool) (c : ℕ) (f : Check) → r ≡ roundAt ks a → x ≡ historySpan s ks os r → m ≡ marks (s .bottom .0) ks ls cs os (x .low) (x .high) a
-    → c ≡ length (those (x .high - x .low) (uncommittedAt cs os m (x .low))) → f ≡ codeOf s ks cs os m x r
-    → record { check = f; lowest = x .lowest; low = x .low; high = x .high; count = c; marks = m } ≡ testedOf s ks ls cs os a
+-- the history
+pub gathered-by : (s : State) (ks ls cs os : List ℕ) (a : ℕ) (r : ℕ) (x : HistorySpan) (m : List Bool) (c : ℕ) → r ≡ roundAt ks a → x ≡ historySpan s ks os r → m ≡ marks (s .bottom .0) ks ls cs os (x .low) (x .high) a
+    → c ≡ length (those (x .high - x .low) (uncommittedAt cs os m (x .low))) → record { span = x; count = c; marks = m } ≡ gatheredOf s ks ls cs os a
+unfolding gatheredOf gatheredIn
+gathered-by s ks ls cs os a r x m c o e d g =
+    (λ i. record { span = x; count = g i; marks = m })
+    ∙ ((λ i. record { span = x; count = length (those (x .high - x .low) (uncommittedAt cs os (d i) (x .low))); marks = d i })
+    ∙ ap (gatheredIn s ks ls cs os a) (e ∙ ap (historySpan s ks os) o))
+
+-- its positions
+pub gathered-span : (s : State) (ks ls cs os : List ℕ) (a : ℕ) (g : Gathered) → g ≡ gatheredOf s ks ls cs os a → g .span ≡ historySpan s ks os (roundAt ks a)
+unfolding gatheredOf gatheredIn
+gathered-span s ks ls cs os a g e = ap (λ (y : Gathered). y .span) e
+
+-- with its tests
+pub tested-by : (s : State) (ks ls cs os : List ℕ) (a : ℕ) (r : ℕ) (g : Gathered) (f : Check) → r ≡ roundAt ks a → g ≡ gatheredOf s ks ls cs os a → f ≡ codeOf s ks cs os (g .marks) (g .span) r
+    → record { check = f; lowest = g .span .lowest; low = g .span .low; high = g .span .high; count = g .count; marks = g .marks } ≡ testedOf s ks ls cs os a
 unfolding testedOf testedIn
-tested-by s ks ls cs os a r x m c f o e d g h =
-    (λ i. record { check = (h ∙ ap (codeOf s ks cs os m x) o) i; lowest = x .lowest; low = x .low; high = x .high; count = g i; marks = m })
-    ∙ ((λ i. record { check = codeOf s ks cs os (d i) x (roundAt ks a); lowest = x .lowest; low = x .low; high = x .high; count = length (those (x .high - x .low) (uncommittedAt cs os (d i) (x .low))); marks = d i })
-    ∙ ap (testedIn s ks ls cs os a) (e ∙ ap (historySpan s ks os) o))
+tested-by s ks ls cs os a r g f o e h =
+    (λ i. record { check = (h ∙ ap (codeOf s ks cs os (g .marks) (g .span)) o) i; lowest = g .span .lowest; low = g .span .low; high = g .span .high; count = g .count; marks = g .marks })
+    ∙ ap (testedIn s ks cs os a) e
 
 -- ---- what started tables give the code
 

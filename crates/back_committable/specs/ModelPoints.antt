@@ -1,14 +1,15 @@
 -- What a point of a history is refused with, and the first point that is (01: 'Refusals' 13 to 15).
 use Prim.Native.Nat.{ℕ, _-_, _<_, _≤_}
-use mathlib.Core.Path.{_≡_, refl, sym, ap, subst, _∙_}
+use mathlib.Core.Path.{_≡_, refl, sym, ap, ap₂, subst, _∙_}
 use mathlib.Core.List.{List}
 use mathlib.Core.Bool.{Bool, true, false, _&&_, cond}
 use native.Mathlib.Omega.{arith}
 use lib.Dec.{ltb}
-use lib.ListN.{getD}
+use lib.ListN.{length, getD, List·getD-eq-default}
 use borrow.Author.Tests.{le-ltb, lt-ltb}
-use Rattle.laws.specs.Test.{and-no}
-use Rattle.models.specs.Cert.{hasProof}
+use Rattle.laws.specs.Test.{and-no, leOr}
+use Rattle.spec.specs.Store.{Flags}
+use Rattle.models.specs.Cert.{hasProof, committedWord}
 use Rattle.models.specs.Tables.{roundAt, placeAt}
 use Rattle.models.specs.Refusal.{failed, conflicting, notValid, isFailed}
 use Rattle.models.specs.declared.dag_point.DagPoint.{DagPoint}
@@ -18,6 +19,7 @@ use Rattle.models.specs.declared.refusal.Check.the-variants.{Passed}
 use Rattle.dag_round_keys.specs.Look.{lookPlace}
 use Rattle.dag_round_keys.specs.declared.look.Look.{Look}
 use Rattle.dag_round_keys.specs.declared.look.Look.the-variants.{Resolved, Named, Never}
+use Rattle.back_history.specs.Supposing.{supposing, supposing-length, supposing-at, flags-marked, height-marked}
 use Rattle.back_committable.specs.Scan.{scanned}
 
 -- what a point of a history is refused with, by its case, its certificate word and its round
@@ -121,3 +123,39 @@ module _ (ks cs os : List ℕ) (m : List Bool) (low high p : ℕ) (e : p ≡ fir
   pub found-at : p < high → (q : ℕ) → q ≡ placeAt os p → (c : Check) → c ≡ faultAt ks cs q → c ≡ foundFault ks cs os m low high
   unfolding foundFault
   found-at l q d c h = h ∙ rw (lt-ltb (firstFault ks cs os m low high) high (omega arith)) (ap (faultAt ks cs) (d ∙ ap (placeAt os) e))
+
+-- ---- places that are taken (02: N6)
+
+-- the committed bit is not read
+proof-same : (b : Bool) (c d : ℕ) → d ≡ cond b (committedWord c) c → hasProof d ≡ hasProof c
+unfolding hasProof
+proof-same b c d e = ap₂ (λ (h : ℕ) (f : Flags). ltb 0 h && f .top) (height-marked b c d e) (flags-marked b c d e)
+
+committable-same : (p : DagPoint) (b : Bool) (c d r : ℕ) → d ≡ cond b (committedWord c) c → committableOf p d r ≡ committableOf p c r
+unfolding committableOf notValid
+committable-same Valid b c d r e = refl
+committable-same TransInvalid b c d r e = ap (λ (h : Bool). cond h (conflicting r) Passed) (proof-same b c d e)
+committable-same Invalid b c d r e = ap (λ (h : ℕ). cond (ltb 0 h) (conflicting r) (failed 15)) (height-marked b c d e)
+committable-same IllFormed b c d r e = ap (λ (h : ℕ). cond (ltb 0 h) (conflicting r) (failed 15)) (height-marked b c d e)
+committable-same NotFound b c d r e = ap (λ (h : ℕ). cond (ltb 0 h) (conflicting r) (failed 15)) (height-marked b c d e)
+
+fault-same : (x : Look) (b : Bool) (c d r : ℕ) → d ≡ cond b (committedWord c) c → faultOf x d r ≡ faultOf x c r
+unfolding faultOf
+fault-same (Resolved q p) b c d r e = committable-same p b c d r e
+fault-same (Named q) b c d r e = refl
+fault-same Never b c d r e = refl
+
+-- so a taken place is refused as it was
+fault-taken : (ks cs : List ℕ) (ts : List Bool) (q : ℕ) → faultAt ks cs q ≡ faultAt ks (supposing ts cs) q
+unfolding faultAt
+fault-taken ks cs ts q =
+    leOr (length cs) q
+    (λ l. ap (λ (c : ℕ). faultOf (lookPlace ks q) c (roundAt ks q)) (List·getD-eq-default cs 0 l ∙ sym (List·getD-eq-default (supposing ts cs) 0 (omega (arith, supposing-length ts cs)))))
+    (λ l. sym (fault-same (lookPlace ks q) (getD ts q false) (getD cs q 0) (getD (supposing ts cs) q 0) (roundAt ks q) (supposing-at ts cs q l)))
+
+-- and the positions of a history too
+pub found-by : (ks cs os : List ℕ) (ts m : List Bool) (low high : ℕ) (f : Check) → f ≡ foundFault ks cs os m low high → f ≡ foundFault ks (supposing ts cs) os m low high
+unfolding foundFault firstFault faultyAt faulty
+found-by ks cs os ts m low high f e = e ∙ (λ i.
+    let p = scanned (λ p. getD m (placeAt os p) false && isFailed (fault-taken ks cs ts (placeAt os p) i)) (roundOf ks os) high (high - low) in
+    cond (ltb p high) (fault-taken ks cs ts (placeAt os p) i) Passed)

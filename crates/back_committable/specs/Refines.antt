@@ -20,7 +20,7 @@ use Rattle.tables_test.specs.Refines.{Started}
 use Rattle.back_history.specs.RefinesNeeded.{used-round}
 use Rattle.back_history.specs.Refines.{history-count, flat-is, missing-is}
 use Rattle.back_committable.specs.declared.anchor.Tested.{Tested}
-use Rattle.back_committable.specs.Model.{historySpan, codeOf, testedIn, testedOf}
+use Rattle.back_committable.specs.Model.{historySpan, codeOf, gatheredIn, gatheredOf, testedIn, testedOf}
 use Rattle.back_committable.specs.RefinesPoints.{faults-is}
 
 -- one test
@@ -42,7 +42,7 @@ module _ (s : State) (ks ls cs os : List ℕ) (fk : Fit ks) (fl : Fit ls) (t : S
 
   -- the tests of an anchor
   pub tested-is : unlessFailed (testedOf s ks ls cs os a .check) (good a) ≡ tested v a
-  unfolding testedOf testedIn historySpan codeOf tested unlessFailed view confOf
+  unfolding testedOf testedIn gatheredOf gatheredIn historySpan codeOf tested unlessFailed view confOf
   tested-is = sym (
       (λ i. refuse (leb (used-round s ks ls cs os fk fl t a used i) (s .genesis .0)) 22 (then (faults-is s ks ls cs os fk fl t a used i) (λ x. refuse (missing-is s ks ls cs os fk fl t a used i) 17 (refuse (flat-is s ks ls cs os fk fl t a used i) 18 (good a)))))
       ∙ refuse-is _ 22 _ _ _ (then-is _ _ 0 _ _ (refuse-is _ 17 _ _ _ (refuse-is _ 18 _ (good a) Passed refl))))
@@ -53,5 +53,5 @@ module _ (s : State) (ks ls cs os : List ℕ) (fk : Fit ks) (fl : Fit ls) (t : S
 
   -- the number of points in its history
   pub tested-count : testedOf s ks ls cs os a .count ≡ length (history v a)
-  unfolding testedOf testedIn historySpan
+  unfolding testedOf testedIn gatheredOf gatheredIn historySpan
   tested-count = sym (history-count s ks ls cs os fk fl t a used)

@@ -1,5 +1,5 @@
 // Origin: dag/commit/back.rs (gather_uncommitted).
-// The tests of one anchor that commit and outlook both make, with what its history is.
+// The tests of one anchor that commit and outlook both make, with what its history is. Places that are `taken` count as committed.
 ghost use mathlib.Core.Path.{_≡_};
 ghost use Prim.Native.Nat.{_*_, _≤_};
 ghost use lib.ListN.{length};
@@ -11,8 +11,9 @@ ghost use Rattle.tables_test.specs.View.{view};
 ghost use Rattle.tables_test.specs.Refines.{Started};
 ghost use Rattle.dag_round_points.specs.Model.{Ready};
 ghost use Rattle.back_history.specs.Model.{Range};
+ghost use Rattle.back_history.specs.Supposing.{supposing};
 ghost use Rattle.back_committable.specs.ModelPoints.{Rounds};
-ghost use Rattle.back_committable.specs.Model.{historySpan, codeOf, testedOf};
+ghost use Rattle.back_committable.specs.Model.{historySpan, codeOf, gatheredOf, testedOf};
 use crate::fault::history_fault;
 use back_history::any_uncertified;
 use back_history::count_points;
@@ -35,6 +36,13 @@ pub struct HistorySpan {
     pub lowest: Round,
     pub low: usize,
     pub high: usize,
+}
+
+// The history of an anchor: the marked places that are neither committed nor taken, of the positions of its span, and their number.
+pub struct Gathered {
+    pub span: HistorySpan,
+    pub count: usize,
+    pub marks: [bool; PLACES_MAX],
 }
 
 // What an anchor's tests give, which refuse it with 22, 13 to 15, 17 or 18. Its history: the marked places that are not committed, of
@@ -75,13 +83,14 @@ fn anchor_code(
     marks: &[bool; PLACES_MAX],
     keys: &[u64],
     certs: &[u64],
+    taken: &[bool; PLACES_MAX],
     order: &[u64],
     span: HistorySpan,
     round: Round,
 ) -> Check
     requires { ⌜ Range (now certs) (now order) (span .low) (span .high) ⌝ }
     requires { ⌜ (length (now keys) ≡ length (now order) * 8) × Rounds (now keys) (now order) (span .high) ⌝ }
-    ensures { λ r. ⌜ r ≡ codeOf s (now (keys .entry)) (now (certs .entry)) (now (order .entry)) (now (marks .entry)) span (round .0) ⌝ }
+    ensures { λ r. ⌜ r ≡ codeOf s (now (keys .entry)) (supposing (now (taken .entry)) (now (certs .entry))) (now (order .entry)) (now (marks .entry)) span (round .0) ⌝ }
 {
     let genesis = s.genesis;
     if round.0 <= genesis.0 {
@@ -99,13 +108,71 @@ fn anchor_code(
     if rounds_missing(full, limit, bottom) {
         return Check::Failed(Refusal::Number(ROUNDS_MISSING));
     }
-    if any_uncertified(marks, certs, order, low, high) {
+    if any_uncertified(marks, certs, taken, order, low, high) {
         return Check::Failed(Refusal::Number(NOT_CERTIFIED));
     }
     Check::Passed
 }
 
+// The history of the anchor at a used place.
+pub fn gather_history(
+    s: State,
+    keys: &[u64],
+    links: &[u64],
+    certs: &[u64],
+    taken: &[bool; PLACES_MAX],
+    order: &[u64],
+    anchor: usize,
+) -> Gathered
+    requires { ⌜ Started s (now keys) (now links) (now certs) (now order) ⌝ }
+    requires { ⌜ Used (now order) (s .count) anchor ⌝ }
+    ensures { λ r. ⌜ r ≡ gatheredOf s (now (keys .entry)) (now (links .entry)) (supposing (now (taken .entry)) (now (certs .entry))) (now (order .entry)) anchor ⌝ }
+{
+    let round = round_at(keys, anchor);
+    let span = span_of(s, keys, order, round);
+    let low = span.low;
+    let high = span.high;
+    let bottom = s.bottom;
+    let marks = gather_uncommitted(keys, links, certs, taken, order, bottom, low, high, anchor);
+    let count = count_points(&marks, certs, taken, order, low, high);
+    Gathered {
+        span: span,
+        count: count,
+        marks: marks,
+    }
+}
+
 // The tests of the anchor at a used place.
+pub fn test_supposed(
+    s: State,
+    keys: &[u64],
+    links: &[u64],
+    certs: &[u64],
+    taken: &[bool; PLACES_MAX],
+    order: &[u64],
+    anchor: usize,
+) -> Tested
+    requires { ⌜ Started s (now keys) (now links) (now certs) (now order) ⌝ }
+    requires { ⌜ Used (now order) (s .count) anchor ⌝ }
+    ensures { λ r. ⌜ r ≡ testedOf s (now (keys .entry)) (now (links .entry)) (supposing (now (taken .entry)) (now (certs .entry))) (now (order .entry)) anchor ⌝ }
+{
+    let round = round_at(keys, anchor);
+    let g = gather_history(s, keys, links, certs, taken, order, anchor);
+    let span = g.span;
+    let marks = g.marks;
+    let check = anchor_code(s, &marks, keys, certs, taken, order, span, round);
+    let lowest = span.lowest;
+    Tested {
+        check,
+        lowest: lowest,
+        low: span.low,
+        high: span.high,
+        count: g.count,
+        marks: marks,
+    }
+}
+
+// The same with no place taken, as a commit tests.
 pub fn test_anchor(
     s: State,
     keys: &[u64],
@@ -119,21 +186,6 @@ pub fn test_anchor(
     ensures whole { λ r. ⌜ r ≡ testedOf s (now (keys .entry)) (now (links .entry)) (now (certs .entry)) (now (order .entry)) anchor ⌝ }
     ensures outcome { λ r. ⌜ unlessFailed (r .check) (good anchor) ≡ tested (view s (now (keys .entry)) (now (links .entry)) (now (certs .entry)) (now (order .entry))) anchor ⌝ }
 {
-    let round = round_at(keys, anchor);
-    let span = span_of(s, keys, order, round);
-    let lowest = span.lowest;
-    let low = span.low;
-    let high = span.high;
-    let bottom = s.bottom;
-    let marks = gather_uncommitted(keys, links, certs, order, bottom, low, high, anchor);
-    let count = count_points(&marks, certs, order, low, high);
-    let check = anchor_code(s, &marks, keys, certs, order, span, round);
-    Tested {
-        check,
-        lowest: lowest,
-        low: low,
-        high: high,
-        count: count,
-        marks: marks,
-    }
+    let taken = [false; PLACES_MAX];
+    test_supposed(s, keys, links, certs, &taken, order, anchor)
 }

@@ -1,11 +1,13 @@
 // Origin: dag/commit/back.rs (gather_uncommitted).
 // The history of one anchor: the points that it needs, by one sweep over the positions of the order downwards, and those of them that
-// are not committed, by rising position.
+// are not committed, by rising position. An outlook supposes that older anchors have been committed, without a mark in the tables: the
+// places `taken` by them count as committed. A commit has no such place.
 ghost use mathlib.Core.Path.{_≡_};
 ghost use Prim.Native.Nat.{_+_, _*_, _-_, _<_, _≤_};
 ghost use lib.ListN.{length};
 ghost use Rattle.laws.specs.Scan.{any, those};
 ghost use Rattle.back_history.specs.Model.{limitOf, missing, put, marked, isUncommitted, swept, marks, Range};
+ghost use Rattle.back_history.specs.Supposing.{supposing};
 ghost use Rattle.back_history.specs.Picked.{uncommittedAt, uncertifiedAt};
 use models::cert::Cert;
 use models::parts::Round;
@@ -69,12 +71,29 @@ pub fn is_uncommitted(marks: &[bool; PLACES_MAX], certs: &[u64], q: usize) -> bo
     false
 }
 
-// From position `high` down to `low`: a marked place that is not committed marks the places that its live links lead to.
+// Whether place q is marked, and neither committed nor taken.
+pub fn is_fresh(
+    marks: &[bool; PLACES_MAX],
+    certs: &[u64],
+    taken: &[bool; PLACES_MAX],
+    q: usize,
+) -> bool
+    requires { ⌜ (q < 4096) × (q < length (now certs)) ⌝ }
+    ensures { λ r. ⌜ r ≡ isUncommitted (supposing (now (taken .entry)) (now (certs .entry))) (now (marks .entry)) q ⌝ }
+{
+    if taken[q] {
+        return false;
+    }
+    is_uncommitted(marks, certs, q)
+}
+
+// From position `high` down to `low`: a marked place that is neither committed nor taken marks the places that its live links lead to.
 fn sweep(
     marks: &mut [bool; PLACES_MAX],
     keys: &[u64],
     links: &[u64],
     certs: &[u64],
+    taken: &[bool; PLACES_MAX],
     order: &[u64],
     bottom: Round,
     low: usize,
@@ -82,23 +101,24 @@ fn sweep(
 )
     requires { ⌜ Range (now certs) (now order) low high ⌝ }
     requires { ⌜ (length (now keys) ≡ length (now order) * 8) × (length (now links) ≡ length (now order) * 328) ⌝ }
-    ensures { λ _. ⌜ now (marks .exit) ≡ swept (bottom .0) (now (keys .entry)) (now (links .entry)) (now (certs .entry)) (now (order .entry)) (now (marks .entry)) high (high - low) ⌝ }
+    ensures { λ _. ⌜ now (marks .exit) ≡ swept (bottom .0) (now (keys .entry)) (now (links .entry)) (supposing (now (taken .entry)) (now (certs .entry))) (now (order .entry)) (now (marks .entry)) high (high - low) ⌝ }
 {
     let mut p = high;
     while low < p {
         p -= 1;
         let q = dag_round_keys::place(order, high, p);
-        if is_uncommitted(marks, certs, q) {
+        if is_fresh(marks, certs, taken, q) {
             mark_links(marks, links, q, models::place::live_links(keys, bottom, q));
         }
     }
 }
 
-// The places that the anchor needs, of the positions from `low` to `high`; committed ones hand on no links.
+// The places that the anchor needs, of the positions from `low` to `high`; those committed or taken hand on no links.
 pub fn gather_uncommitted(
     keys: &[u64],
     links: &[u64],
     certs: &[u64],
+    taken: &[bool; PLACES_MAX],
     order: &[u64],
     bottom: Round,
     low: usize,
@@ -107,11 +127,21 @@ pub fn gather_uncommitted(
 ) -> [bool; PLACES_MAX]
     requires { ⌜ Range (now certs) (now order) low high ⌝ }
     requires { ⌜ (length (now keys) ≡ length (now order) * 8) × (length (now links) ≡ length (now order) * 328) × (anchor < length (now order)) ⌝ }
-    ensures { λ r. ⌜ r ≡ marks (bottom .0) (now (keys .entry)) (now (links .entry)) (now (certs .entry)) (now (order .entry)) low high anchor ⌝ }
+    ensures { λ r. ⌜ r ≡ marks (bottom .0) (now (keys .entry)) (now (links .entry)) (supposing (now (taken .entry)) (now (certs .entry))) (now (order .entry)) low high anchor ⌝ }
 {
     let mut marks = [false; PLACES_MAX];
     marks[anchor] = true;
-    sweep(&mut marks, keys, links, certs, order, bottom, low, high);
+    sweep(
+        &mut marks,
+        keys,
+        links,
+        certs,
+        taken,
+        order,
+        bottom,
+        low,
+        high,
+    );
     marks
 }
 
@@ -119,17 +149,18 @@ pub fn gather_uncommitted(
 pub fn any_uncertified(
     marks: &[bool; PLACES_MAX],
     certs: &[u64],
+    taken: &[bool; PLACES_MAX],
     order: &[u64],
     low: usize,
     high: usize,
 ) -> bool
     requires { ⌜ Range (now certs) (now order) low high ⌝ }
-    ensures { λ r. ⌜ r ≡ any (high - low) (uncertifiedAt (now (certs .entry)) (now (order .entry)) (now (marks .entry)) low) ⌝ }
+    ensures { λ r. ⌜ r ≡ any (high - low) (uncertifiedAt (supposing (now (taken .entry)) (now (certs .entry))) (now (order .entry)) (now (marks .entry)) low) ⌝ }
 {
     let mut k: usize = 0;
     while k < high - low {
         let q = dag_round_keys::place(order, high, low + k);
-        if is_uncommitted(marks, certs, q) {
+        if is_fresh(marks, certs, taken, q) {
             let cert = Cert(certs[q]);
             if !cert.is_certified() {
                 return true;
@@ -144,18 +175,19 @@ pub fn any_uncertified(
 pub fn count_points(
     marks: &[bool; PLACES_MAX],
     certs: &[u64],
+    taken: &[bool; PLACES_MAX],
     order: &[u64],
     low: usize,
     high: usize,
 ) -> usize
     requires { ⌜ Range (now certs) (now order) low high ⌝ }
-    ensures { λ r. ⌜ r ≡ length (those (high - low) (uncommittedAt (now (certs .entry)) (now (order .entry)) (now (marks .entry)) low)) ⌝ }
+    ensures { λ r. ⌜ r ≡ length (those (high - low) (uncommittedAt (supposing (now (taken .entry)) (now (certs .entry))) (now (order .entry)) (now (marks .entry)) low)) ⌝ }
 {
     let mut n: usize = 0;
     let mut k: usize = 0;
     while k < high - low {
         let q = dag_round_keys::place(order, high, low + k);
-        if is_uncommitted(marks, certs, q) {
+        if is_fresh(marks, certs, taken, q) {
             n += 1;
         }
         k += 1;

@@ -35,7 +35,7 @@ use Rattle.back_history.specs.Picked.{uncommittedAt}
 use Rattle.back_history.specs.RefinesNeeded.{named-used, low-high}
 use Rattle.back_history.specs.Refines.{well, in-elim, in-intro}
 use Rattle.back_committable.specs.declared.anchor.Tested as code
-use Rattle.back_committable.specs.Model.{historySpan, testedIn, testedOf}
+use Rattle.back_committable.specs.Model.{historySpan, gatheredIn, gatheredOf, testedIn, testedOf}
 use Rattle.back_committable.specs.Refines.{tested-is, tested-count}
 use Rattle.back_order.specs.Drawn.{drawnBy}
 use Rattle.back_order.specs.Refines.{counts-are, rest-is}
@@ -96,17 +96,17 @@ module _ (s : State) (ks ls cs os : List ℕ) (fk : Fit ks) (fl : Fit ls) (h : c
 
   -- the positions are those of used places
   high-le : t .high ≤ s .count
-  unfolding testedOf testedIn historySpan
+  unfolding testedOf testedIn gatheredOf gatheredIn historySpan
   high-le = below-le ks os (s .count) (roundAt ks (e .anchor) + 1)
 
   -- from the lower to the higher
   low-le : t .low ≤ t .high
-  unfolding testedOf testedIn historySpan
+  unfolding testedOf testedIn gatheredOf gatheredIn historySpan
   low-le = low-high s ks ls cs os fk fl held (e .anchor) anchor-used
 
   -- the marks say what is in the history
   picks : Picks v (e .anchor) os (s .count) (t .marks) cs (t .low) (t .high)
-  unfolding testedOf testedIn historySpan isPicked isUncommitted
+  unfolding testedOf testedIn gatheredOf gatheredIn historySpan isPicked isUncommitted
   picks j l =
       same-test _ _
       (λ k. let (i, lo, hi, d, w) = in-elim s ks ls cs os fk fl held (e .anchor) anchor-used (placeAt os j) k in
@@ -120,9 +120,18 @@ module _ (s : State) (ks ls cs os : List ℕ) (fk : Fit ks) (fl : Fit ls) (h : c
       tested-count s ks ls cs os fk fl held (e .anchor) anchor-used
       ∙ (ap length (history-is s ks ls cs os fk (well s ks ls cs os fk fl held) (held .facts .sorted) (e .anchor) anchor-used (t .marks) (t .low) (t .high) high-le picks) ∙ length-map (picked os (isUncommitted cs (t .marks)) (t .low) ((t .high) - (t .low))) (placeId ks))
 
+  -- the tables with its history marked, in the state after it
+  module _ (long : length (s .rounds) ≡ 512) where
+    pub marked-view : view (afterState s (roundAt ks (e .anchor)) (roundAt ks (e .proof)) (authorAt ks (e .anchor))) ks ls (marksAll os (t .marks) (t .low) cs (t .high)) os ≡ dequeued v e
+    marked-view = committed-view s ks ls cs os fk fl h e anchor-used proof-used (t .marks) (t .low) (t .high) high-le picks long
+
+    -- they count as started, if it passed
+    pub marked-counts : Tested v (e .anchor) → countsAsStarted (view (afterState s (roundAt ks (e .anchor)) (roundAt ks (e .proof)) (authorAt ks (e .anchor))) ks ls (marksAll os (t .marks) (t .low) cs (t .high)) os) ≡ true
+    marked-counts = committed-counts s ks ls cs os fk fl h e anchor-used proof-used (t .marks) (t .low) (t .high) high-le picks long x
+
   -- how many points its rounds have
   counted-is : countsFor s ks os (t .marks) (t .lowest .0) (e .anchor) ≡ linkedCounts v (e .anchor)
-  unfolding testedOf testedIn historySpan
+  unfolding testedOf testedIn gatheredOf gatheredIn historySpan
   counted-is = counts-are s ks ls cs os fk fl held (e .anchor) anchor-used
 
   -- its lists are right
@@ -136,12 +145,12 @@ module _ (s : State) (ks ls cs os : List ℕ) (fk : Fit ks) (fl : Fit ls) (h : c
 
     -- the number of points that come out
     drawn-count : t .count ≡ length (drawnBy ks os (s .count) cs (t .marks) (roundsBy (roundAt ks (e .anchor)) (t .lowest .0)) l)
-    unfolding testedOf testedIn historySpan
+    unfolding testedOf testedIn gatheredOf gatheredIn historySpan
     drawn-count = count-is ∙ sym (drawn-length s ks ls cs os fk fl h e anchor-used proof-used (t .marks) (t .low) (t .high) high-le picks l (sym (right-is l) ∙ ok))
 
     -- the record
     record-same : Tested v (e .anchor) → recordFor s ks cs os (t .marks) (t .lowest .0) l e (lenFor ls cs os t) (bytesFor ls cs os t) ≡ recordBytes v l e
-    unfolding recordFor testedOf testedIn historySpan
+    unfolding recordFor testedOf testedIn gatheredOf gatheredIn historySpan
     record-same = record-is s ks ls cs os fk fl h e anchor-used proof-used (t .marks) (t .low) (t .high) high-le picks l (sym (right-is l) ∙ ok)
 
   -- ---- what the code is given
@@ -161,7 +170,7 @@ module _ (s : State) (ks ls cs os : List ℕ) (fk : Fit ks) (fl : Fit ls) (h : c
 
   -- no more points than places
   count-most : t .count ≤ 4096
-  unfolding testedOf testedIn historySpan
+  unfolding testedOf testedIn gatheredOf gatheredIn historySpan
   count-most =
       let a : length (those (t .high - t .low) (uncommittedAt cs os (t .marks) (t .low))) ≤ t .high - t .low = those-most _ _ in
       omega (arith, a, high-le, held .count-ok, places-says _ (held .places-ok))
@@ -235,7 +244,7 @@ module _ (s : State) (ks ls cs os : List ℕ) (fk : Fit ks) (fl : Fit ls) (h : c
 
         -- the lists after it
         rest-same : drop (from + sizeFor s ks os (t .marks) (t .lowest .0) (e .anchor)) l ≡ afterLists v (e .anchor) here
-        unfolding testedOf testedIn historySpan
+        unfolding testedOf testedIn gatheredOf gatheredIn historySpan
         rest-same = rest-is s ks ls cs os fk fl held (e .anchor) anchor-used l from _ refl
 
         -- its last byte
@@ -251,13 +260,13 @@ module _ (s : State) (ks ls cs os : List ℕ) (fk : Fit ks) (fl : Fit ls) (h : c
         says-taken = record {
           outcome = sym passes;
           taken = λ y. (
-            committed-view s ks ls cs os fk fl h e anchor-used proof-used (t .marks) (t .low) (t .high) high-le picks long,
+            marked-view long,
             rest-same,
             ap (written b at) (record-same here right tested-whole),
             end-is,
           );
           stayed = λ r y. absurd (not-failed r (sym y));
-          again = committed-counts s ks ls cs os fk fl h e anchor-used proof-used (t .marks) (t .low) (t .high) high-le picks long x tested-whole;
+          again = marked-counts long tested-whole;
           long = written-length b at _;
           within = end-within;
         }

@@ -1,3 +1,4 @@
 pub mod Look
+pub mod Supposed
 pub mod Chain
 pub mod Outlook

@@ -1,6 +1,6 @@
 // Origin: dag/commit/mod.rs (commit).
 // Added by document 01, 'Outlook': the anchors of a chain, oldest first. Nothing is written unless all of them pass, so they are tested
-// first and told in a second walk.
+// first and told in a second walk. By document 02, N6, each walk goes on as if the anchors behind it had been committed.
 ghost use mathlib.Core.Path.{_≡_};
 ghost use mathlib.Core.Bool.{true};
 ghost use Prim.Native.Nat.{_≤_};
@@ -9,16 +9,18 @@ ghost use Rattle.laws.specs.Bytes.{written};
 ghost use Rattle.spec.specs.Chain.{good};
 ghost use Rattle.spec.specs.Rules.{countsAsStarted};
 ghost use Rattle.spec.specs.History.{outlookAll};
+ghost use Rattle.spec.specs.Outlook.{tests, looks};
 ghost use Rattle.spec.specs.Walk.{Rising};
 ghost use Rattle.models.specs.Refusal.{unlessFailed};
 ghost use Rattle.tables_test.specs.View.{view};
 ghost use Rattle.back_chain.specs.Chain.{chainOf};
-ghost use Rattle.commit_outlook.specs.Chain.{chainBytes, ChainLooked};
+ghost use Rattle.commit_outlook.specs.Chain.{ChainLooked};
 use crate::look::look_one;
 use crate::look::put_look;
 use back_walk::EnqueuedAnchor;
 use commit_state::state::State;
 use models::refusal::Check;
+use models::tables::PLACES_MAX;
 use models::tables::ROUNDS_MAX;
 
 // The tests of the `count` anchors of the list, which has the newest first, with `room` bytes for them; up to the first that is refused.
@@ -35,15 +37,16 @@ pub fn look_all(
     requires { ⌜ countsAsStarted (view s (now keys) (now links) (now certs) (now order)) ≡ true ⌝ }
     requires { ⌜ Rising (view s (now keys) (now links) (now certs) (now order)) 0 (chainOf list count) ⌝ }
     requires { ⌜ count ≤ 512 ⌝ }
-    ensures { λ r. ⌜ unlessFailed r (good (chainBytes (view s (now (keys .entry)) (now (links .entry)) (now (certs .entry)) (now (order .entry))) (chainOf list count)))
+    ensures { λ r. ⌜ unlessFailed r (good (looks (view s (now (keys .entry)) (now (links .entry)) (now (certs .entry)) (now (order .entry))) (chainOf list count)))
         ≡ outlookAll (view s (now (keys .entry)) (now (links .entry)) (now (certs .entry)) (now (order .entry))) room (chainOf list count) ⌝ }
 {
+    let mut taken = [false; PLACES_MAX];
     let mut left = room;
     let mut k = count;
     while 0 < k {
         k -= 1;
         let e = list[k];
-        let o = look_one(s, keys, links, certs, order, e, left);
+        let o = look_one(s, keys, links, certs, &mut taken, order, e, left);
         let check = o.check;
         if let Check::Failed(r) = check {
             return Check::Failed(r);
@@ -66,16 +69,18 @@ pub fn put_looks(
 )
     requires { ⌜ countsAsStarted (view s (now keys) (now links) (now certs) (now order)) ≡ true ⌝ }
     requires { ⌜ Rising (view s (now keys) (now links) (now certs) (now order)) 0 (chainOf list count) ⌝ }
-    requires { ⌜ (count ≤ 512) × (length (chainBytes (view s (now keys) (now links) (now certs) (now order)) (chainOf list count)) ≤ length (now b)) ⌝ }
+    requires { ⌜ (count ≤ 512) × (tests (view s (now keys) (now links) (now certs) (now order)) (chainOf list count) ≡ good 0) ⌝ }
+    requires { ⌜ length (looks (view s (now keys) (now links) (now certs) (now order)) (chainOf list count)) ≤ length (now b) ⌝ }
     ensures { λ r. ⌜ now (b .exit) ≡ written (now (b .entry)) 0
-        (chainBytes (view s (now (keys .entry)) (now (links .entry)) (now (certs .entry)) (now (order .entry))) (chainOf list count)) ⌝ }
+        (looks (view s (now (keys .entry)) (now (links .entry)) (now (certs .entry)) (now (order .entry))) (chainOf list count)) ⌝ }
 {
+    let mut taken = [false; PLACES_MAX];
     let mut at: usize = 0;
     let mut k = count;
     while 0 < k {
         k -= 1;
         let e = list[k];
-        at = put_look(s, keys, links, certs, order, b, at, e);
+        at = put_look(s, keys, links, certs, &mut taken, order, b, at, e);
     }
 }
 

@@ -3,3 +3,4 @@
 pub mod chain;
 pub mod look;
 pub mod outlook;
+pub mod take;

@@ -1,27 +1,26 @@
 // Origin: dag/commit/mod.rs (dequeue_anchor).
 // Added by document 01, 'Outlook': one anchor is tested as for a commit, but for the gap question and the lists, and told: its id, the
-// number of points in its history, and how many points it needs in each round.
+// number of points in its history, and how many points it needs in each round. By document 02, N6, the anchors before it count as
+// committed: `taken` has the places of their histories.
 ghost use mathlib.Core.Path.{_≡_};
-ghost use mathlib.Core.Bool.{true};
 ghost use Prim.Native.Nat.{_+_, _*_, _-_, _≤_};
 ghost use lib.ListN.{length};
 ghost use Rattle.laws.specs.Lists.{joined};
 ghost use Rattle.laws.specs.Bytes.{be, written};
-ghost use Rattle.spec.specs.Chain.{good};
-ghost use Rattle.spec.specs.Rules.{countsAsStarted};
-ghost use Rattle.spec.specs.History.{downFrom, outlookBytes};
-ghost use Rattle.spec.specs.Outlook.{lookSize};
-ghost use Rattle.spec.specs.Walk.{Anchored};
-ghost use Rattle.models.specs.Tables.{Inside};
-ghost use Rattle.models.specs.Refusal.{unlessFailed};
+ghost use Rattle.spec.specs.History.{downFrom};
+ghost use Rattle.models.specs.Tables.{Inside, Used};
+ghost use Rattle.models.specs.declared.refusal.Check.the-variants.{Passed};
 ghost use Rattle.dag_round_keys.specs.Sorted.{Sorted};
-ghost use Rattle.tables_test.specs.View.{view};
+ghost use Rattle.tables_test.specs.Refines.{Started};
+ghost use Rattle.back_history.specs.Supposing.{supposing};
+ghost use Rattle.back_committable.specs.Model.{gatheredOf, testedOf};
 ghost use Rattle.back_order.specs.Counts.{countsBy};
-ghost use Rattle.back_walk.specs.Refines.{enqueuedOf};
-ghost use Rattle.commit_outlook.specs.Look.{lookAt};
+ghost use Rattle.commit_outlook.specs.Look.{lookLong, lookBytes, lookCode, Took};
+use crate::take::take_history;
 use answer_bytes::put_id;
 use answer_bytes::put_number;
-use back_committable::anchor::test_anchor;
+use back_committable::anchor::gather_history;
+use back_committable::anchor::test_supposed;
 use back_order::count_round;
 use back_walk::EnqueuedAnchor;
 use commit_state::state::State;
@@ -51,23 +50,27 @@ fn look_size(round: Round, lowest: Round) -> usize
     LOOK_BYTES + n * COUNT_BYTES
 }
 
-// One anchor, with `left` bytes of the buffer left.
+// The tests of one anchor, with `left` bytes of the buffer left. One that passes takes its history.
 pub fn look_one(
     s: State,
     keys: &[u64],
     links: &[u64],
     certs: &[u64],
+    taken: &mut [bool; PLACES_MAX],
     order: &[u64],
     e: EnqueuedAnchor,
     left: usize,
 ) -> Look
-    requires { ⌜ countsAsStarted (view s (now keys) (now links) (now certs) (now order)) ≡ true ⌝ }
-    requires { ⌜ Anchored (view s (now keys) (now links) (now certs) (now order)) (enqueuedOf e) ⌝ }
-    ensures outcome { λ r. ⌜ unlessFailed (r .check) (good (e .anchor)) ≡ lookAt (view s (now (keys .entry)) (now (links .entry)) (now (certs .entry)) (now (order .entry))) left (e .anchor) ⌝ }
-    ensures bytes { λ r. ⌜ r .size ≡ lookSize (view s (now (keys .entry)) (now (links .entry)) (now (certs .entry)) (now (order .entry))) (e .anchor) ⌝ }
+    requires { ⌜ Started s (now keys) (now links) (now certs) (now order) ⌝ }
+    requires { ⌜ Used (now order) (s .count) (e .anchor) × (length (now taken) ≡ 4096) ⌝ }
+    ensures outcome { λ r. ⌜ r .check ≡ lookCode (testedOf s (now (keys .entry)) (now (links .entry)) (supposing (now (taken .entry)) (now (certs .entry))) (now (order .entry)) (e .anchor) .check) left
+        (lookLong (now (keys .entry)) (e .anchor) (gatheredOf s (now (keys .entry)) (now (links .entry)) (supposing (now (taken .entry)) (now (certs .entry))) (now (order .entry)) (e .anchor))) ⌝ }
+    ensures bytes { λ r. ⌜ r .size ≡ lookLong (now (keys .entry)) (e .anchor) (gatheredOf s (now (keys .entry)) (now (links .entry)) (supposing (now (taken .entry)) (now (certs .entry))) (now (order .entry)) (e .anchor)) ⌝ }
+    ensures took { λ r. ⌜ (r .check ≡ Passed → Took (now (certs .entry)) (now (order .entry)) (now (taken .entry))
+        (gatheredOf s (now (keys .entry)) (now (links .entry)) (supposing (now (taken .entry)) (now (certs .entry))) (now (order .entry)) (e .anchor)) (now (taken .exit))) ⌝ }
 {
     let a = e.anchor as usize;
-    let t = test_anchor(s, keys, links, certs, order, a);
+    let t = test_supposed(s, keys, links, certs, taken, order, a);
     let round = round_at(keys, a);
     let lowest = t.lowest;
     let size = look_size(round, lowest);
@@ -84,6 +87,8 @@ pub fn look_one(
             size,
         };
     }
+    let marks = t.marks;
+    take_history(taken, &marks, certs, order, t.low, t.high);
     Look {
         check: Check::Passed,
         size,
@@ -120,30 +125,37 @@ fn put_counts(
     next
 }
 
-// The bytes of an anchor that passed, from byte `at` on. Its marks are made again: they are too many to keep for all anchors.
+// The bytes of an anchor that passed, from byte `at` on; it takes its history. That is gathered again, without the tests: the counts of
+// all anchors are too many to keep.
 pub fn put_look(
     s: State,
     keys: &[u64],
     links: &[u64],
     certs: &[u64],
+    taken: &mut [bool; PLACES_MAX],
     order: &[u64],
     b: &mut [u8],
     at: usize,
     e: EnqueuedAnchor,
 ) -> usize
-    requires { ⌜ countsAsStarted (view s (now keys) (now links) (now certs) (now order)) ≡ true ⌝ }
-    requires { ⌜ Anchored (view s (now keys) (now links) (now certs) (now order)) (enqueuedOf e) ⌝ }
-    requires { ⌜ at + lookSize (view s (now keys) (now links) (now certs) (now order)) (e .anchor) ≤ length (now b) ⌝ }
-    ensures next { λ r. ⌜ r ≡ at + lookSize (view s (now (keys .entry)) (now (links .entry)) (now (certs .entry)) (now (order .entry))) (e .anchor) ⌝ }
-    ensures bytes { λ r. ⌜ now (b .exit) ≡ written (now (b .entry)) at
-        (outlookBytes (view s (now (keys .entry)) (now (links .entry)) (now (certs .entry)) (now (order .entry))) (e .anchor)) ⌝ }
+    requires { ⌜ Started s (now keys) (now links) (now certs) (now order) ⌝ }
+    requires { ⌜ Used (now order) (s .count) (e .anchor) × (length (now taken) ≡ 4096) ⌝ }
+    requires { ⌜ at + lookLong (now keys) (e .anchor) (gatheredOf s (now keys) (now links) (supposing (now taken) (now certs)) (now order) (e .anchor)) ≤ length (now b) ⌝ }
+    ensures next { λ r. ⌜ r ≡ at + lookLong (now (keys .entry)) (e .anchor) (gatheredOf s (now (keys .entry)) (now (links .entry)) (supposing (now (taken .entry)) (now (certs .entry))) (now (order .entry)) (e .anchor)) ⌝ }
+    ensures bytes { λ r. ⌜ now (b .exit) ≡ written (now (b .entry)) at (lookBytes (s .count) (now (keys .entry)) (now (order .entry)) (e .anchor)
+        (gatheredOf s (now (keys .entry)) (now (links .entry)) (supposing (now (taken .entry)) (now (certs .entry))) (now (order .entry)) (e .anchor))) ⌝ }
+    ensures took { λ r. ⌜ Took (now (certs .entry)) (now (order .entry)) (now (taken .entry))
+        (gatheredOf s (now (keys .entry)) (now (links .entry)) (supposing (now (taken .entry)) (now (certs .entry))) (now (order .entry)) (e .anchor)) (now (taken .exit)) ⌝ }
 {
     let a = e.anchor as usize;
-    let t = test_anchor(s, keys, links, certs, order, a);
     let round = round_at(keys, a);
-    let lowest = t.lowest;
-    let marks = t.marks;
+    let g = gather_history(s, keys, links, certs, taken, order, a);
+    let span = g.span;
+    let lowest = span.lowest;
+    let marks = g.marks;
     let m = put_id(b, at, keys, a);
-    let c = put_number(b, m, 4, t.count as u64);
-    put_counts(b, c, keys, order, s.count, &marks, round, lowest)
+    let c = put_number(b, m, 4, g.count as u64);
+    let end = put_counts(b, c, keys, order, s.count, &marks, round, lowest);
+    take_history(taken, &marks, certs, order, span.low, span.high);
+    end
 }

@@ -84,11 +84,11 @@ SumsFollow = (s : Made) (b : StartArgs) (ms : List Made) → s .what ≡ start b
 
 -- ---- the code's lists are the definitions'
 
-answer-is : (m : Made) → outcome m .answer ≡ answerOf (m .left .answer)
+pub answer-is : (m : Made) → outcome m .answer ≡ answerOf (m .left .answer)
 unfolding outcomeOf
 answer-is m = refl
 
-buffer-is : (m : Made) → outcome m .buffer ≡ m .left .buffer
+pub buffer-is : (m : Made) → outcome m .buffer ≡ m .left .buffer
 unfolding outcomeOf
 buffer-is m = refl
 
@@ -143,8 +143,8 @@ from-answer (Refused r n) = ap (λ (x : Refusal). Refused x n) (refusal-from-of 
 answer-same : (x y : Answer) → answerOf x ≡ answerOf y → x ≡ y
 answer-same x y e = sym (from-answer x) ∙ (ap fromAnswer e ∙ from-answer y)
 
--- what a commit that was made answered and wrote
-made-is : (m : Made) (s : Store) (c : Call) → viewOf (m .before) ≡ s → m .what ≡ c → outcome m ≡ call s c
+-- what a call that was made answered and wrote
+pub made-is : (m : Made) (s : Store) (c : Call) → viewOf (m .before) ≡ s → m .what ≡ c → outcome m ≡ call s c
 made-is m s c e f = m .did .answer ∙ ap₂ call e f
 
 -- what a start that is done answers and leaves in 01's terms

@@ -1,4 +1,5 @@
 pub mod Code
+pub mod Told
 pub mod Recorded
 pub mod Played
 pub mod Lines

@@ -41,6 +41,10 @@ linked f = record { top = f .top; started = true; completed = true; committed = 
 unfoldable pub marked : Flags → Flags
 marked f = record { top = f .top; started = f .started; completed = f .completed; committed = true }
 
+-- the word with the committed bit
+unfoldable pub committedWord : ℕ → ℕ
+committedWord c = word (marked (flagsOf c)) (heightOf c)
+
 -- what a bit adds to the word
 bit-is : (w x : ℕ) → x < 2 → bit w (eqb x 1) ≡ x * w
 bit-is w zero l = omega arith

@@ -10,16 +10,11 @@ use lib.ListN.{length, getD, set, length-set}
 use lib.Seq.{getD-set-same, getD-set-other}
 use borrow.Author.Tests.{le-leb, lt-leb, lt-ltb, le-ltb}
 use Rattle.laws.specs.Test.{byTest, sameOr, leOr, both, and-no}
-use Rattle.spec.specs.Store.{word}
-use Rattle.models.specs.Cert.{flagsOf, heightOf, marked}
+use Rattle.models.specs.Cert.{flagsOf, heightOf, marked, committedWord}
 use Rattle.models.specs.Tables.{placeAt, Inside}
 use Rattle.cert_certify.specs.Word.{word-small}
 use Rattle.back_history.specs.Model.{isUncommitted}
 use Rattle.output_record.specs.Picked.{and-fails, isPicked}
-
--- the word with the committed bit
-unfoldable pub committedWord : ℕ → ℕ
-committedWord c = word (marked (flagsOf c)) (heightOf c)
 
 -- the word of place q set, if q passes
 unfoldable pub markOne : Bool → List ℕ → ℕ → List ℕ

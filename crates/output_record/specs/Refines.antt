@@ -1,8 +1,8 @@
 -- What one committed anchor writes is what document 01 says (commit/mod.rs, output.rs): the record's bytes, and the store after it.
-use Prim.Native.Nat.{ℕ, _+_, _*_, _%_, _≤_, _<_, _-_}
+use Prim.Native.Nat.{ℕ, _+_, _*_, _≤_, _<_, _-_}
 use mathlib.Core.Path.{_≡_, refl, sym, ap, ap₂, subst, _∙_}
 use mathlib.Core.List.{List, _++_, map, append-assoc}
-use mathlib.Core.Bool.{Bool, true, false, not, _&&_, _||_, cond}
+use mathlib.Core.Bool.{Bool, true, false, not, _&&_, cond}
 use mathlib.Core.Option.{none, some}
 use native.Mathlib.Omega.{arith}
 use lib.Dec.{eqb, leb, ltb}
@@ -23,12 +23,11 @@ use Rattle.spec.specs.WellFormed.{Wf, countsAsStarted-elim, countsAsStarted-int
 use Rattle.spec.specs.Walk.{Anchored, Tested}
 use Rattle.spec.specs.Preservation.{mark-kept}
 use Rattle.models.specs.Digest.{Fit}
-use Rattle.models.specs.Cert.{flagsOf, heightOf, marked}
+use Rattle.models.specs.Cert.{heightOf, committedWord}
 use Rattle.models.specs.Tables.{roundAt, authorAt, placeAt, Inside, Used, isUsed, used-is}
 use Rattle.dag_round_keys.specs.Sorted.{sorted-apart}
 use Rattle.commit_state.specs.View.{givenAt, pointAt, resolutionAt, roundsOf, confOf, progressOf, memoryOf, optionOf, gapOf}
 use Rattle.commit_state.specs.declared.state.State.{State}
-use Rattle.cert_certify.specs.Word.{flags-word, height-word}
 use Rattle.cert_certify.specs.Settled.{cert-small, shape-certs, regular-certs}
 use Rattle.tables_test.specs.Model.{shape, shape-says, places-says}
 use Rattle.tables_test.specs.View.{view, regular, seenAt}
@@ -37,13 +36,14 @@ use Rattle.tables_test.specs.Whole.{sized, places-is}
 use Rattle.tables_test.specs.Refines.{Started, counted}
 use Rattle.answer_bytes.specs.Bytes.{placeId}
 use Rattle.back_history.specs.Model.{isUncommitted}
+use Rattle.back_history.specs.Supposing.{flags-marked, height-marked}
 use Rattle.back_history.specs.RefinesNeeded.{lowestOf, marksOf}
 use Rattle.back_history.specs.Refines.{picked}
 use Rattle.back_order.specs.Drawn.{drawnBy}
 use Rattle.back_order.specs.Refines.{order-is, drawn-used}
 use Rattle.output_record.specs.Sums.{lenSum, bytesSum, sumsOf}
 use Rattle.output_record.specs.Model.{flagOf, headOf, pointsOf, recordOf, executes, isFirstOf, previousOf}
-use Rattle.output_record.specs.Marks.{Small, committedWord, marksAll, marks-length, marks-at, marks-small}
+use Rattle.output_record.specs.Marks.{Small, marksAll, marks-length, marks-at, marks-small}
 use Rattle.output_record.specs.ModelState.{afterState, option-is, asked-is, gap-reads, after-rounds}
 use Rattle.output_record.specs.History.{Picks, id-seen, used-named, history-used, history-is, sum-is}
 
@@ -52,18 +52,6 @@ six-parts : (a b c d e f : List ℕ) → (a ++ (b ++ (c ++ (d ++ e)))) ++ f ≡ 
 six-parts a b c d e f =
     append-assoc a (b ++ (c ++ (d ++ e))) f
     ∙ ap (λ (l : List ℕ). a ++ l) (append-assoc b (c ++ (d ++ e)) f ∙ ap (λ (l : List ℕ). b ++ l) (append-assoc c (d ++ e) f ∙ ap (λ (l : List ℕ). c ++ l) (append-assoc d e f)))
-
--- the flags of a word whose committed bit is set, or not
-flags-marked : (b : Bool) (c d : ℕ) → d ≡ cond b (committedWord c) c → flagsOf d ≡ record { top = flagsOf c .top; started = flagsOf c .started; completed = flagsOf c .completed; committed = b || flagsOf c .committed }
-unfolding committedWord marked heightOf
-flags-marked true c d e = ap flagsOf e ∙ flags-word (marked (flagsOf c)) (heightOf c) (omega arith)
-flags-marked false c d e = ap flagsOf e
-
--- its height
-height-marked : (b : Bool) (c d : ℕ) → d ≡ cond b (committedWord c) c → heightOf d ≡ heightOf c
-unfolding committedWord heightOf
-height-marked true c d e = ap heightOf e ∙ height-word (marked (flagsOf c)) (c % 4096) (omega arith)
-height-marked false c d e = ap heightOf e
 
 module _ (s : State) (ks ls cs os : List ℕ) (fk : Fit ks) (fl : Fit ls) (h : countsAsStarted (view s ks ls cs os) ≡ true) where
   -- the store before

@@ -1,5 +1,5 @@
 -- Demand 3, the statement (01: 'Demand 3'). Its proof is in Demand3.antt.
-use Prim.Native.Nat.{ℕ, zero, suc, _+_, _-_, _*_, _^_, _<_, _≤_}
+use Prim.Native.Nat.{ℕ, zero, suc, _+_, _-_, _*_, _^_, _<_, _≤_, max}
 use mathlib.Core.Path.{_≡_}
 use mathlib.Core.Logic.{_⊎_, _≢_, _↔_}
 use mathlib.Core.Bool.{Bool, true, false, not, _&&_, _||_}
@@ -14,7 +14,7 @@ use Rattle.spec.specs.Store.{Resolution, Store, idAt, find, statusAt, re
 use Rattle.spec.specs.Paths.{Path}
 use Rattle.spec.specs.Rules.{countsAsStarted}
 use Rattle.spec.specs.Chain.{Refusal, number, Out, bad, good, EnqueuedAnchor, anchorsOf}
-use Rattle.spec.specs.History.{limit, afterLists, recordBytes, testAnchor, dequeued}
+use Rattle.spec.specs.History.{limit, listsOk, afterLists, recordBytes, testAnchor, dequeued}
 use Rattle.spec.specs.Calls.{Answer, done, flag, anchors, refused, Outcome, withoutBuffer, StartArgs, Call, start, resetAll, round, name, resolve, certify, gapQuestion, commit, outlook, remove, drop as dropTo, call}
 use Rattle.spec.specs.HeightEquations.{Sized}
 
@@ -217,3 +217,34 @@ Summed G h = h .tail ≡ be 8 (weigh (paid (λ g. g .payloadLen) G) (h .ids)) ++
 abbrev pub SumsFollow : Type 0
 SumsFollow = (s : Store) (b : StartArgs) (cs : List Call) → call s (start b) .answer ≡ done → AllInList cs
     → let t = call s (start b) .store in (h : History) → List·Memᴰ h (histories t cs) → Summed (resolutions t cs) h
+
+-- ---- the outlook's counts (02: N6)
+
+-- what an outlook tells of an anchor: its id, the number of its points, and how many points are linked in each of its rounds
+pub record Told : Type 0 where
+  pub anchor : Id
+  pub points : ℕ
+  pub linked : List ℕ
+
+-- numbers of 4 bytes
+unfoldable pub readCounts : ℕ → List ℕ → List ℕ
+readCounts zero bs = []
+readCounts (suc k) bs = value 0 (take 4 bs) ∷ readCounts k (drop 4 bs)
+
+-- the records of an outlook; 02, N1: a count for "each round from the anchor's down to the limit or the store's bottom"
+unfoldable pub readTold : Store → ℕ → List ℕ → List Told
+readTold s zero bs = []
+readTold s (suc n) bs =
+    let who = readId bs in
+    let rounds = suc (who .round) - max (limit (s .conf) (who .round)) (s .bottom) in
+    record { anchor = who; points = value 0 (take 4 (drop 37 bs)); linked = readCounts rounds (drop 41 bs) } ∷ readTold s n (drop (41 + rounds * 4) bs)
+
+-- "If no call lies between and the commit isn't refused, the commit's counts are the outlook's. The linked counts from N1 suppose the same."
+-- Of any tables that count as started: the same anchors, each with as many points, and the lists that the commit was lent are right by the
+-- linked counts of all anchors.
+abbrev pub CountsAgree : Type 0
+CountsAgree = (s : Store) → Sized s → countsAsStarted s ≡ true → (i : Id) (c l b : List ℕ) (m n : ℕ) → call s (outlook i c) .answer ≡ anchors m → call s (commit i l b) .answer ≡ anchors n
+    → let told = readTold s m (call s (outlook i c) .buffer) in
+    let records = readRecords s n (call s (commit i l b) .buffer) in
+    (m ≡ n) × (map (λ (h : History). h .anchor) records ≡ map (λ (t : Told). t .anchor) told) × (map (λ (h : History). length (h .ids)) records ≡ map (λ (t : Told). t .points) told)
+    × (listsOk (joined (λ (t : Told). t .linked) told) l ≡ true)

@@ -5,27 +5,25 @@ use mathlib.Core.Logic.{_⊎_, inl, inr, _↔_, ⊎-elim}
 use mathlib.Core.Bool.{true, false, false≢true}
 use mathlib.Core.List.{List, [], _∷_, _++_, map, append-assoc, append-nil, List·Memᴰ, List·Memᴰ·head, List·Memᴰ·tail, List·Memᴰ·not-nil, List·Memᴰ·cases-cons, List·Memᴰ·append-cases, List·Memᴰ·eq-of-singleton, Memᴰ·append-left, Memᴰ·append-right}
 use mathlib.Core.Option.{Option, none, some}
-use lib.Dec.{eqb, ltb}
-use lib.ListN.{length, take, length-map}
+use lib.Dec.{eqb}
+use lib.ListN.{length, take}
 use borrow.Author.Tests.{leb-true, le-leb, ltb-true}
 use native.Mathlib.Omega.{arith}
 use native.Mathlib.Nat.{le-trans, sub-zero, zero-add}
-use Rattle.laws.specs.Test.{byTest, clash, yes-or-no, both, and-l, and-r}
-use Rattle.laws.specs.Scan.{those, those-most}
+use Rattle.laws.specs.Test.{byTest, clash, yes-or-no, both, and-l}
 use Rattle.laws.specs.Lists.{NoDup, nodup-append, mem-map, joined, weigh}
-use Rattle.laws.specs.Sort.{sort-length}
 use Rattle.laws.specs.Bytes.{be}
-use Rattle.spec.specs.Ids.{Id, sameId, rises}
+use Rattle.spec.specs.Ids.{Id, sameId}
 use Rattle.spec.specs.Store.{Resolution, Memory, Store, idAt, roundAt, resolved, retained}
 use Rattle.spec.specs.Paths.{Path, here, step, LinkedTo}
-use Rattle.spec.specs.Rules.{isPeer, placesOk}
+use Rattle.spec.specs.Rules.{isPeer}
 use Rattle.spec.specs.Chain.{Refusal, Out, bad, good, EnqueuedAnchor, orZero, anchorsOf}
 use Rattle.spec.specs.History.{limit, lowest, inHistory, history, summed, tailBytes, dequeued, Finished, commitAll}
 use Rattle.spec.specs.Calls.{Outcome, finish, StartArgs, startOk, memoryKept, begun, doResolve, commitEnd, doCommit, Call, start, resetAll, round, name, resolve, certify, gapQuestion, commit, outlook, remove, drop as dropTo, perform, call}
 use Rattle.spec.specs.Graph.{snoc, path-down}
 use Rattle.spec.specs.Links.{down, linked, resolved-named}
 use Rattle.spec.specs.WellFormed.{Wf}
-use Rattle.spec.specs.Order.{history-elim, history-named}
+use Rattle.spec.specs.Order.{history-elim, history-named, history-few}
 use Rattle.spec.specs.OrderInRound.{order-mem, order-once, order-length, order-sum}
 use Rattle.spec.specs.Walk.{same-id, id-same}
 use Rattle.spec.specs.Accepted.{finish-store, name-way, resolve-way, certify-way}
@@ -79,14 +77,6 @@ max-below x y n a b = omega arith
 author-small : (s : Store) (i : Id) → isPeer s i ≡ true → i .author < 32
 unfolding isPeer
 author-small s i h = ltb-true _ _ (and-l _ _ h)
-
-places-small : (n : ℕ) → placesOk n ≡ true → n ≤ 4096
-unfolding placesOk
-places-small n h = leb-true _ _ (and-r (ltb 0 n) _ h)
-
-history-length : (s : Store) (a : ℕ) → length (history s a) ≤ s .places
-unfolding history
-history-length s a = subst (λ n. n ≤ s .places) (sym (sort-length rises (map (idAt s) (those (s .places) (inHistory s a))) ∙ length-map (those (s .places) (inHistory s a)) (idAt s))) (those-most (s .places) (inHistory s a))
 
 -- the ids of a finished anchor's record are those of its history
 ids-mem : (hs : List Id) (e : Event) → Right hs e → (x : Id) → List·Memᴰ x (ids e) ↔ List·Memᴰ x (history (e .from) (e .enq .anchor))
@@ -161,7 +151,7 @@ module _ (s : Store) (hs : List Id) (e : Event) (r : Right hs e) (f : Frame s (e
       fit q n = (omega (arith, r .inv .wf .kept q n, r .inv .wf .high), omega (arith, author-small (e .from) (idAt (e .from) q) (r .inv .wf .peer q n)), r .inv .wide q n)
 
       small : length (ids e) < 256 ^ 4
-      small = omega (arith, order-length (e .from) (r .inv .wf) (e .enq .anchor) (r .next .there) (e .list) (r .listed), history-length (e .from) (e .enq .anchor), places-small (e .from .places) (r .inv .wf .places-ok))
+      small = omega (arith, order-length (e .from) (r .inv .wf) (e .enq .anchor) (r .next .there) (e .list) (r .listed), history-few (e .from) (r .inv .wf) (e .enq .anchor))
 
 -- ---- the sums of one record
 

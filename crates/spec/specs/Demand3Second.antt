@@ -28,7 +28,7 @@ use Rattle.spec.specs.Extension.{reTop, Late, late-refl, late-trans, sam
 
 -- ---- what arrives
 
-good-same : {A : Type 0} (x y : A) → _≡_ {A = Out A} (good x) (good y) → x ≡ y
+pub good-same : {A : Type 0} (x y : A) → _≡_ {A = Out A} (good x) (good y) → x ≡ y
 good-same x y h = cc
 
 add-late : (s : Store) (peers : ℕ) → Late s (addRound s peers)
@@ -271,10 +271,10 @@ ended : (f : Finished) → f .stopped ≡ none → (commitEnd f .answer ≡ anch
 unfolding commitEnd
 ended f h = (rw h refl, refl)
 
-not-handed : (r : Refusal) (m n : ℕ) → refused r m ≡ anchors n → ⊥
+pub not-handed : (r : Refusal) (m n : ℕ) → refused r m ≡ anchors n → ⊥
 not-handed r m n h = let z : _≡_ {A = ℕ} 0 1 = cc in omega arith
 
-same-handed : (m n : ℕ) → anchors m ≡ anchors n → m ≡ n
+pub same-handed : (m n : ℕ) → anchors m ≡ anchors n → m ≡ n
 same-handed m n h = cc
 
 handed-end : (f : Finished) (n : ℕ) → commitEnd f .answer ≡ anchors n → (f .stopped ≡ none) × (f .anchors ≡ n)
@@ -289,27 +289,37 @@ handed-end f n h = go (f .stopped) refl h
     go none e k = (e, same-handed _ _ k)
     go (some r) e k = absurd (not-handed r _ n k)
 
--- a commit that hands out an anchor: the anchors of its trigger, none refused
-handed-anchor : (s : Store) (i : Id) (ls b : List ℕ) (n : ℕ) → doCommit s i ls b .answer ≡ anchors (suc n)
-    → (e : EnqueuedAnchor) × (es : List EnqueuedAnchor) × (anchorsOf s i ≡ good (e ∷ es)) × (commitAll s ls b 0 0 (e ∷ es) .stopped ≡ none)
-unfolding doCommit commitAll
-handed-anchor s i ls b n h = go (anchorsOf s i) refl h
+-- a commit that isn't refused: the anchors of its trigger, none refused
+pub handed-anchors : (s : Store) (i : Id) (ls b : List ℕ) (n : ℕ) → doCommit s i ls b .answer ≡ anchors n
+    → (es : List EnqueuedAnchor) × (anchorsOf s i ≡ good es) × (commitAll s ls b 0 0 es .stopped ≡ none) × (commitAll s ls b 0 0 es .anchors ≡ n)
+unfolding doCommit
+handed-anchors s i ls b n h = go (anchorsOf s i) refl h
   where
     does : Out (List EnqueuedAnchor) → Outcome
     does o = elim o [ bad r ↦ record { answer = refused r 0; store = s; buffer = b } | good es ↦ commitEnd (commitAll s ls b 0 0 es) ]
 
-    go : (o : Out (List EnqueuedAnchor)) → anchorsOf s i ≡ o → does o .answer ≡ anchors (suc n)
+    go : (o : Out (List EnqueuedAnchor)) → anchorsOf s i ≡ o → does o .answer ≡ anchors n → (es : List EnqueuedAnchor) × (anchorsOf s i ≡ good es) × (commitAll s ls b 0 0 es .stopped ≡ none) × (commitAll s ls b 0 0 es .anchors ≡ n)
+    go (bad r) e k = absurd (not-handed r 0 n k)
+    go (good es) e k = let (x, y) = handed-end (commitAll s ls b 0 0 es) n k in (es, e, x, y)
+
+-- one that hands out an anchor
+handed-anchor : (s : Store) (i : Id) (ls b : List ℕ) (n : ℕ) → doCommit s i ls b .answer ≡ anchors (suc n)
+    → (e : EnqueuedAnchor) × (es : List EnqueuedAnchor) × (anchorsOf s i ≡ good (e ∷ es)) × (commitAll s ls b 0 0 (e ∷ es) .stopped ≡ none)
+unfolding commitAll
+handed-anchor s i ls b n h = go (handed-anchors s i ls b (suc n) h)
+  where
+    go : (es : List EnqueuedAnchor) × (anchorsOf s i ≡ good es) × (commitAll s ls b 0 0 es .stopped ≡ none) × (commitAll s ls b 0 0 es .anchors ≡ suc n)
         → (e : EnqueuedAnchor) × (es : List EnqueuedAnchor) × (anchorsOf s i ≡ good (e ∷ es)) × (commitAll s ls b 0 0 (e ∷ es) .stopped ≡ none)
-    go (bad r) e k = absurd (not-handed r 0 (suc n) k)
-    go (good []) e k = absurd (let z = handed-end (commitAll s ls b 0 0 []) (suc n) k .1 in omega arith)
-    go (good (x ∷ es)) e k = (x, es, e, handed-end _ (suc n) k .0)
+    go ([], e, k, z) = absurd (omega arith)
+    go (x ∷ es, e, k, z) = (x, es, e, k)
 
 -- a commit of tables that keep their rules
 pub commit-is : (s : Store) → Wf s → (i : Id) (ls b : List ℕ) → call s (commit i ls b) ≡ doCommit s i ls b
 unfolding perform
 commit-is s w i ls b = call-perform s w (commit i ls b)
 
-commit-answer : (s : Store) → Wf s → (i : Id) (ls b : List ℕ) (es : List EnqueuedAnchor) → anchorsOf s i ≡ good es → commitAll s ls b 0 0 es .stopped ≡ none
+-- one that nothing stops
+pub commit-answer : (s : Store) → Wf s → (i : Id) (ls b : List ℕ) (es : List EnqueuedAnchor) → anchorsOf s i ≡ good es → commitAll s ls b 0 0 es .stopped ≡ none
     → (call s (commit i ls b) .answer ≡ anchors (commitAll s ls b 0 0 es .anchors)) × (call s (commit i ls b) .buffer ≡ commitAll s ls b 0 0 es .buffer)
 unfolding doCommit
 commit-answer s w i ls b es h c = rw (commit-is s w i ls b) (rw (h, doCommit) (ended (commitAll s ls b 0 0 es) c))

@@ -1,5 +1,5 @@
--- Small lists of calls and what they give: each refusal, the order of the tests, chains of several anchors, place lists, picks, payload
--- sums, the look-up's answers, remove's bytes.
+-- Small lists of calls and what they give: each refusal, the order of the tests, chains of several anchors, place lists, outlooks, picks,
+-- payload sums, the look-up's answers, remove's bytes.
 use Prim.Native.Nat.{ℕ, suc, _+_, _*_}
 use mathlib.Core.Path.{_≡_, refl}
 use mathlib.Core.List.{List, [], _∷_, _++_, map}
@@ -304,9 +304,9 @@ missing b =
 
 abbrev others : List Row
 others =
-    -- counted from the marks now: 1 point, then 4, with the points of each round; 21 against its own buffer, nothing written; 13, 20 never
+    -- 1 point, then 3, the older anchor's committed, with the points of each round; 21 against its own buffer, nothing written; 13, 20 never
     row 1 (ended (glimpse (onTwo 1) 106)) (3 ∷ 2 ∷ 0 ∷ 0 ∷ [])
-    ∷ row 2 (bytes (glimpse (onTwo 1) 107) (3 ∷ 40 ∷ 44 ∷ 48 ∷ 52 ∷ 56 ∷ 93 ∷ 97 ∷ 101 ∷ 105 ∷ 106 ∷ [])) (13 ∷ 1 ∷ 1 ∷ 0 ∷ 0 ∷ 15 ∷ 4 ∷ 1 ∷ 2 ∷ 1 ∷ 0 ∷ [])
+    ∷ row 2 (bytes (glimpse (onTwo 1) 107) (3 ∷ 40 ∷ 44 ∷ 48 ∷ 52 ∷ 56 ∷ 93 ∷ 97 ∷ 101 ∷ 105 ∷ 106 ∷ [])) (13 ∷ 1 ∷ 1 ∷ 0 ∷ 0 ∷ 15 ∷ 3 ∷ 1 ∷ 2 ∷ 1 ∷ 0 ∷ [])
     ∷ row 3 (numbers (glimpse (onTwo 1) 105 .answer) ++ bytes (glimpse (onTwo 1) 105) (3 ∷ 40 ∷ [])) (4 ∷ 21 ∷ 0 ∷ 0 ∷ 0 ∷ [])
     ∷ row 4 (numbers (glimpse (onTwo 3) 106 .answer) ++ bytes (glimpse (onTwo 3) 106) (3 ∷ 40 ∷ [])) (4 ∷ 13 ∷ 0 ∷ 0 ∷ 0 ∷ [])
     ∷ row 5 (numbers (glimpse (after (blank 6) (two true (some 0) (side 1) firing ++ certs)) 106 .answer)) (3 ∷ 2 ∷ [])
@@ -383,16 +383,22 @@ three = id 11 0 3 ∷ id 11 1 1 ∷ id 11 2 2 ∷ []
 abbrev triple : List ℕ → Outcome
 triple l = call (under12 three (ref 0 3 ∷ ref 1 1 ∷ ref 2 2 ∷ [])) (commit (id 14 0 140) l (replicate 247 0))
 
--- two anchors 12.0.120 and 14.0.140 in one line of includes from 16.0.160 down to 11.0.110; p is done to each resolution
-abbrev ladderCalls : (Resolution → Resolution) → List Call
-ladderCalls p =
-    (from 2 10 false (some 0) ∷ rounds 11 6)
+-- two anchors 12.0.120 and 14.0.140 in one line of includes from 16.0.160 down to 11.0.110, then these calls; p is done to each resolution
+abbrev ladderOn : Call → List Call → (Resolution → Resolution) → List Call
+ladderOn begins then p =
+    (begins ∷ rounds 11 6)
     ++ (both (id 11 0 110) (p (gave 1 [] []))
     ++ (both (id 12 0 120) (p (point 1 false false (id 10 0 0) (ref 0 110 ∷ [])))
     ++ (both (id 13 0 130) (p (point 1 true false (id 10 0 0) (ref 0 120 ∷ [])))
     ++ (both (id 14 0 140) (p (point 1 false false (id 13 0 130) (ref 0 130 ∷ [])))
-    ++ (both (id 15 0 150) (p (point 1 true false (id 10 0 0) (ref 0 140 ∷ [])))
-    ++ (both (id 16 0 160) (p (point 1 false true (id 10 0 0) (ref 0 150 ∷ []))) ++ (certify (id 12 0 120) ∷ certify (id 14 0 140) ∷ [])))))))
+    ++ (both (id 15 0 150) (p (point 1 true false (id 10 0 0) (ref 0 140 ∷ []))) ++ (both (id 16 0 160) (p (point 1 false true (id 10 0 0) (ref 0 150 ∷ []))) ++ then))))))
+
+-- both anchors certified
+abbrev rungs : List Call
+rungs = certify (id 12 0 120) ∷ certify (id 14 0 140) ∷ []
+
+abbrev ladderCalls : (Resolution → Resolution) → List Call
+ladderCalls p = ladderOn (from 2 10 false (some 0)) rungs p
 
 abbrev ladderAs : (Resolution → Resolution) → Store
 ladderAs p = after (blank 6) (ladderCalls p)
@@ -448,8 +454,8 @@ lists =
     ∷ row 16 (four (triple (0 ∷ 1 ∷ 2 ∷ 0 ∷ []))) (3 ∷ 1 ∷ 1 ∷ 3 ∷ 2 ∷ 120 ∷ [])
     ∷ row 17 (four (triple (0 ∷ 2 ∷ 0 ∷ 1 ∷ []))) (3 ∷ 1 ∷ 2 ∷ 1 ∷ 3 ∷ 120 ∷ [])
     ∷ row 18 (four (triple (0 ∷ 0 ∷ 1 ∷ 2 ∷ []))) (3 ∷ 1 ∷ 3 ∷ 2 ∷ 1 ∷ 120 ∷ [])
-    -- two anchors, their lists end to end: 2 points and the counts of 12, 11; 3 points and those of 14, 13, 12
-    ∷ row 19 (numbers (glance ladder 102 .answer) ++ bytes (glance ladder 102) (3 ∷ 40 ∷ 44 ∷ 48 ∷ 52 ∷ 89 ∷ 93 ∷ 97 ∷ 101 ∷ [])) (3 ∷ 2 ∷ 12 ∷ 2 ∷ 1 ∷ 1 ∷ 14 ∷ 3 ∷ 1 ∷ 1 ∷ 1 ∷ [])
+    -- two anchors, their lists end to end: 2 points and the counts of 12, 11; 2 points and those of 14, 13, 12
+    ∷ row 19 (numbers (glance ladder 102 .answer) ++ bytes (glance ladder 102) (3 ∷ 40 ∷ 44 ∷ 48 ∷ 52 ∷ 89 ∷ 93 ∷ 97 ∷ 101 ∷ [])) (3 ∷ 2 ∷ 12 ∷ 2 ∷ 1 ∷ 1 ∷ 14 ∷ 2 ∷ 1 ∷ 1 ∷ 1 ∷ [])
     ∷ row 20 (numbers (glance ladder 101 .answer)) (stop 21)
     -- the point of 12 is needed again, and committed by then: not handed out twice
     ∷ row 21 (numbers (climb ladder (replicate 5 0) .answer) ++ (digests (climb ladder (replicate 5 0)) 0 (0 ∷ 1 ∷ []) ++ digests (climb ladder (replicate 5 0)) 173 (0 ∷ 1 ∷ []))) (3 ∷ 2 ∷ 110 ∷ 120 ∷ 130 ∷ 140 ∷ [])
@@ -469,6 +475,64 @@ lists =
 listed : agree lists ≡ true
 unfolding computed numbers same agree Lists.all
 listed = refl
+
+-- ---- outlooks of several anchors (02: N6)
+
+-- the ladder with another H, after a gap or not, then these calls
+abbrev ladderOf : ℕ → Bool → List Call → Store
+ladderOf h gap then = after (blank 6) (ladderOn (from h 10 gap (some 0)) then (λ t. t))
+
+-- H 4, so that the younger anchor's rounds hold all of the older one's points
+abbrev deep : Bool → List Call → Store
+deep gap then = ladderOf 4 gap (certify (id 14 0 140) ∷ then)
+
+-- with 12.1.121 over the point of 11, and 13.1.131 over both points of 12, which the younger anchor includes too
+abbrev broad : Store
+broad = after (blank 8) (
+    (from 4 10 false (some 0) ∷ rounds 11 6)
+    ++ (both (id 11 0 110) (gave 1 [] [])
+    ++ (both (id 12 0 120) (point 1 false false (id 10 0 0) (ref 0 110 ∷ []))
+    ++ (both (id 12 1 121) (gave 1 (ref 0 110 ∷ []) [])
+    ++ (both (id 13 0 130) (point 1 true false (id 10 0 0) (ref 0 120 ∷ []))
+    ++ (both (id 13 1 131) (gave 1 (ref 0 120 ∷ ref 1 121 ∷ []) [])
+    ++ (both (id 14 0 140) (point 1 false false (id 13 0 130) (ref 0 130 ∷ ref 1 131 ∷ []))
+    ++ (both (id 15 0 150) (point 1 true false (id 10 0 0) (ref 0 140 ∷ [])) ++ (both (id 16 0 160) (point 1 false true (id 10 0 0) (ref 0 150 ∷ [])) ++ (certify (id 14 0 140) ∷ []))))))))))
+
+-- the round, the number of points and the counts of the older anchor, whose record has 49 bytes, then of the younger
+abbrev numbersOf : Store → ℕ → List ℕ
+numbersOf s n = numbers (glance s n .answer) ++ bytes (glance s n) (3 ∷ 40 ∷ 44 ∷ 48 ∷ 52 ∷ 89 ∷ 93 ∷ 97 ∷ 101 ∷ 105 ∷ [])
+
+-- the answer, and the number of points of each of two records
+abbrev handedOut : Outcome → ℕ → List ℕ
+handedOut o at = numbers (o .answer) ++ bytes o (82 ∷ (at + 82) ∷ [])
+
+abbrev outlooks : List Row
+outlooks =
+    -- 2 points each; in 11 nothing is linked by an uncommitted point any more. A byte short, and short of the first: nothing written
+    row 1 (numbersOf (deep false []) 106) (3 ∷ 2 ∷ 12 ∷ 2 ∷ 1 ∷ 1 ∷ 14 ∷ 2 ∷ 1 ∷ 1 ∷ 1 ∷ 0 ∷ [])
+    ∷ row 2 (numbers (glance (deep false []) 105 .answer) ++ bytes (glance (deep false []) 105) (3 ∷ 40 ∷ 89 ∷ [])) (4 ∷ 21 ∷ 0 ∷ 0 ∷ 0 ∷ 0 ∷ [])
+    ∷ row 3 (numbers (glance (deep false []) 48 .answer) ++ bytes (glance (deep false []) 48) (3 ∷ 40 ∷ [])) (4 ∷ 21 ∷ 0 ∷ 0 ∷ 0 ∷ [])
+    -- the commit, with lists of just these lengths, and no anchors after it
+    ∷ row 4 (handedOut (climb (deep false []) (replicate 5 0)) 173) (3 ∷ 2 ∷ 2 ∷ 2 ∷ [])
+    ∷ row 5 (numbers (climb (deep false []) (replicate 4 0) .answer)) (4 ∷ 24 ∷ 1 ∷ [])
+    ∷ row 6 (numbers (glance (climb (deep false []) (replicate 5 0) .store) 106 .answer)) (3 ∷ 0 ∷ [])
+    -- after a gap the same numbers, before the question, which the commit asks for, and after it
+    ∷ row 7 (numbersOf (deep true []) 106) (numbersOf (deep false []) 106)
+    ∷ row 8 (numbers (climb (deep true []) (replicate 5 0) .answer)) (stop 20)
+    ∷ row 9 (numbersOf (deep true (gapQuestion ∷ [])) 106) (numbersOf (deep false []) 106)
+    ∷ row 10 (handedOut (climb (deep true (gapQuestion ∷ [])) (replicate 5 0)) 173) (3 ∷ 2 ∷ 2 ∷ 2 ∷ [])
+    -- the younger anchor is refused: 18, with nothing written of the older; the commit has finished that
+    ∷ row 11 (numbers (glance (ladderOf 4 false (certify (id 12 0 120) ∷ [])) 106 .answer) ++ bytes (glance (ladderOf 4 false (certify (id 12 0 120) ∷ [])) 106) (3 ∷ 40 ∷ [])) (4 ∷ 18 ∷ 0 ∷ 0 ∷ 0 ∷ [])
+    ∷ row 12 (numbers (climb (ladderOf 4 false (certify (id 12 0 120) ∷ [])) (replicate 5 0) .answer)) (4 ∷ 18 ∷ 1 ∷ [])
+    -- histories that don't overlap
+    ∷ row 13 (numbers (glance (ladderOf 1 false rungs) 98 .answer) ++ bytes (glance (ladderOf 1 false rungs) 98) (3 ∷ 40 ∷ 44 ∷ 48 ∷ 52 ∷ 89 ∷ 93 ∷ 97 ∷ [])) (3 ∷ 2 ∷ 12 ∷ 2 ∷ 1 ∷ 1 ∷ 14 ∷ 2 ∷ 1 ∷ 1 ∷ [])
+    -- points of the older history that a new one links to are linked, committed by then
+    ∷ row 14 (numbersOf broad 106) (3 ∷ 2 ∷ 12 ∷ 2 ∷ 1 ∷ 1 ∷ 14 ∷ 4 ∷ 1 ∷ 2 ∷ 2 ∷ 1 ∷ [])
+    ∷ []
+
+outlooks-agree : agree outlooks ≡ true
+unfolding computed numbers same agree Lists.all
+outlooks-agree = refl
 
 -- ---- picks (02: N4)
 

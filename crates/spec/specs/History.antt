@@ -234,14 +234,15 @@ commitAll s l b at n (e ∷ es) =
 
 -- ---- the outlook
 
--- "for each anchor a trigger would yield, its id and the number of points in its history (4 bytes), counted from the committed marks now";
--- 02, N1: "each of its records ends with how many such points each of those rounds has (4 bytes each)"
+-- "for each anchor a trigger would yield, its id and the number of points in its history (4 bytes)"; 02, N1: "each of its records ends with
+-- how many such points each of those rounds has (4 bytes each)"; s: the store from which the anchor is counted
 unfoldable pub outlookBytes : Store → ℕ → List ℕ
 outlookBytes s a = idBytes (idAt s a) ++ (be 4 (length (history s a)) ++ joined (be 4) (linkedCounts s a))
 
--- "It is refused as the commit would be, by 20 never, by 21 for its own buffer"; left: the bytes of it that are left
+-- 02, N6: "Each anchor's count now supposes that the anchors before it in the same outlook have been committed. .. The linked counts from N1
+-- suppose the same."; 01: "It is refused as the commit would be, by 20 never, by 21 for its own buffer"; left: the bytes of it that are left
 unfoldable pub outlookAll : Store → ℕ → List EnqueuedAnchor → Out (List ℕ)
 outlookAll s left [] = good []
 outlookAll s left (e ∷ es) =
     let bytes = outlookBytes s (e .anchor) in
-    then (tested s (e .anchor)) (λ a. refuse (ltb left (length bytes)) 21 (then (outlookAll s (left - length bytes) es) (λ rest. good (bytes ++ rest))))
+    then (tested s (e .anchor)) (λ a. refuse (ltb left (length bytes)) 21 (then (outlookAll (dequeued s e) (left - length bytes) es) (λ rest. good (bytes ++ rest))))

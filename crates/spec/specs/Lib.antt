@@ -26,6 +26,7 @@ pub mod Extension
 pub mod Demand3Second
 pub mod Outlook
 pub mod Records
+pub mod OutlookCounts
 pub mod Invariant
 pub mod Demand3First
 pub mod Demand3Paths

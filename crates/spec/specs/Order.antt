@@ -5,14 +5,16 @@ use mathlib.Core.Logic.{_⊎_, inl, inr, ⊎-elim}
 use mathlib.Core.Bool.{true, false, Bool}
 use mathlib.Core.List.{List, [], _∷_, List·Memᴰ, List·Memᴰ·head, List·Memᴰ·tail, Memᴰ·cast}
 use lib.Dec.{eqb, ltb}
+use lib.ListN.{length, length-map}
 use borrow.Author.Tests.{eqb-true, eq-eqb, leb-true, le-leb, ltb-true, lt-ltb}
 use native.Mathlib.Omega.{arith}
 use Rattle.laws.specs.Test.{clash, both, and-l, and-r, or-l, or-r, or-cases, leOr, sameOr}
-use Rattle.laws.specs.Scan.{those, those-elim, those-intro, those-nodup}
+use Rattle.laws.specs.Scan.{those, those-elim, those-intro, those-nodup, those-most}
 use Rattle.laws.specs.Lists.{NoDup, Pairs, mem-map, map-mem, map-nodup}
-use Rattle.laws.specs.Sort.{sort-mem, sort-once, sort-rises}
+use Rattle.laws.specs.Sort.{sort-mem, sort-once, sort-rises, sort-length}
 use Rattle.spec.specs.Ids.{Id, byRound, rises, falls}
 use Rattle.spec.specs.Store.{Store, idAt}
+use Rattle.spec.specs.Rules.{placesOk}
 use Rattle.spec.specs.History.{Need, anchor, hand, needed, inHistory, history}
 use Rattle.spec.specs.Links.{linked}
 use Rattle.spec.specs.HeightEquations.{inside}
@@ -99,6 +101,13 @@ need-named s a q h (hand p x n d e) = linked _ _ e .named-is
 pub history-needed : (s : Store) (a q : ℕ) → inHistory s a q ≡ true → needed s a q ≡ true
 unfolding inHistory
 history-needed s a q h = and-l _ _ h
+
+-- it has no more points than there are places
+pub history-few : (s : Store) → Wf s → (a : ℕ) → length (history s a) ≤ 4096
+unfolding history placesOk
+history-few s w a =
+    let e : length (history s a) ≡ length (those (s .places) (inHistory s a)) = sort-length rises _ ∙ length-map (those (s .places) (inHistory s a)) (idAt s) in
+    omega (arith, e, those-most (s .places) (inHistory s a), leb-true (s .places) 4096 (and-r (ltb 0 (s .places)) _ (w .places-ok)))
 
 module _ (s : Store) (w : Wf s) (a : ℕ) (there : s .pt a .named ≡ true) where
   pub history-named : (q : ℕ) → inHistory s a q ≡ true → s .pt q .named ≡ true

@@ -71,13 +71,18 @@ pub lists-head : (n : ℕ) (ns l : List ℕ) → listsOk (n ∷ ns) l ≡ true �
 unfolding listsOk
 lists-head n ns l h = (and-l _ _ h, and-r (eachOnce n (take n l)) _ h)
 
+-- the lists of some counts, then those of others: 02, N1: "lists end to end"
+pub lists-append : (ns ms l : List ℕ) → listsOk (ns ++ ms) l ≡ (listsOk ns l && listsOk ms (drop (weigh (λ n. n) ns) l))
+unfolding listsOk weigh
+lists-append [] ms l = refl
+lists-append (n ∷ ns) ms l =
+    ap (λ z. eachOnce n (take n l) && z) (lists-append ns ms (drop n l) ∙ ap (λ z. listsOk ns (drop n l) && listsOk ms z) (drop-drop (weigh (λ n. n) ns) n l))
+    ∙ and-assoc (eachOnce n (take n l)) (listsOk ns (drop n l)) (listsOk ms (drop (n + weigh (λ n. n) ns) l))
+
 -- one more list, as a loop over the counts tests it
 pub lists-more : (ns : List ℕ) (n : ℕ) (l : List ℕ) → listsOk (ns ++ (n ∷ [])) l ≡ (listsOk ns l && eachOnce n (take n (drop (weigh (λ n. n) ns) l)))
-unfolding listsOk weigh
-lists-more [] n l = and-true (eachOnce n (take n l))
-lists-more (m ∷ ns) n l =
-    ap (λ z. eachOnce m (take m l) && z) (lists-more ns n (drop m l) ∙ ap (λ z. listsOk ns (drop m l) && eachOnce n (take n z)) (drop-drop (weigh (λ n. n) ns) m l))
-    ∙ and-assoc (eachOnce m (take m l)) (listsOk ns (drop m l)) (eachOnce n (take n (drop (m + weigh (λ n. n) ns) l)))
+unfolding listsOk
+lists-more ns n l = lists-append ns (n ∷ []) l ∙ ap (λ z. listsOk ns l && z) (and-true (eachOnce n (take n (drop (weigh (λ n. n) ns) l))))
 
 -- "bytes beyond them unread"
 pub lists-unread : (ns l rest : List ℕ) → weigh (λ n. n) ns ≤ length l → listsOk ns (l ++ rest) ≡ listsOk ns l

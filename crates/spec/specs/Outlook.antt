@@ -1,21 +1,21 @@
 -- The outlook refuses as the commit would (01: commit/mod.rs, 'Refusals'; 02: N1).
 use Prim.Native.Nat.{ℕ, zero, suc, _+_, _-_, _*_, _≤_, _<_}
-use mathlib.Core.Path.{_≡_, refl, sym, _∙_, subst, subst₂, ap}
+use mathlib.Core.Path.{_≡_, refl, sym, _∙_, subst, subst₂, ap, ap₂}
 use mathlib.Core.Logic.{_⊎_, inl, inr, ⊎-elim, _≢_, _↔_}
 use mathlib.Core.Bool.{Bool, true, false, not, _&&_, _||_}
-use mathlib.Core.List.{List, [], _∷_, _++_, List·Memᴰ, List·Memᴰ·head, List·Memᴰ·tail, List·Memᴰ·cases-cons}
+use mathlib.Core.List.{List, [], _∷_, _++_, List·Memᴰ, List·Memᴰ·head, List·Memᴰ·tail, List·Memᴰ·not-nil, List·Memᴰ·cases-cons, Memᴰ·append-left, Memᴰ·append-right}
 use mathlib.Core.Option.{Option, none, some, Option·some-injective}
 use lib.Dec.{eqb, leb, ltb}
 use lib.ListN.{length, length-append, length-map}
 use borrow.Author.Tests.{eqb-true, le-ltb, not-true}
 use native.Mathlib.Omega.{arith}
 use native.Mathlib.Nat.{le-trans}
-use Rattle.laws.specs.Test.{byTest, clash, both, and-l, and-r, or-none, same-test}
+use Rattle.laws.specs.Test.{byTest, clash, not-no, both, and-l, and-r, and-true, and-no, and-no-r, or-none, same-test}
 use Rattle.laws.specs.Scan.{any, any-same, those, those-elim}
-use Rattle.laws.specs.Lists.{Pairs, keep, keep-in, joined, weigh}
+use Rattle.laws.specs.Lists.{has, has-same, Pairs, keep, keep-in, joined, weigh}
 use Rattle.laws.specs.Sort.{insert, sort, sort-mem, sort-rises}
 use Rattle.laws.specs.Bytes.{be, be-length, written, written-length}
-use Rattle.spec.specs.Ids.{Id, idBytes, falls}
+use Rattle.spec.specs.Ids.{Id, idBytes, rises, falls}
 use Rattle.spec.specs.Store.{Store, idAt, roundAt, statusAt, resolved, linksTo}
 use Rattle.spec.specs.Paths.{LinkedTo, height, certified, proved}
 use Rattle.spec.specs.Chain.{Refusal, number, conflict, Out, bad, good, then, refuse, isCommittable, checkedAs, checked, EnqueuedAnchor, anchorsOf}
@@ -31,7 +31,7 @@ use Rattle.spec.specs.OrderInRound.{down-length, falling, falling-ok, fa
 use Rattle.spec.specs.Records.{id-length}
 use Rattle.spec.specs.Refusals.{Sound, isOther, other-is, anchors-sound, outlook-sound}
 use Rattle.spec.specs.Walk.{not-good, then-good, refuse-back, checked-at, checked-back, Anchored, Rising, Tested, tested-good}
-use Rattle.spec.specs.Preservation.{mark-kept, rising-mark, anchors-rising, call-perform}
+use Rattle.spec.specs.Preservation.{mark-kept, rising-mark, call-perform}
 use Rattle.spec.specs.Demand3Second.{commit-is}
 use Rattle.spec.specs.Extension.{fits-in, test-back, commit-step}
 
@@ -145,7 +145,7 @@ module _ (s : Store) (w : Wf s) (e : EnqueuedAnchor) where
           (λ t. inr (hand p x (history-need p t) d l))
           (λ f. inl (hand p x m (mark-committed p ∙ rw (f, d) refl) (link-mark p x l)))
 
-  module _ (x : Anchored s e) (c : Tested s (e .anchor)) (b : ℕ) (there : s .pt b .named ≡ true) (above : roundAt s (e .anchor) ≤ roundAt s b) where
+  module _ (x : Anchored s e) (b : ℕ) (there : s .pt b .named ≡ true) (above : roundAt s (e .anchor) ≤ roundAt s b) where
     old-named : s .pt (e .anchor) .named ≡ true
     old-named = resolved-named _ (x .anchor-done)
 
@@ -175,59 +175,69 @@ module _ (s : Store) (w : Wf s) (e : EnqueuedAnchor) where
         (λ m. needed-is s (w .sized) (e .anchor) q (fits-in s w (e .anchor) old-named) .1 (m, le-trans lower l))
         (need-split b q n)
 
-    checked-good : (q : ℕ) → needed s (e .anchor) q ≡ true → checked s isCommittable q ≡ good q
-    checked-good q h = let (u, v) = c .ready q (inside s (w .sized) q (need-named s (e .anchor) q old-named (needed-is s (w .sized) (e .anchor) q (fits-in s w (e .anchor) old-named) .0 h .0))) h in checked-back s isCommittable q u v
-
-    mark-faults : faults (dequeued s e) b ≡ firstFault (dequeued s e) (sort (λ p q. falls (idAt s p) (idAt s q)) (those (s .places) (needed (dequeued s e) b)))
-    unfolding faults dequeued setCommitted
-    mark-faults = refl
-
-    faults-mark : faults (dequeued s e) b ≡ faults s b
-    unfolding faults
-    faults-mark =
-        mark-faults ∙ (first-mark _
-        ∙ (ap (λ l. firstFault s (sort le l)) (those-keep (s .places) (needed s b) g (λ q l h. needed-less q h))
-        ∙ (ap (firstFault s) (sort-keep le (λ p q. falls-total (idAt s p) (idAt s q)) (λ p q r. falls-trans (idAt s p) (idAt s q) (idAt s r)) g (those (s .places) (needed s b)))
-        ∙ first-keep s g _ (λ q m f. checked-good q (left-out q (those-elim _ _ q (sort-mem le q _ .0 m) .1) f)))))
-      where
-        le : ℕ → ℕ → Bool
-        le p q = falls (idAt s p) (idAt s q)
-
-        g : ℕ → Bool
-        g = needed (dequeued s e) b
-
-    history-mark : (q : ℕ) → inHistory (dequeued s e) b q ≡ true → inHistory s b q ≡ true
+    -- 02, N6: "supposes that the anchors before it .. have been committed": the younger anchor's history is what it was, without the older's
+    history-step : (q : ℕ) → inHistory (dequeued s e) b q ≡ (inHistory s b q && not (inHistory s (e .anchor) q))
     unfolding inHistory
-    history-mark q h = both (needed-less q (and-l _ _ h)) (ap not (or-none (inHistory s (e .anchor) q) _ (sym (mark-committed q) ∙ not-true _ (and-r (needed (dequeued s e) b q) _ h)) .1))
-
-    -- a point of height 0 is in no history that passed
-    flat-old : (q : ℕ) → q < s .places → height s q ≡ 0 → inHistory s (e .anchor) q ≡ false
-    flat-old q l z = byTest (inHistory s (e .anchor) q) (λ t. absurd (omega (arith, c .heightsAre q l t))) (λ f. f)
-
-    mark-history : (q : ℕ) → q < s .places → height s q ≡ 0 → inHistory s b q ≡ true → inHistory (dequeued s e) b q ≡ true
-    unfolding inHistory
-    mark-history q l z h =
-        both
-        (byTest (needed (dequeued s e) b q) (λ t. t) (λ f. absurd (clash (both (left-out q (and-l _ _ h) f) (and-r (needed s b q) _ h)) (flat-old q l z))))
-        (ap not {y = false} (mark-committed q ∙ rw (flat-old q l z, not-true (s .pt q .flags .committed) (and-r (needed s b q) _ h)) refl))
-
-    flat-mark : anyUncertified (dequeued s e) b ≡ anyUncertified s b
-    unfolding anyUncertified
-    flat-mark = ap (λ n. any n (flat (dequeued s e))) mark-places ∙ any-same (s .places) (flat (dequeued s e)) (flat s) (λ q l. same-test _ _ (less q) (more q l))
+    history-step q = same-test _ _ to from
       where
-        flat : Store → ℕ → Bool
-        flat u q = inHistory u b q && eqb (height u q) 0
+        to : inHistory (dequeued s e) b q ≡ true → (inHistory s b q && not (inHistory s (e .anchor) q)) ≡ true
+        to h = let (f, g) = or-none (inHistory s (e .anchor) q) _ (sym (mark-committed q) ∙ not-true _ (and-r (needed (dequeued s e) b q) _ h)) in
+            both (both (needed-less q (and-l _ _ h)) (not-no g)) (not-no f)
 
-        less : (q : ℕ) → flat (dequeued s e) q ≡ true → flat s q ≡ true
-        less q h = both (history-mark q (and-l _ _ h)) (ap (λ n. eqb n 0) (sym (mark-height s (w .sized) e q)) ∙ and-r (inHistory (dequeued s e) b q) _ h)
+        from : (inHistory s b q && not (inHistory s (e .anchor) q)) ≡ true → inHistory (dequeued s e) b q ≡ true
+        from h =
+            let n : needed s b q ≡ true = and-l _ _ (and-l _ _ h) in
+            let k : not (s .pt q .flags .committed) ≡ true = and-r (needed s b q) _ (and-l _ _ h) in
+            let f : inHistory s (e .anchor) q ≡ false = not-true _ (and-r (inHistory s b q) _ h) in
+            both
+            (byTest (needed (dequeued s e) b q) (λ t. t) (λ u. absurd (clash (both (left-out q n u) k) f)))
+            (not-no (mark-committed q ∙ rw (f, not-true (s .pt q .flags .committed) k) refl))
 
-        more : (q : ℕ) → q < s .places → flat s q ≡ true → flat (dequeued s e) q ≡ true
-        more q l h = both (mark-history q l (eqb-true _ _ (and-r (inHistory s b q) _ h)) (and-l _ _ h)) (ap (λ n. eqb n 0) (mark-height s (w .sized) e q) ∙ and-r (inHistory s b q) _ h)
+    module _ (c : Tested s (e .anchor)) where
+      checked-good : (q : ℕ) → needed s (e .anchor) q ≡ true → checked s isCommittable q ≡ good q
+      checked-good q h = let (u, v) = c .ready q (inside s (w .sized) q (need-named s (e .anchor) q old-named (needed-is s (w .sized) (e .anchor) q (fits-in s w (e .anchor) old-named) .0 h .0))) h in checked-back s isCommittable q u v
 
-    -- the younger anchor's tests come out as they did before the marks
-    pub tested-mark : tested (dequeued s e) b ≡ tested s b
-    unfolding tested roundsMissing dequeued setCommitted
-    tested-mark = λ i. refuse (leb (roundAt s b) (s .conf .genesis)) 22 (then (faults-mark i) (λ x. refuse (roundsMissing s b) 17 (refuse (flat-mark i) 18 (good b))))
+      mark-faults : faults (dequeued s e) b ≡ firstFault (dequeued s e) (sort (λ p q. falls (idAt s p) (idAt s q)) (those (s .places) (needed (dequeued s e) b)))
+      unfolding faults dequeued setCommitted
+      mark-faults = refl
+
+      faults-mark : faults (dequeued s e) b ≡ faults s b
+      unfolding faults
+      faults-mark =
+          mark-faults ∙ (first-mark _
+          ∙ (ap (λ l. firstFault s (sort le l)) (those-keep (s .places) (needed s b) g (λ q l h. needed-less q h))
+          ∙ (ap (firstFault s) (sort-keep le (λ p q. falls-total (idAt s p) (idAt s q)) (λ p q r. falls-trans (idAt s p) (idAt s q) (idAt s r)) g (those (s .places) (needed s b)))
+          ∙ first-keep s g _ (λ q m f. checked-good q (left-out q (those-elim _ _ q (sort-mem le q _ .0 m) .1) f)))))
+        where
+          le : ℕ → ℕ → Bool
+          le p q = falls (idAt s p) (idAt s q)
+
+          g : ℕ → Bool
+          g = needed (dequeued s e) b
+
+      -- a point of height 0 is in no history that passed
+      flat-old : (q : ℕ) → q < s .places → height s q ≡ 0 → inHistory s (e .anchor) q ≡ false
+      flat-old q l z = byTest (inHistory s (e .anchor) q) (λ t. absurd (omega (arith, c .heightsAre q l t))) (λ f. f)
+
+      flat-mark : anyUncertified (dequeued s e) b ≡ anyUncertified s b
+      unfolding anyUncertified
+      flat-mark = ap (λ n. any n (flat (dequeued s e))) mark-places ∙ any-same (s .places) (flat (dequeued s e)) (flat s) (λ q l. same-test _ _ (less q) (more q l))
+        where
+          flat : Store → ℕ → Bool
+          flat u q = inHistory u b q && eqb (height u q) 0
+
+          less : (q : ℕ) → flat (dequeued s e) q ≡ true → flat s q ≡ true
+          less q h = both (and-l (inHistory s b q) _ (sym (history-step q) ∙ and-l (inHistory (dequeued s e) b q) _ h)) (ap (λ n. eqb n 0) (sym (mark-height s (w .sized) e q)) ∙ and-r (inHistory (dequeued s e) b q) _ h)
+
+          more : (q : ℕ) → q < s .places → flat s q ≡ true → flat (dequeued s e) q ≡ true
+          more q l h =
+              both (history-step q ∙ both (and-l (inHistory s b q) _ h) (not-no (flat-old q l (eqb-true _ _ (and-r (inHistory s b q) _ h)))))
+              (ap (λ n. eqb n 0) (mark-height s (w .sized) e q) ∙ and-r (inHistory s b q) _ h)
+
+      -- the younger anchor's tests come out as they did before the marks
+      tested-mark : tested (dequeued s e) b ≡ tested s b
+      unfolding tested roundsMissing dequeued setCommitted
+      tested-mark = λ i. refuse (leb (roundAt s b) (s .conf .genesis)) 22 (then (faults-mark i) (λ x. refuse (roundsMissing s b) 17 (refuse (flat-mark i) 18 (good b))))
 
 -- ---- all anchors of a chain
 
@@ -236,27 +246,61 @@ unfoldable pub tests : Store → List EnqueuedAnchor → Out ℕ
 tests s [] = good 0
 tests s (e ∷ es) = then (tested s (e .anchor)) (λ x. tests (dequeued s e) es)
 
--- each anchor's tests in turn, by the marks as they are
-unfoldable pub testsNow : Store → List EnqueuedAnchor → Out ℕ
-testsNow s [] = good 0
-testsNow s (e ∷ es) = then (tested s (e .anchor)) (λ x. testsNow s es)
+-- 02, N6: "the anchors before it in the same outlook have been committed": the store after these anchors
+unfoldable pub supposed : Store → List EnqueuedAnchor → Store
+supposed s [] = s
+supposed s (e ∷ es) = supposed (dequeued s e) es
 
-then-same : {A B : Type 0} (o : Out A) (f g : A → Out B) → ((a : A) → o ≡ good a → f a ≡ g a) → then o f ≡ then o g
-then-same (bad r) f g h = refl
-then-same (good a) f g h = h a refl
+-- in the history of one of these anchors, by the marks now
+unfoldable pub taken : Store → List EnqueuedAnchor → ℕ → Bool
+taken s es q = has (λ (e : EnqueuedAnchor). inHistory s (e .anchor) q) es
 
-now-mark : (s : Store) → Wf s → (e : EnqueuedAnchor) → Anchored s e → Tested s (e .anchor) → (low : ℕ) (es : List EnqueuedAnchor) → roundAt s (e .anchor) ≤ low → Rising s low es → testsNow (dequeued s e) es ≡ testsNow s es
-unfolding testsNow
-now-mark s w e x c low [] l r = refl
-now-mark s w e x c low (f ∷ es) l (u, y, r) = λ i. then (tested-mark s w e x c (f .anchor) (resolved-named _ (y .anchor-done)) (le-trans l u) i) (λ z. now-mark s w e x c (suc (roundAt s (f .anchor))) es (omega arith) r i)
+-- each anchor of a chain that rises
+rising-in : (s : Store) (low : ℕ) (es : List EnqueuedAnchor) → Rising s low es → (e : EnqueuedAnchor) → List·Memᴰ e es → (low ≤ roundAt s (e .anchor)) × Anchored s e
+rising-in s low [] r e m = absurd (List·Memᴰ·not-nil m)
+rising-in s low (x ∷ es) (u, a, r) e m =
+    ⊎-elim
+    (λ d. subst (λ (z : EnqueuedAnchor). (low ≤ roundAt s (z .anchor)) × Anchored s z) (sym d) (u, a))
+    (λ k. let (l, b) = rising-in s (suc (roundAt s (x .anchor))) es r e k in (omega (arith, u, l), b))
+    (List·Memᴰ·cases-cons m)
 
--- both come out the same
-pub tests-now : (s : Store) → Wf s → (low : ℕ) (es : List EnqueuedAnchor) → Rising s low es → testsNow s es ≡ tests s es
-unfolding testsNow tests
-tests-now s w low [] r = refl
-tests-now s w low (e ∷ es) (u, x, r) = then-same (tested s (e .anchor)) _ _ (λ a h.
-    let c : Tested s (e .anchor) = tested-good s (e .anchor) a h in
-    sym (now-mark s w e x c (suc (roundAt s (e .anchor))) es (omega arith) r) ∙ tests-now (dequeued s e) (mark-kept s w e x c) (suc (roundAt s (e .anchor))) es (rising-mark s e _ es r))
+-- the first of several anchors passed, and so did the others, once it was committed
+pub tests-first : (s : Store) (e : EnqueuedAnchor) (es : List EnqueuedAnchor) (n : ℕ) → tests s (e ∷ es) ≡ good n → Tested s (e .anchor) × (tests (dequeued s e) es ≡ good n)
+unfolding tests
+tests-first s e es n h = let (a, t, k) = then-good (tested s (e .anchor)) (λ x. tests (dequeued s e) es) n h in (tested-good s (e .anchor) a t, k)
+
+-- an anchor b after the anchors es, which passed their tests
+module _ (b : EnqueuedAnchor) (fs : List EnqueuedAnchor) where
+  -- 02, N6: "a point under two waiting anchors is counted under both" no more: its history is that by the marks now, without what the older
+  -- ones take
+  pub history-supposed : (s : Store) → Wf s → (low : ℕ) (es : List EnqueuedAnchor) → Rising s low (es ++ (b ∷ fs)) → (n : ℕ) → tests s es ≡ good n → (q : ℕ) → inHistory (supposed s es) (b .anchor) q ≡ (inHistory s (b .anchor) q && not (taken s es q))
+  unfolding supposed taken has
+  history-supposed s w low [] r n h q = sym (and-true (inHistory s (b .anchor) q))
+  history-supposed s w low (e ∷ es) (u, x, r) n h q =
+      let (c, k) = tests-first s e es n h in
+      history-supposed (dequeued s e) (mark-kept s w e x c) (suc (roundAt s (e .anchor))) es (rising-mark s e _ (es ++ (b ∷ fs)) r) n k q ∙ go
+    where
+      step : (f : EnqueuedAnchor) → List·Memᴰ f (es ++ (b ∷ fs)) → inHistory (dequeued s e) (f .anchor) q ≡ (inHistory s (f .anchor) q && not (inHistory s (e .anchor) q))
+      step f m = let (l, y) = rising-in s _ (es ++ (b ∷ fs)) r f m in history-step s w e x (f .anchor) (resolved-named _ (y .anchor-done)) (omega (arith, l)) q
+
+      own : inHistory (dequeued s e) (b .anchor) q ≡ (inHistory s (b .anchor) q && not (inHistory s (e .anchor) q))
+      own = step b (Memᴰ·append-right es (List·Memᴰ·head refl))
+
+      go : (inHistory (dequeued s e) (b .anchor) q && not (taken (dequeued s e) es q)) ≡ (inHistory s (b .anchor) q && not (inHistory s (e .anchor) q || taken s es q))
+      go = byTest (inHistory s (e .anchor) q)
+          (λ t. rw (own, t) (and-no (not (taken (dequeued s e) es q)) (and-no-r (inHistory s (b .anchor) q) refl) ∙ sym (and-no-r (inHistory s (b .anchor) q) refl)))
+          (λ f. rw (own, f) (ap₂ (λ x y. x && not y) (and-true (inHistory s (b .anchor) q))
+          (has-same (λ (g : EnqueuedAnchor). inHistory (dequeued s e) (g .anchor) q) (λ (g : EnqueuedAnchor). inHistory s (g .anchor) q) es (λ g m. step g (Memᴰ·append-left (b ∷ fs) m) ∙ rw f (and-true (inHistory s (g .anchor) q))))))
+
+  -- and it is refused as by the marks now
+  pub tested-supposed : (s : Store) → Wf s → (low : ℕ) (es : List EnqueuedAnchor) → Rising s low (es ++ (b ∷ fs)) → (n : ℕ) → tests s es ≡ good n → tested (supposed s es) (b .anchor) ≡ tested s (b .anchor)
+  unfolding supposed
+  tested-supposed s w low [] r n h = refl
+  tested-supposed s w low (e ∷ es) (u, x, r) n h =
+      let (c, k) = tests-first s e es n h in
+      let (l, y) = rising-in s _ (es ++ (b ∷ fs)) r b (Memᴰ·append-right es (List·Memᴰ·head refl)) in
+      tested-supposed (dequeued s e) (mark-kept s w e x c) (suc (roundAt s (e .anchor))) es (rising-mark s e _ (es ++ (b ∷ fs)) r) n k
+      ∙ tested-mark s w e x (b .anchor) (resolved-named _ (y .anchor-done)) (omega (arith, l)) c
 
 -- ---- the outlook's tests
 
@@ -264,7 +308,8 @@ tests-now s w low (e ∷ es) (u, x, r) = then-same (tested s (e .anchor)) _ _ (�
 unfoldable pub lookSize : Store → ℕ → ℕ
 lookSize s a = 41 + (suc (roundAt s a) - lowest s a) * 4
 
-fours : (ns : List ℕ) → length (joined (be 4) ns) ≡ length ns * 4
+-- 4 bytes each
+pub fours : (ns : List ℕ) → length (joined (be 4) ns) ≡ length ns * 4
 unfolding joined
 fours [] = refl
 fours (n ∷ ns) = let h : length (joined (be 4) ns) ≡ length ns * 4 = fours ns in length-append (be 4 n) (joined (be 4) ns) ∙ rw (be-length 4 n) (omega arith)
@@ -278,24 +323,31 @@ outlook-length s a =
     rounds : length (linkedCounts s a) ≡ suc (roundAt s a) - lowest s a
     rounds = length-map (roundsOf s a) _ ∙ down-length (roundAt s a) (suc (roundAt s a) - lowest s a)
 
+-- 02, N6: the bytes of a chain's anchors, each counted with the older ones committed
+unfoldable pub looks : Store → List EnqueuedAnchor → List ℕ
+looks s [] = []
+looks s (e ∷ es) = outlookBytes s (e .anchor) ++ looks (dequeued s e) es
+
+-- marks change no length
+mark-sizes : (s : Store) (e : EnqueuedAnchor) (es : List EnqueuedAnchor) → weigh (λ (f : EnqueuedAnchor). lookSize (dequeued s e) (f .anchor)) es ≡ weigh (λ (f : EnqueuedAnchor). lookSize s (f .anchor)) es
+unfolding lookSize dequeued setCommitted
+mark-sizes s e es = refl
+
 -- with room for all anchors: refused as its tests say, else their bytes
-pub outlook-is : (s : Store) (left : ℕ) (es : List EnqueuedAnchor) → weigh (λ (e : EnqueuedAnchor). lookSize s (e .anchor)) es ≤ left → outlookAll s left es ≡ then (testsNow s es) (λ x. good (joined (λ (e : EnqueuedAnchor). outlookBytes s (e .anchor)) es))
-unfolding outlookAll testsNow joined weigh
+pub outlook-is : (s : Store) (left : ℕ) (es : List EnqueuedAnchor) → weigh (λ (e : EnqueuedAnchor). lookSize s (e .anchor)) es ≤ left → outlookAll s left es ≡ then (tests s es) (λ x. good (looks s es))
+unfolding outlookAll tests looks weigh
 outlook-is s left [] l = refl
-outlook-is s left (e ∷ es) l = go (tested s (e .anchor)) (outlook-is s (left - length (outlookBytes s (e .anchor))) es (rw (outlook-length s (e .anchor)) (omega arith)))
+outlook-is s left (e ∷ es) l = go (tested s (e .anchor)) (outlook-is (dequeued s e) (left - length (outlookBytes s (e .anchor))) es (rw (outlook-length s (e .anchor), mark-sizes s e es) (omega arith)))
   where
-    all : List ℕ
-    all = joined (λ (f : EnqueuedAnchor). outlookBytes s (f .anchor)) es
+    last : (o : Out ℕ) (all : List ℕ) → then (then o (λ x. good all)) (λ rest. good (outlookBytes s (e .anchor) ++ rest)) ≡ then o (λ x. good (outlookBytes s (e .anchor) ++ all))
+    last (bad r) all = refl
+    last (good x) all = refl
 
-    last : (o : Out ℕ) → then (then o (λ x. good all)) (λ rest. good (outlookBytes s (e .anchor) ++ rest)) ≡ then o (λ x. good (outlookBytes s (e .anchor) ++ all))
-    last (bad r) = refl
-    last (good x) = refl
-
-    go : (o : Out ℕ) → outlookAll s (left - length (outlookBytes s (e .anchor))) es ≡ then (testsNow s es) (λ x. good all)
-        → then o (λ a. refuse (ltb left (length (outlookBytes s (e .anchor)))) 21 (then (outlookAll s (left - length (outlookBytes s (e .anchor))) es) (λ rest. good (outlookBytes s (e .anchor) ++ rest))))
-        ≡ then (then o (λ x. testsNow s es)) (λ x. good (outlookBytes s (e .anchor) ++ all))
+    go : (o : Out ℕ) → outlookAll (dequeued s e) (left - length (outlookBytes s (e .anchor))) es ≡ then (tests (dequeued s e) es) (λ x. good (looks (dequeued s e) es))
+        → then o (λ a. refuse (ltb left (length (outlookBytes s (e .anchor)))) 21 (then (outlookAll (dequeued s e) (left - length (outlookBytes s (e .anchor))) es) (λ rest. good (outlookBytes s (e .anchor) ++ rest))))
+        ≡ then (then o (λ x. tests (dequeued s e) es)) (λ x. good (outlookBytes s (e .anchor) ++ looks (dequeued s e) es))
     go (bad r) h = refl
-    go (good a) h = refuse-back _ 21 _ (le-ltb left (length (outlookBytes s (e .anchor))) (rw (outlook-length s (e .anchor)) (omega arith))) ∙ rw h (last (testsNow s es))
+    go (good a) h = refuse-back _ 21 _ (le-ltb left (length (outlookBytes s (e .anchor))) (rw (outlook-length s (e .anchor)) (omega arith))) ∙ rw h (last (tests (dequeued s e) es) (looks (dequeued s e) es))
 
 -- ---- tests that came out badly
 
@@ -316,16 +368,16 @@ unfolding numberOf
 other-number n r f e = f (ap numberOf (sym e))
 
 -- with any room: but for 21, refused as its tests say
-pub outlook-bad : (s : Store) (left : ℕ) (es : List EnqueuedAnchor) (r : Refusal) → numberOf r ≢ 21 → outlookAll s left es ≡ bad r → testsNow s es ≡ bad r
-unfolding outlookAll testsNow
+pub outlook-bad : (s : Store) (left : ℕ) (es : List EnqueuedAnchor) (r : Refusal) → numberOf r ≢ 21 → outlookAll s left es ≡ bad r → tests s es ≡ bad r
+unfolding outlookAll tests
 outlook-bad s left [] r n h = absurd (not-good r _ (sym h))
 outlook-bad s left (e ∷ es) r n h =
     let bytes = outlookBytes s (e .anchor) in
     ⊎-elim (λ u. rw u refl) (λ (a, u, k). rw u
     (⊎-elim (λ m. absurd (other-number 21 r n m)) (λ j.
-    ⊎-elim (outlook-bad s (left - length bytes) es r n) (λ (x, v, y). absurd (not-good r (bytes ++ x) (sym y))) (then-bad (outlookAll s (left - length bytes) es) (λ rest. good (bytes ++ rest)) r j))
-    (refuse-bad (ltb left (length bytes)) 21 (then (outlookAll s (left - length bytes) es) (λ rest. good (bytes ++ rest))) r k)))
-    (then-bad (tested s (e .anchor)) (λ a. refuse (ltb left (length bytes)) 21 (then (outlookAll s (left - length bytes) es) (λ rest. good (bytes ++ rest)))) r h)
+    ⊎-elim (outlook-bad (dequeued s e) (left - length bytes) es r n) (λ (x, v, y). absurd (not-good r (bytes ++ x) (sym y))) (then-bad (outlookAll (dequeued s e) (left - length bytes) es) (λ rest. good (bytes ++ rest)) r j))
+    (refuse-bad (ltb left (length bytes)) 21 (then (outlookAll (dequeued s e) (left - length bytes) es) (λ rest. good (bytes ++ rest))) r k)))
+    (then-bad (tested s (e .anchor)) (λ a. refuse (ltb left (length bytes)) 21 (then (outlookAll (dequeued s e) (left - length bytes) es) (λ rest. good (bytes ++ rest)))) r h)
 
 -- ---- the commit's tests
 
@@ -379,7 +431,7 @@ commit-ends s (e ∷ es) g ls b at n (o, os) l = go (tested s (e .anchor)) refl 
     go (bad r) h i = commit-stop s ls b at n e es r (test-bad s ls (length b - at) (length (recordBytes s ls e)) (e .anchor) r h)
     go (good a) h i = ap (λ f. f .stopped) (commit-step s ls b at n e es (e .anchor) (test-back s ls (length b - at) (length (recordBytes s ls e)) (e .anchor) (tested-good s (e .anchor) a h) g o (omega arith))) ∙ i
 
-none-some : {A : Type 0} (x : A) → none ≡ some x → ⊥
+pub none-some : {A : Type 0} (x : A) → none ≡ some x → ⊥
 none-some x h = let z : _≡_ {A = ℕ} 0 1 = cc in omega arith
 
 test-cases : (s : Store) (ls : List ℕ) (left size a : ℕ) (r : Refusal) → numberOf r ≢ 20 → numberOf r ≢ 24 → numberOf r ≢ 21 → testAnchor s ls left size a ≡ bad r → tested s a ≡ bad r
@@ -429,7 +481,7 @@ abbrev Refuses : Store → Id → (List EnqueuedAnchor → Type 0) → Refusal �
 Refuses s i P r = (anchorsOf s i ≡ bad r) ⊎ ((es : List EnqueuedAnchor) × (anchorsOf s i ≡ good es) × P es)
 
 -- an outlook that is refused
-outlook-was : (s : Store) (i : Id) (b : List ℕ) (r : Refusal) (n : ℕ) → doOutlook s i b .answer ≡ refused r n → Refuses s i (λ es. outlookAll s (length b) es ≡ bad r) r
+pub outlook-was : (s : Store) (i : Id) (b : List ℕ) (r : Refusal) (n : ℕ) → doOutlook s i b .answer ≡ refused r n → Refuses s i (λ es. outlookAll s (length b) es ≡ bad r) r
 unfolding doOutlook
 outlook-was s i b r n h = go (anchorsOf s i) refl h
   where
@@ -485,11 +537,7 @@ stop-bad : (o : Out ℕ) (r : Refusal) → stop o ≡ some r → o ≡ bad r
 stop-bad (bad q) r h = ap bad (Option·some-injective q r h)
 stop-bad (good x) r h = absurd (none-some r h)
 
--- the same anchors, tested by the marks now and as a commit goes on
-same-tests : (s : Store) → Wf s → (i : Id) (es : List EnqueuedAnchor) → anchorsOf s i ≡ good es → testsNow s es ≡ tests s es
-same-tests s w i es u = tests-now s w _ es (anchors-rising s w i es u)
-
-outlook-call : (s : Store) → Wf s → (i : Id) (b : List ℕ) → call s (outlook i b) ≡ doOutlook s i b
+pub outlook-call : (s : Store) → Wf s → (i : Id) (b : List ℕ) → call s (outlook i b) ≡ doOutlook s i b
 unfolding perform
 outlook-call s w i b = call-perform s w (outlook i b)
 
@@ -499,7 +547,7 @@ pub outlook→commit : (s : Store) → Wf s → (i : Id) (b ls c : List ℕ) →
     → call s (outlook i b) .answer ≡ refused r n → (m : ℕ) × (call s (commit i ls c) .answer ≡ refused r m)
 outlook→commit s w i b ls c g lists room r n f h =
     subst (λ (o : Outcome). (m : ℕ) × (o .answer ≡ refused r m)) (sym (commit-is s w i ls c)) (commit-now s i ls c r
-    (⊎-elim inl (λ (es, u, v). inr (es, u, commit-ends s es g ls c 0 0 (lists es u) (omega (arith, room es u)) ∙ ap stop (sym (same-tests s w i es u) ∙ outlook-bad s (length b) es r f v)))
+    (⊎-elim inl (λ (es, u, v). inr (es, u, commit-ends s es g ls c 0 0 (lists es u) (omega (arith, room es u)) ∙ ap stop (outlook-bad s (length b) es r f v)))
     (outlook-was s i b r n (ap (λ (o : Outcome). o .answer) (sym (outlook-call s w i b)) ∙ h))))
 
 -- a commit refused by another number than 20, 24 and 21: so is the outlook, into a buffer that holds its answer
@@ -507,7 +555,7 @@ pub commit→outlook : (s : Store) → Wf s → (i : Id) (b ls c : List ℕ) →
     → call s (commit i ls c) .answer ≡ refused r m → call s (outlook i b) .answer ≡ refused r 0
 commit→outlook s w i b ls c room r m f o g h =
     ap (λ (o : Outcome). o .answer) (outlook-call s w i b) ∙ outlook-now s i b r
-    (⊎-elim inl (λ (es, u, v). inr (es, u, outlook-is s (length b) es (room es u) ∙ rw (same-tests s w i es u, commit-stopped s es ls c 0 0 r f o g v) refl))
+    (⊎-elim inl (λ (es, u, v). inr (es, u, outlook-is s (length b) es (room es u) ∙ rw (commit-stopped s es ls c 0 0 r f o g v) refl))
     (commit-was s i ls c r m (ap (λ (o : Outcome). o .answer) (sym (commit-is s w i ls c)) ∙ h)))
 
 -- with room for both answers, right lists and the gap question put: the outlook is refused exactly as the commit is
@@ -517,7 +565,7 @@ outlook-exact s w i b ls c shows g lists holds r = (there, back)
   where
     there : call s (outlook i b) .answer ≡ refused r 0 → (m : ℕ) × (call s (commit i ls c) .answer ≡ refused r m)
     there h = subst (λ (o : Outcome). (m : ℕ) × (o .answer ≡ refused r m)) (sym (commit-is s w i ls c)) (commit-now s i ls c r
-        (⊎-elim inl (λ (es, u, v). inr (es, u, commit-ends s es g ls c 0 0 (lists es u) (omega (arith, holds es u)) ∙ ap stop (sym (same-tests s w i es u) ∙ only-tests (testsNow s es) _ (sym (outlook-is s (length b) es (shows es u)) ∙ v))))
+        (⊎-elim inl (λ (es, u, v). inr (es, u, commit-ends s es g ls c 0 0 (lists es u) (omega (arith, holds es u)) ∙ ap stop (only-tests (tests s es) _ (sym (outlook-is s (length b) es (shows es u)) ∙ v))))
         (outlook-was s i b r 0 (ap (λ (o : Outcome). o .answer) (sym (outlook-call s w i b)) ∙ h))))
       where
         only-tests : (o : Out ℕ) (l : List ℕ) → then o (λ x. good l) ≡ bad r → o ≡ bad r
@@ -526,7 +574,7 @@ outlook-exact s w i b ls c shows g lists holds r = (there, back)
 
     back : (m : ℕ) × (call s (commit i ls c) .answer ≡ refused r m) → call s (outlook i b) .answer ≡ refused r 0
     back (m, h) = ap (λ (o : Outcome). o .answer) (outlook-call s w i b) ∙ outlook-now s i b r
-        (⊎-elim inl (λ (es, u, v). inr (es, u, outlook-is s (length b) es (shows es u) ∙ rw (same-tests s w i es u, stop-bad (tests s es) r (sym (commit-ends s es g ls c 0 0 (lists es u) (omega (arith, holds es u))) ∙ v)) refl))
+        (⊎-elim inl (λ (es, u, v). inr (es, u, outlook-is s (length b) es (shows es u) ∙ rw (stop-bad (tests s es) r (sym (commit-ends s es g ls c 0 0 (lists es u) (omega (arith, holds es u))) ∙ v)) refl))
         (commit-was s i ls c r m (ap (λ (o : Outcome). o .answer) (sym (commit-is s w i ls c)) ∙ h)))
 
 -- ---- "by 20 never", and 24 "never the outlook"

@@ -8,7 +8,7 @@ use lib.ListN.{length, take, drop, length-append, take-append-drop}
 use lib.Seq.{take-at, drop-at, drop-drop, take-append-add, length-take-le}
 use native.Mathlib.Omega.{arith}
 use native.Mathlib.Nat.{add-zero}
-use Rattle.laws.specs.Lists.{joined}
+use Rattle.laws.specs.Lists.{map-same, joined}
 use Rattle.laws.specs.Bytes.{be, be-length, value, value-be-fits, written, written-length, written-is}
 use Rattle.spec.specs.Ids.{Id, idBytes}
 use Rattle.spec.specs.Store.{Store, idAt}
@@ -31,18 +31,19 @@ id-shape i rest =
     append-assoc (be 4 (i .round)) (be 1 (i .author) ++ be 32 (i .digest)) rest ∙ ap (λ (l : List ℕ). be 4 (i .round) ++ l) (append-assoc (be 1 (i .author)) (be 32 (i .digest)) rest)
 
 -- what stands n bytes on, in two steps
-skip : (m n : ℕ) (p q r bs : List ℕ) → length p ≡ m → length q ≡ n → bs ≡ p ++ (q ++ r) → drop (m + n) bs ≡ r
+pub skip : (m n : ℕ) (p q r bs : List ℕ) → length p ≡ m → length q ≡ n → bs ≡ p ++ (q ++ r) → drop (m + n) bs ≡ r
 skip m n p q r bs a b e = sym (drop-drop n m bs) ∙ (ap (drop n) (ap (drop m) e ∙ drop-at p (q ++ r) m a) ∙ drop-at q r n b)
 
-pub read-id : (i : Id) → Fits i → (rest : List ℕ) → readId (idBytes i ++ rest) ≡ i
-unfolding readId
-read-id i f rest = λ k. record { round = r k; author = a k; digest = d k }
-  where
-    bs : List ℕ
-    bs = idBytes i ++ rest
+-- an id as its bytes say it
+abbrev pub asRead : Id → Id
+asRead i = record { round = value 0 (be 4 (i .round)); author = value 0 (be 1 (i .author)); digest = value 0 (be 32 (i .digest)) }
 
-    r : value 0 (take 4 (idBytes i ++ rest)) ≡ i .round
-    r = ap (λ (l : List ℕ). value 0 (take 4 l)) (id-shape i rest) ∙ (ap (value 0) (take-at (be 4 (i .round)) _ 4 (be-length 4 (i .round))) ∙ value-be-fits 4 (i .round) (f .0))
+pub read-id : (i : Id) (rest : List ℕ) → readId (idBytes i ++ rest) ≡ asRead i
+unfolding readId
+read-id i rest = λ k. record { round = r k; author = a k; digest = d k }
+  where
+    r : value 0 (take 4 (idBytes i ++ rest)) ≡ value 0 (be 4 (i .round))
+    r = ap (λ (l : List ℕ). value 0 (take 4 l)) (id-shape i rest) ∙ ap (value 0) (take-at (be 4 (i .round)) _ 4 (be-length 4 (i .round)))
 
     four : drop 4 (idBytes i ++ rest) ≡ be 1 (i .author) ++ (be 32 (i .digest) ++ rest)
     four = ap (drop 4) (id-shape i rest) ∙ drop-at (be 4 (i .round)) _ 4 (be-length 4 (i .round))
@@ -50,11 +51,15 @@ read-id i f rest = λ k. record { round = r k; author = a k; digest = d k }
     five : drop 5 (idBytes i ++ rest) ≡ be 32 (i .digest) ++ rest
     five = skip 4 1 (be 4 (i .round)) (be 1 (i .author)) _ _ (be-length 4 (i .round)) (be-length 1 (i .author)) (id-shape i rest)
 
-    a : value 0 (take 1 (drop 4 (idBytes i ++ rest))) ≡ i .author
-    a = ap (λ (l : List ℕ). value 0 (take 1 l)) four ∙ (ap (value 0) (take-at (be 1 (i .author)) _ 1 (be-length 1 (i .author))) ∙ value-be-fits 1 (i .author) (f .1))
+    a : value 0 (take 1 (drop 4 (idBytes i ++ rest))) ≡ value 0 (be 1 (i .author))
+    a = ap (λ (l : List ℕ). value 0 (take 1 l)) four ∙ ap (value 0) (take-at (be 1 (i .author)) _ 1 (be-length 1 (i .author)))
 
-    d : value 0 (take 32 (drop 5 (idBytes i ++ rest))) ≡ i .digest
-    d = ap (λ (l : List ℕ). value 0 (take 32 l)) five ∙ (ap (value 0) (take-at (be 32 (i .digest)) _ 32 (be-length 32 (i .digest))) ∙ value-be-fits 32 (i .digest) (f .2))
+    d : value 0 (take 32 (drop 5 (idBytes i ++ rest))) ≡ value 0 (be 32 (i .digest))
+    d = ap (λ (l : List ℕ). value 0 (take 32 l)) five ∙ ap (value 0) (take-at (be 32 (i .digest)) _ 32 (be-length 32 (i .digest)))
+
+-- one that fits comes back
+pub as-read : (i : Id) → Fits i → asRead i ≡ i
+as-read i f = λ k. record { round = value-be-fits 4 (i .round) (f .0) k; author = value-be-fits 1 (i .author) (f .1) k; digest = value-be-fits 32 (i .digest) (f .2) k }
 
 pub id-length : (i : Id) → length (idBytes i) ≡ 37
 unfolding idBytes
@@ -70,13 +75,17 @@ ids-length (x ∷ xs) = let n = length xs in length-append (idBytes x) (joined i
     more : (n : ℕ) → 37 + n * 37 ≡ suc n * 37
     more n = omega arith
 
-pub read-ids : (xs : List Id) → ((x : Id) → List·Memᴰ x xs → Fits x) → (rest : List ℕ) → readIds (length xs) (joined idBytes xs ++ rest) ≡ xs
+pub read-ids : (xs : List Id) (rest : List ℕ) → readIds (length xs) (joined idBytes xs ++ rest) ≡ map asRead xs
 unfolding joined readIds
-read-ids [] f rest = refl
-read-ids (x ∷ xs) f rest =
+read-ids [] rest = refl
+read-ids (x ∷ xs) rest =
     rw (append-assoc (idBytes x) (joined idBytes xs) rest)
-    (ap₂ _∷_ (read-id x (f x (List·Memᴰ·head refl)) (joined idBytes xs ++ rest))
-    (ap (readIds (length xs)) (drop-at (idBytes x) (joined idBytes xs ++ rest) 37 (id-length x)) ∙ read-ids xs (λ y m. f y (List·Memᴰ·tail m)) rest))
+    (ap₂ _∷_ (read-id x (joined idBytes xs ++ rest)) (ap (readIds (length xs)) (drop-at (idBytes x) (joined idBytes xs ++ rest) 37 (id-length x)) ∙ read-ids xs rest))
+
+-- ids that fit come back
+as-reads : (xs : List Id) → ((x : Id) → List·Memᴰ x xs → Fits x) → map asRead xs ≡ xs
+as-reads [] f = refl
+as-reads (x ∷ xs) f = ap₂ _∷_ (as-read x (f x (List·Memᴰ·head refl))) (as-reads xs (λ y m. f y (List·Memᴰ·tail m)))
 
 -- ---- records
 
@@ -140,13 +149,17 @@ number-at s ls e rest = ap (drop 79) (record-shape s ls e rest) ∙ drop-at (hea
 abbrev pub readAs : Store → Store → List ℕ → EnqueuedAnchor → History
 readAs at s ls e = record { at = at; anchor = idAt s (e .anchor); ids = inOrder s (e .anchor) ls; tail = tailBytes s (e .anchor) }
 
-pub read-record : (at s : Store) (ls : List ℕ) (e : EnqueuedAnchor) (n : ℕ) (rest : List ℕ) → Fits (idAt s (e .anchor)) → ((x : Id) → List·Memᴰ x (inOrder s (e .anchor) ls) → Fits x) → length (inOrder s (e .anchor) ls) < 256 ^ 4
-    → readRecords at (suc n) (recordBytes s ls e ++ rest) ≡ readAs at s ls e ∷ readRecords at n rest
+-- as the bytes say it
+abbrev pub readBytes : Store → Store → List ℕ → EnqueuedAnchor → History
+readBytes at s ls e = record { at = at; anchor = asRead (idAt s (e .anchor)); ids = map asRead (inOrder s (e .anchor) ls); tail = tailBytes s (e .anchor) }
+
+pub read-record : (at s : Store) (ls : List ℕ) (e : EnqueuedAnchor) (n : ℕ) (rest : List ℕ) → length (inOrder s (e .anchor) ls) < 256 ^ 4
+    → readRecords at (suc n) (recordBytes s ls e ++ rest) ≡ readBytes at s ls e ∷ readRecords at n rest
 unfolding readRecords
-read-record at s ls e n rest fa fs few = λ i. record { at = at; anchor = who i; ids = ids i; tail = tail i } ∷ readRecords at n (after i)
+read-record at s ls e n rest few = λ i. record { at = at; anchor = who i; ids = ids i; tail = tail i } ∷ readRecords at n (after i)
   where
-    who : readId (recordBytes s ls e ++ rest) ≡ idAt s (e .anchor)
-    who = let (l, k) = record-anchor s ls e rest in ap readId k ∙ read-id (idAt s (e .anchor)) fa l
+    who : readId (recordBytes s ls e ++ rest) ≡ asRead (idAt s (e .anchor))
+    who = let (l, k) = record-anchor s ls e rest in ap readId k ∙ read-id (idAt s (e .anchor)) l
 
     at79 : drop 79 (recordBytes s ls e ++ rest) ≡ be 4 (length (inOrder s (e .anchor) ls)) ++ (joined idBytes (inOrder s (e .anchor) ls) ++ (tailBytes s (e .anchor) ++ rest))
     at79 = ap (drop 79) (record-shape s ls e rest) ∙ drop-at (headBytes s e) _ 79 (head-length s e)
@@ -157,8 +170,8 @@ read-record at s ls e n rest fa fs few = λ i. record { at = at; anchor = who i;
     points : value 0 (take 4 (drop 79 (recordBytes s ls e ++ rest))) ≡ length (inOrder s (e .anchor) ls)
     points = ap (λ (l : List ℕ). value 0 (take 4 l)) at79 ∙ (ap (value 0) (take-at (be 4 (length (inOrder s (e .anchor) ls))) _ 4 (be-length 4 (length (inOrder s (e .anchor) ls)))) ∙ value-be-fits 4 _ few)
 
-    ids : readIds (value 0 (take 4 (drop 79 (recordBytes s ls e ++ rest)))) (drop 83 (recordBytes s ls e ++ rest)) ≡ inOrder s (e .anchor) ls
-    ids = ap₂ readIds points at83 ∙ read-ids (inOrder s (e .anchor) ls) fs (tailBytes s (e .anchor) ++ rest)
+    ids : readIds (value 0 (take 4 (drop 79 (recordBytes s ls e ++ rest)))) (drop 83 (recordBytes s ls e ++ rest)) ≡ map asRead (inOrder s (e .anchor) ls)
+    ids = ap₂ readIds points at83 ∙ read-ids (inOrder s (e .anchor) ls) (tailBytes s (e .anchor) ++ rest)
 
     ended : drop (83 + value 0 (take 4 (drop 79 (recordBytes s ls e ++ rest))) * 37) (recordBytes s ls e ++ rest) ≡ tailBytes s (e .anchor) ++ rest
     ended =
@@ -278,7 +291,16 @@ commit-buffer = every-commit (λ s ls b at n es f evs. Buffered b at n f evs) (�
 
 -- ---- read back
 
--- what reading a record asks of a finished anchor
+-- records of few enough points, as their bytes say them
+pub read-bytes : (at : Store) (evs : List Event) (rest : List ℕ) → ((e : Event) → List·Memᴰ e evs → length (inOrder (e .from) (e .enq .anchor) (e .list)) < 256 ^ 4)
+    → readRecords at (length evs) (joined bytesOf evs ++ rest) ≡ map (λ (e : Event). readBytes at (e .from) (e .list) (e .enq)) evs
+unfolding joined readRecords
+read-bytes at [] rest f = refl
+read-bytes at (e ∷ evs) rest f =
+    ap (readRecords at (suc (length evs))) (append-assoc (bytesOf e) (joined bytesOf evs) rest)
+    ∙ (read-record at (e .from) (e .list) (e .enq) (length evs) (joined bytesOf evs ++ rest) (f e (List·Memᴰ·head refl)) ∙ ap (λ (l : List History). readBytes at (e .from) (e .list) (e .enq) ∷ l) (read-bytes at evs rest (λ x m. f x (List·Memᴰ·tail m))))
+
+-- what reading a record back asks of a finished anchor
 pub record Readable (e : Event) : Type 0 where
   pub anchor : Fits (idAt (e .from) (e .enq .anchor))
   pub points : (x : Id) → List·Memᴰ x (inOrder (e .from) (e .enq .anchor) (e .list)) → Fits x
@@ -286,11 +308,6 @@ pub record Readable (e : Event) : Type 0 where
 
 pub read-all : (at : Store) (evs : List Event) (rest : List ℕ) → ((e : Event) → List·Memᴰ e evs → Readable e)
     → readRecords at (length evs) (joined bytesOf evs ++ rest) ≡ map (λ (e : Event). readAs at (e .from) (e .list) (e .enq)) evs
-unfolding joined readRecords
-read-all at [] rest f = refl
-read-all at (e ∷ evs) rest f =
-    ap (readRecords at (suc (length evs))) (append-assoc (bytesOf e) (joined bytesOf evs) rest)
-    ∙ (read-record at (e .from) (e .list) (e .enq) (length evs) (joined bytesOf evs ++ rest) (r .anchor) (r .points) (r .few) ∙ ap (λ (l : List History). readAs at (e .from) (e .list) (e .enq) ∷ l) (read-all at evs rest (λ x m. f x (List·Memᴰ·tail m))))
-  where
-    r : Readable e
-    r = f e (List·Memᴰ·head refl)
+read-all at evs rest f =
+    read-bytes at evs rest (λ e m. f e m .few)
+    ∙ map-same _ _ evs (λ e m i. record { at = at; anchor = as-read (idAt (e .from) (e .enq .anchor)) (f e m .anchor) i; ids = as-reads (inOrder (e .from) (e .enq .anchor) (e .list)) (f e m .points) i; tail = tailBytes (e .from) (e .enq .anchor) })

@@ -101,7 +101,7 @@ module _ (F : Refusal → Type 0) (fine : (n : ℕ) → isOther n ≡ true → F
   outlook-sound s left [] = tt
   outlook-sound s left (e ∷ es) =
       then-sound F (tested s (e .anchor)) _ (tested-sound s (e .anchor)) (λ a.
-      refuse-sound F (ltb left (length (outlookBytes s (e .anchor)))) 21 _ (fine 21 refl) (then-sound F (outlookAll s _ es) _ (outlook-sound s _ es) (λ rest. tt)))
+      refuse-sound F (ltb left (length (outlookBytes s (e .anchor)))) 21 _ (fine 21 refl) (then-sound F (outlookAll _ _ es) _ (outlook-sound _ _ es) (λ rest. tt)))
 
   -- ---- and 25 too: the walk
 

@@ -11,7 +11,7 @@ use Rattle.laws.specs.Test.{byTest, both, and-l, and-r}
 use Rattle.laws.specs.Scan.{any-intro, any-elim}
 use Rattle.spec.specs.Store.{Store, roundAt, linksTo}
 use Rattle.spec.specs.Paths.{LinkedTo}
-use Rattle.spec.specs.History.{limit, lowest, Need, anchor, hand, hands, pass, sweep, marks, needed}
+use Rattle.spec.specs.History.{limit, lowest, Need, anchor, hand, hands, pass, sweep, marks, needed, inHistory}
 use Rattle.spec.specs.Links.{down, source-named}
 use Rattle.spec.specs.HeightEquations.{Sized, inside}
 
@@ -110,3 +110,16 @@ needed-is s z a q l = (
   (λ h. (marked→need s a q (and-l _ _ h), leb-true _ _ (and-r (marks s a q) _ h))),
   λ (n, b). both (need→marked s z a q l n b) (le-leb _ _ b),
 )
+
+-- needed, from the lowest round on, are the anchor and what the points of its history link to
+pub needed-by-history : (s : Store) → Sized s → (a q : ℕ) → lowest s a ≤ suc (roundAt s a) → (needed s a q ≡ true) ↔ ((lowest s a ≤ roundAt s q) × ((q ≡ a) ⊎ ((p : ℕ) × (inHistory s a p ≡ true) × LinkedTo s p q)))
+unfolding inHistory
+needed-by-history s z a q l = ((λ h. let (n, b) = needed-is s z a q l .0 h in (b, by q n b)), λ (b, o). needed-is s z a q l .1 (back o, b))
+  where
+    by : (q : ℕ) → Need s a q → lowest s a ≤ roundAt s q → (q ≡ a) ⊎ ((p : ℕ) × (inHistory s a p ≡ true) × LinkedTo s p q)
+    by q anchor b = inl refl
+    by q (hand p x n d e) b = inr (p, both (needed-is s z a p l .1 (n, omega (arith, down s p x e, b))) (ap not d), e)
+
+    back : (q ≡ a) ⊎ ((p : ℕ) × (inHistory s a p ≡ true) × LinkedTo s p q) → Need s a q
+    back (inl e) = subst (Need s a) (sym e) anchor
+    back (inr (p, h, e)) = hand p q (needed-is s z a p l .0 (and-l _ _ h) .0) (not-true _ (and-r (needed s a p) _ h)) e

@@ -172,21 +172,22 @@ fn chains_of_anchors() {
     }
 }
 
-/// As hosts commit: the outlook, the first anchor's lists by its counts, 24 after it, and again. The records are those of
-/// one commit with all lists.
+/// The first anchor's lists, 24 after it, and the next one's. The records are those of one commit with all lists. An outlook
+/// between tells what the first one told of the anchors left.
 #[test]
 fn anchor_by_anchor() {
-    for count in 1..=9 {
-        let mut list = certified(chain(count, &short(), as_it_is));
+    for (count, commit_history_rounds) in (1..=9).flat_map(|count| [(count, 1), (count, 4)]) {
+        let mut list = certified(chain(count, &Start { commit_history_rounds, ..short() }, as_it_is));
         let mut whole = list.committer.clone();
         let expected = commit(&mut whole, &list.trigger).unwrap();
+        let Answer::Looked(looks) = list.committer.call(&Call::Outlook(list.trigger)) else { panic!("an outlook") };
+        assert_eq!(looks.len(), count as usize);
         let mut records = Vec::new();
-        for left in (1..=count).rev() {
-            let Answer::Looked(looks) = list.committer.call(&Call::Outlook(list.trigger)) else { panic!("an outlook") };
-            assert_eq!(looks.len(), left as usize);
+        for (n, look) in looks.iter().enumerate() {
+            assert_eq!(list.committer.call(&Call::Outlook(list.trigger)), Answer::Looked(looks[n..].to_vec()));
             let mut bytes = buffer(LARGE);
-            let due = if left == 1 { Ok(1) } else { Err(refused(24, 0, 1)) };
-            assert_eq!(list.committer.commit(&list.trigger, &looks[0].lists_in_order(), &mut bytes), due);
+            let due = if n + 1 == looks.len() { Ok(1) } else { Err(refused(24, 0, 1)) };
+            assert_eq!(list.committer.commit(&list.trigger, &look.lists_in_order(), &mut bytes), due);
             records.extend(anchors(&bytes, 1));
         }
         assert_eq!(records, expected);

@@ -2,8 +2,8 @@
 
 use committer::sys::Memory;
 use committer::{
-    Answer, Call, Committer, Link, Look, OUTLOOK_BYTES_MAX, PointId, PointInfo, Refusal, Refused, Start, Status,
-    anchors, looks,
+    Anchor, Answer, Call, CommitSizes, Committer, Link, Look, OUTLOOK_BYTES_MAX, PointId, PointInfo, Refusal, Refused,
+    Start, Status, anchors, lists_in_order, looks,
 };
 
 use crate::model::Model;
@@ -121,16 +121,12 @@ pub fn buffer(length: usize) -> Vec<u8> {
 
 /// Right lists for all anchors that a commit of this trigger finishes: those that leave each round by rising digest.
 pub fn lists(committer: &Committer, trigger: &PointId) -> Vec<u8> {
-    lists_of(&Model::of(committer).looks(trigger))
+    lists_in_order(&Model::of(committer).looks(trigger))
 }
 
-fn lists_of(looks: &[Look]) -> Vec<u8> {
-    looks.iter().flat_map(Look::lists_in_order).collect()
-}
-
-/// The outlook of a trigger is what a commit with right lists would do, once the gap question is put: the same anchors,
-/// the first with as many points and lists as long (the histories of the others lose what the ones before them hold),
-/// or the same refusal. It changes nothing, and writes only if it isn't refused. The commit's records are the model's.
+/// The outlook of a trigger is what a commit with right lists would do, once the gap question is put: the same anchors
+/// with as many points, and lists and records of just the sizes told; or the same refusal. It changes nothing, and
+/// writes only if it isn't refused. The commit's records are the model's.
 pub fn assert_outlook(committer: &Committer, trigger: &PointId) {
     let mut bytes = buffer(OUTLOOK_BYTES_MAX);
     let before = committer.clone();
@@ -139,8 +135,9 @@ pub fn assert_outlook(committer: &Committer, trigger: &PointId) {
     let mut copy = before.clone();
     // refused with 2 if nothing is started, as commit and outlook are
     let _ = copy.gap_question();
-    let ahead = Model::of(committer).looks(trigger);
-    let lists = lists_of(&ahead);
+    let asked = copy.clone();
+    let expected = Model::of(committer).looks(trigger);
+    let lists = lists_in_order(&expected);
     let due = Model::of(&copy).call(&Call::Commit(*trigger, lists.clone()));
     let mut records = buffer(committer::COMMIT_BYTES_MAX);
     match copy.commit(trigger, &lists, &mut records) {
@@ -148,15 +145,10 @@ pub fn assert_outlook(committer: &Committer, trigger: &PointId) {
             assert_eq!(told, Ok(count));
             let (looks, anchors) = (looks(&bytes, count, committer.parts().1), anchors(&records, count));
             assert_eq!(due, Answer::Handed(anchors.clone()));
-            assert_eq!([looks.len(), anchors.len()], [ahead.len(); 2]);
-            assert_eq!(looks.first(), ahead.first());
-            for ((look, later), anchor) in looks.iter().zip(&ahead).zip(&anchors) {
-                let points = anchor.points.len() as u32;
-                assert_eq!((later.anchor, later.points), (anchor.anchor, points));
-                assert!(look.anchor == anchor.anchor && look.points >= points, "{look} {anchor}");
-                assert!(look.linked.iter().zip(&later.linked).all(|(now, then)| now >= then), "{look} {later}");
-            }
+            assert_eq!(looks, expected);
+            assert_told(&looks, &anchors);
             assert_outlook_buffers(committer, trigger, &bytes, &looks);
+            assert_sizes(&asked, trigger, &looks, &lists, &copy);
         }
         Err(why) => {
             assert_eq!(told, Err(Refused { finished: 0, ..why }));
@@ -165,6 +157,47 @@ pub fn assert_outlook(committer: &Committer, trigger: &PointId) {
         }
     }
     assert_unchanged(committer, &before);
+}
+
+/// The outlook told the anchors that were handed out, each with as many points.
+pub fn assert_told(looks: &[Look], anchors: &[Anchor]) {
+    let told: Vec<(PointId, usize)> = looks.iter().map(|look| (look.anchor, look.points as usize)).collect();
+    let handed: Vec<(PointId, usize)> = anchors.iter().map(|anchor| (anchor.anchor, anchor.points.len())).collect();
+    assert_eq!(told, handed);
+}
+
+/// A commit with right lists into a buffer, both of just the sizes that the outlook tells, leaves this. With one byte
+/// less of the buffer it is 21 at the last anchor, with one byte less of the lists 24; the records before it stand.
+pub fn assert_sizes(committer: &Committer, trigger: &PointId, looks: &[Look], lists: &[u8], after: &Committer) {
+    let sizes = CommitSizes::of(looks);
+    let mut copy = committer.clone();
+    let mut whole = buffer(sizes.records);
+    assert_eq!(lists.len(), sizes.lists);
+    assert_eq!(copy.commit(trigger, lists, &mut whole), Ok(looks.len() as u32));
+    assert_unchanged(&copy, after);
+    let anchors = anchors(&whole, looks.len() as u32);
+    assert_told(looks, &anchors);
+    assert_eq!(anchors.iter().map(|anchor| anchor.points.len()).sum::<usize>(), sizes.points);
+    let Some((last, before)) = anchors.split_last() else {
+        assert_eq!(sizes, CommitSizes::default());
+        return;
+    };
+    let (begin, finished) = (sizes.records - last.bytes(), before.len() as u32);
+    let short = [
+        (Refusal::NoRoom, lists, sizes.records - 1),
+        (Refusal::BadLists, &lists[..sizes.lists - 1], sizes.records),
+        (Refusal::BadLists, &lists[..sizes.lists - 1], sizes.records - 1),
+    ];
+    for (refusal, lists, room) in short {
+        let mut copy = committer.clone();
+        let mut bytes = buffer(room);
+        assert_eq!(copy.commit(trigger, lists, &mut bytes), Err(Refused { refusal, finished }));
+        assert_eq!(bytes[..begin], whole[..begin]);
+        assert!(bytes[begin..].iter().all(|byte| *byte == 0xa5), "bytes beyond the records were touched");
+        if finished == 0 {
+            assert_unchanged(&copy, committer);
+        }
+    }
 }
 
 /// Just as many bytes as are needed will do; with one less, or none, it is 21 and no byte is written.

@@ -189,7 +189,7 @@ fn three_points_of_a_round() {
 fn two_anchors_at_once() {
     let (committer, trigger) = (two_anchors(false), trigger_of_two());
     let looks = told(&committer, &trigger);
-    assert_eq!(looks, [look(id(12, 0, 'b'), 2, &[1, 1]), look(id(14, 0, 'd'), 3, &[1, 1, 1])]);
+    assert_eq!(looks, [look(id(12, 0, 'b'), 2, &[1, 1]), look(id(14, 0, 'd'), 2, &[1, 1, 1])]);
     assert_eq!(looks.iter().map(Look::bytes).sum::<usize>(), 102);
     // b is linked and committed then: it has a byte, and isn't handed out again
     hands_out(&committer, &trigger, &[0; 5], &["ab", "cd"]);

@@ -89,7 +89,7 @@ impl Model {
             Call::Drop(round) => Ok(store.drop(*round)),
             Call::Gap => Ok(store.ask()),
             Call::Commit(id, lists) => Ok(store.commit(id, lists)),
-            Call::Outlook(id) => Ok(store.outlook(id).map_or_else(|stop| refused(stop, Vec::new()), Answer::Looked)),
+            Call::Outlook(id) => Ok(store.outlook(id)),
             Call::Reset => {
                 self.store = None;
                 Ok(Answer::Done)
@@ -136,21 +136,10 @@ impl Model {
         })
     }
 
-    /// What an outlook would tell of each anchor once those before it are committed, up to the one that is refused: the
-    /// lengths of the place lists that a commit of this trigger reads.
+    /// What an outlook tells of each anchor, also where it is refused: up to the anchor that it is refused for. The lengths
+    /// of the place lists that a commit of this trigger reads.
     pub fn looks(&self, trigger: &PointId) -> Vec<Look> {
-        let Some(mut store) = self.store.clone() else { return Vec::new() };
-        store.ask();
-        let heights = Heights(store.heights());
-        let mut looks = Vec::new();
-        for e in store.anchors(trigger, &heights).unwrap_or_default() {
-            let Ok(look) = store.look(&e, &heights) else { break };
-            store
-                .dequeue(&e, &heights, &mut &look.lists_in_order()[..])
-                .expect("the gap question is put, lists are right");
-            looks.push(look);
-        }
-        looks
+        self.store.as_ref().map_or(Vec::new(), |store| store.looks(trigger).0)
     }
 
     /// The ids of the points, each with whether it is resolved.
@@ -493,9 +482,34 @@ impl Store {
         needed
     }
 
-    fn outlook(&self, id: &PointId) -> Result<Vec<Look>, Stop> {
+    fn outlook(&self, id: &PointId) -> Answer {
+        match self.looks(id) {
+            (looks, None) => Answer::Looked(looks),
+            (_, Some(stop)) => refused(stop, Vec::new()),
+        }
+    }
+
+    /// Each anchor of an outlook with those before it committed, on a copy where the gap question is put; and what stops
+    /// it.
+    fn looks(&self, id: &PointId) -> (Vec<Look>, Option<Stop>) {
+        let mut supposed = self.clone();
+        supposed.ask();
         let heights = Heights(self.heights());
-        self.anchors(id, &heights)?.iter().map(|e| self.look(e, &heights)).collect()
+        let mut looks = Vec::new();
+        let anchors = match self.anchors(id, &heights) {
+            Ok(anchors) => anchors,
+            Err(stop) => return (looks, Some(stop)),
+        };
+        for e in anchors {
+            let look = match supposed.look(&e, &heights) {
+                Ok(look) => look,
+                Err(stop) => return (looks, Some(stop)),
+            };
+            let handed = supposed.dequeue(&e, &heights, &mut &look.lists_in_order()[..]);
+            assert_eq!(handed.expect("the question is put, lists are right").points.len(), look.points as usize);
+            looks.push(look);
+        }
+        (looks, None)
     }
 
     fn look(&self, e: &EnqueuedAnchor, heights: &Heights) -> Result<Look, Stop> {

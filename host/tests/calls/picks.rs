@@ -116,7 +116,7 @@ fn a_committed_point_between_new_ones() {
     put(&mut committer, x(14), anchor(p, &[p]));
     committer.certify(&x(12)).unwrap();
     let trigger = yields(&mut committer, x(14));
-    assert_eq!(told(&committer, &trigger), [look(x(12), 2, &[1, 1]), look(x(14), 7, &[1, 1, 2, 3])]);
+    assert_eq!(told(&committer, &trigger), [look(x(12), 2, &[1, 1]), look(x(14), 5, &[1, 1, 2, 3])]);
     for list in ORDERS {
         let second = come_out("abc", &list).replace('b', "") + "ypx";
         hands_out(&committer, &trigger, &[&[0, 0, 0, 0, 0, 1], &list[..]].concat(), &["bx", &second]);

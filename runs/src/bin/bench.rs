@@ -304,19 +304,22 @@ fn rust_commit(points: u32, calls: &[Call], trigger: &PointId) -> f64 {
 
 // ---- outlooks
 
-/// Anchors that a trigger yields.
-const CHAINS: [u32; 2] = [1, 9];
+/// Anchors that a trigger yields, and H. In the last the history of each anchor reaches all rows below it, as many as the places allow.
+const CHAINS: [(u32, u32); 3] = [(1, HISTORY_ROUNDS), (9, HISTORY_ROUNDS), (60, 255)];
 /// Rows below the first anchor.
 const LEAD: u32 = 4;
+/// An outlook of so many anchors should take at most so many times as long as their commit.
+const JUDGED: u32 = 9;
+const RATIO_MOST: f64 = 1.2;
 
 /// The calls until a trigger yields so many anchors: rows of 32 points, each of which includes the row below; above the first rows anchors
 /// and proofs of peer 0 in turn, then the trigger.
-fn chained(anchors: u32) -> (Vec<Call>, PointId) {
+fn chained(anchors: u32, commit_history_rounds: u32) -> (Vec<Call>, PointId) {
     let first = BOTTOM + LEAD + 1;
     let top = first + 2 * anchors;
     let bottom = Start {
         genesis: BOTTOM,
-        commit_history_rounds: HISTORY_ROUNDS,
+        commit_history_rounds,
         bottom: BOTTOM,
         peers: u32::MAX,
         used: Some(0),
@@ -345,13 +348,24 @@ fn chained(anchors: u32) -> (Vec<Call>, PointId) {
 }
 
 fn print_outlooks() {
-    println!("\n| anchors | points handed out | outlook, library | commit, library | table test |");
-    println!("|---|---|---|---|---|");
-    for anchors in CHAINS {
-        let (calls, trigger) = chained(anchors);
+    println!(
+        "\n| anchors | H | points handed out | outlook, library | commit, library | outlook to commit | table test |"
+    );
+    println!("|---|---|---|---|---|---|---|");
+    let mut judged = 0.0;
+    for (anchors, commit_history_rounds) in CHAINS {
+        let (calls, trigger) = chained(anchors, commit_history_rounds);
         let (points, [outlook, commit, test]) = our_outlook(anchors, &calls, &trigger);
-        println!("| {anchors} | {points} | {outlook:.1} | {commit:.1} | {test:.1} |");
+        let ratio = outlook / commit;
+        println!(
+            "| {anchors} | {commit_history_rounds} | {points} | {outlook:.1} | {commit:.1} | {ratio:.2} | {test:.1} |"
+        );
+        if anchors == JUDGED {
+            judged = ratio;
+        }
     }
+    let met = if judged <= RATIO_MOST { "met" } else { "not met" };
+    println!("\nOutlook to commit of {JUDGED} anchors, at most {RATIO_MOST}: {judged:.2}, {met}.");
 }
 
 /// The points handed out, and the times of the outlook, the commit of the same trigger and the table test, which take turns.

@@ -10,7 +10,7 @@ use runs::compare::{Difference, List, compare, lent};
 use runs::counts::Counts;
 use runs::known::Known;
 use runs::library::Library;
-use runs::lists::{chained, damaged, grown, limits, removing, shorts};
+use runs::lists::{chained, damaged, grown, limits, removing, shorts, waiting};
 use runs::notation;
 use runs::random::Random;
 use runs::shrink::shrink;
@@ -20,6 +20,7 @@ const GROWN: u64 = 2_000;
 const DAMAGED: u64 = 1_200;
 const CHAINED: u64 = 1_500;
 const CHAINED_DAMAGED: u64 = 1_500;
+const WAITING: u64 = 2_500;
 const REMOVING: u64 = 1_200;
 const REMOVING_DAMAGED: u64 = 600;
 /// Every so many random lists run under both hash seeds.
@@ -37,8 +38,9 @@ const WIDE_SUMS_LEAST: u64 = 1_000;
 const THREE_LEAST: u64 = 5_000;
 /// Commits with a damaged place list.
 const DAMAGED_LISTS_LEAST: u64 = 5_000;
-/// Outlooks that tell anchors.
+/// Outlooks that tell anchors, and commits of two anchors or more that had the outlook's counts.
 const OUTLOOKS_LEAST: u64 = 5_000;
+const SEVERAL_LEAST: u64 = 5_000;
 /// Removes that both took, events of each kind that both reported, events with another proof in the Rust.
 const REMOVES_LEAST: u64 = 20_000;
 const EVENTS_LEAST: u64 = 2_000;
@@ -136,6 +138,8 @@ fn tasks(seed: u64) -> impl Iterator<Item = Task> {
         let list = damaged(removing(random(9, n)), random(10, n));
         Task { family: "damaged removing", twice: n % TWICE == 0, list }
     });
+    let waiting_tasks =
+        (0..WAITING).map(move |n| Task { family: "waiting", twice: n % TWICE == 0, list: waiting(random(11, n)) });
     // short lists first, so that a difference is shown by a short one; the long ones of the limits last
     (shorts().map(once("short")))
         .chain(grown_tasks)
@@ -144,6 +148,7 @@ fn tasks(seed: u64) -> impl Iterator<Item = Task> {
         .chain(damaged_chains)
         .chain(removing_tasks)
         .chain(damaged_removing)
+        .chain(waiting_tasks)
         .chain(limits().into_iter().map(once("limits")))
 }
 
@@ -187,6 +192,11 @@ fn enough(counts: &Counts) -> ExitCode {
     let outlooks = counts.outlooks_with_anchors();
     if outlooks < OUTLOOKS_LEAST {
         println!("{outlooks} outlooks with anchors were compared only, not {OUTLOOKS_LEAST}");
+        good = false;
+    }
+    let several = counts.several_as_told();
+    if several < SEVERAL_LEAST {
+        println!("{several} commits of two anchors or more were compared with their outlook only, not {SEVERAL_LEAST}");
         good = false;
     }
     let removes = counts.removes_taken();

@@ -1,6 +1,8 @@
 //! Writes the recorded runs of `crates/recorded` anew: parts 0 to 102 as they stand in CRATES/recorded/stdin, their commits with the Rust's place
-//! lists, the parts of remove, of place lists, of payloads, of needed points and of what a record's reader tests and leaves unread, the sample that
-//! `record` wrote into SAMPLE, and the part that is cut short. Texts are what the library answers, those of the sample the Rust's. What `crates/replay` plays, K13, is part 67 without its last commit.
+//! lists, the parts of remove, of place lists, of payloads, of needed points, of what a record's reader tests and leaves unread and of outlooks that
+//! add up, the sample that `record` wrote into SAMPLE, and the part that is cut short. Texts are what the library answers, but for the counts of
+//! outlooks, which are made from links and marks; those of the sample are the Rust's. What `crates/replay` plays, K13, is part 67 without its last
+//! commit.
 //!
 //!     cargo run --release --offline --bin parts -- CRATES SAMPLE
 
@@ -8,7 +10,7 @@ use committer::{Call, Link, PointId, PointInfo, Start, record};
 use runs::compare::{List, lent};
 use runs::counts::Counts;
 use runs::library::Library;
-use runs::play::{PLACES, full};
+use runs::play::{PLACES, full_counted};
 use std::fs;
 use std::process::ExitCode;
 
@@ -290,6 +292,68 @@ fn traced() -> Vec<Vec<u8>> {
     parts
 }
 
+// ---- outlooks that add up (02, N6)
+
+/// Which points of B4 are certified, and whether its second anchor includes 13.1.g too, which includes 12.0.b and 12.1.h.
+struct B4 {
+    with: Start,
+    certified: &'static [(u32, char)],
+    broad: bool,
+}
+
+/// Anchors 12.0.b and 14.0.d, proofs 13.0.c and 15.0.e, trigger 16.0.f, 11.0.a below them; each includes the one before. The second history
+/// reaches the first one's points.
+fn b4(of: &B4) -> Vec<Call> {
+    let mut calls = rounds(&of.with, 16);
+    put(&mut calls, id(11, 0, 'a'), valid());
+    put(&mut calls, id(12, 0, 'b'), under(&[(0, 'a')]));
+    let [c, e] = [id(13, 0, 'c'), id(15, 0, 'e')];
+    put(&mut calls, c, PointInfo { proof: true, top_proof: c, ..includes(&[(0, 'b')]) });
+    if of.broad {
+        put(&mut calls, id(12, 1, 'h'), includes(&[(0, 'a')]));
+        put(&mut calls, id(13, 1, 'g'), includes(&[(0, 'b'), (1, 'h')]));
+    }
+    let below: &[(u32, char)] = if of.broad { &[(0, 'c'), (1, 'g')] } else { &[(0, 'c')] };
+    put(&mut calls, id(14, 0, 'd'), PointInfo { top_proof: c, ..includes(below) });
+    put(&mut calls, e, PointInfo { proof: true, top_proof: e, ..includes(&[(0, 'd')]) });
+    put(&mut calls, id(16, 0, 'f'), PointInfo { trigger: true, ..includes(&[(0, 'e')]) });
+    with(calls, of.certified.iter().map(|(round, letter)| Call::Certify(id(*round, 0, *letter))))
+}
+fn added_up() -> Vec<Vec<Call>> {
+    let commit = |round, bytes: &[u8]| Call::Commit(id(round, 0, 'f'), bytes.to_vec());
+    let look = |round| Call::Outlook(id(round, 0, 'f'));
+    let start = |commit_history_rounds| Start { deduplicate_rounds: 5, ..from_10(commit_history_rounds, 3) };
+    let plain = |with| b4(&B4 { with, certified: &[(14, 'd')], broad: false });
+    vec![
+        // 151: the lists of both anchors from one outlook
+        with(plain(start(4)), [look(16), commit(16, &[0; 5]), look(16)]),
+        // 152: a byte too few: 24 with one anchor; what was told of the second stays
+        with(plain(start(4)), [look(16), commit(16, &[0; 4]), look(16), commit(16, &[0; 3]), look(16)]),
+        // 153: before the gap question the same counts, and 20
+        with(
+            plain(Start { after_gap: true, ..start(4) }),
+            [look(16), commit(16, &[0; 5]), Call::Gap, look(16), commit(16, &[0; 5]), look(16)],
+        ),
+        // 154: 18 at the second anchor
+        with(
+            b4(&B4 { with: start(4), certified: &[(12, 'b')], broad: false }),
+            [look(16), commit(16, &[0; 5]), look(16)],
+        ),
+        // 155: K13
+        with(four(start(2)), [look(15), commit(15, &[0, 0, 1, 0]), look(15)]),
+        // 156: histories that don't overlap
+        with(
+            b4(&B4 { with: start(1), certified: &[(12, 'b'), (14, 'd')], broad: false }),
+            [look(16), commit(16, &[0; 4]), look(16)],
+        ),
+        // 157: committed points that new ones link to
+        with(
+            b4(&B4 { with: start(4), certified: &[(14, 'd')], broad: true }),
+            [look(16), commit(16, &[0, 0, 0, 0, 1, 0, 1, 0]), look(16)],
+        ),
+    ]
+}
+
 /// Where the flag of a start, the marks of a resolution and the flag of a remove stand in their records.
 const FLAG_AT: usize = 26;
 const MARKS_AT: usize = 44;
@@ -359,6 +423,7 @@ fn parts() -> Vec<Vec<u8>> {
     parts.push([encoded(&[Call::Start(start(0b11))]), broken].concat());
     parts.extend(needed().iter().map(|calls| encoded(calls)));
     parts.extend(traced());
+    parts.extend(added_up().iter().map(|calls| encoded(calls)));
     parts
 }
 
@@ -373,7 +438,7 @@ fn encoded(calls: &[Call]) -> Vec<u8> {
 
 /// What `replay` writes.
 fn played(recording: &[u8]) -> String {
-    full(record::bench_calls(recording))
+    full_counted(record::bench_calls(recording))
 }
 
 /// Of the Rust's shuffle.

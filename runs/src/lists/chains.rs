@@ -108,6 +108,36 @@ pub fn chained(mut random: Random) -> List {
     list(Chains::new(random, taste), rounds)
 }
 
+/// One list whose triggers mostly wait, so that a commit yields several anchors, with long histories, which overlap. Next to nothing is wrong.
+pub fn waiting(mut random: Random) -> List {
+    let taste = Taste {
+        peers: *random.pick(&[1, 2, 3, 3, 4]),
+        away: *random.pick(&[0, 0, 15]),
+        present: *random.pick(&[60, 100]),
+        include: *random.pick(&[40, 80, 100]),
+        witness: *random.pick(&[0, 20, 60]),
+        second: *random.pick(&[0, 10]),
+        signed: 0,
+        blind: *random.pick(&[0, 50]),
+        bad_status: *random.pick(&[0, 0, 20]),
+        shunned: 100,
+        late: 0,
+        certified: *random.pick(&[100, 100, 100, 95]),
+        commits: *random.pick(&[15, 25, 40]),
+        removes: *random.pick(&[0, 40]),
+        drops: 0,
+        asked: 100,
+        resets: 0,
+        broken: 0,
+        tight: random.chance(25),
+        after_gap: 25,
+        commit_history_rounds: *random.pick(&[2, 3, 4, 6, 9, 12, 255]),
+        deduplicate_rounds: *random.pick(&[0, 0, 2, 7]),
+    };
+    let rounds = random.within(14, 34);
+    list(Chains::new(random, taste), rounds)
+}
+
 /// One list with much to report: most anchors are handed out and followed by a remove, many points are of another status or second ones,
 /// which no other links to, and give evidence.
 pub fn removing(mut random: Random) -> List {

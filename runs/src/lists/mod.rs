@@ -8,7 +8,7 @@ mod short;
 
 use committer::{Call, Link, PointId, PointInfo};
 
-pub use chains::{chained, removing};
+pub use chains::{chained, removing, waiting};
 pub use damage::damaged;
 pub use growth::{Growth, Taste, grown};
 pub use limits::limits;

@@ -5,15 +5,16 @@ use mathlib.Core.Logic.{⊎-elim}
 use native.Mathlib.Omega.{arith}
 use lib.ListN.{length}
 use Rattle.laws.specs.Scan.{those}
+use Rattle.back_history.specs.Supposing.{supposing}
 use Rattle.back_history.specs.Picked.{uncommittedAt, count-hit, count-miss, count-end}
 use Rattle.back_history.proofs.count_points.Statement.{statement}
 use Rattle.back_history.proofs.count_points.Tie as tie
 
 abbrev Inv-loop : tie.InvT-loop
-Inv-loop marks certs order low high n₀ k₀ n k = (k ≤ high - low) × (n ≤ k) × (n ≡ length (those k (uncommittedAt certs order marks low)))
+Inv-loop marks certs taken order low high n₀ k₀ n k = (k ≤ high - low) × (n ≤ k) × (n ≡ length (those k (uncommittedAt (supposing taken certs) order marks low)))
 
 abbrev μ-loop : tie.MeasureT-loop
-μ-loop marks certs order low high n₀ k₀ n k = high - low - k
+μ-loop marks certs taken order low high n₀ k₀ n k = high - low - k
 
 loop-holds : tie.Need-loop-holds Inv-loop μ-loop
 unfolding those
@@ -25,8 +26,8 @@ place-requires c κs = (search needs, c .before .before .before .before .pre .4)
 loop-again : tie.Need-loop-again Inv-loop μ-loop
 loop-again c =
     ⊎-elim
-    (λ w. (search needs, search needs, count-hit _ _ _ _ _ _ _ _ _ (c .before .before .before .before .loop .inv .2) (c .before .before .place .ensures .0) (c .before .is-uncommitted .ensures) (w .0 .taken) (w .1)))
-    (λ w. (search needs, search needs, count-miss _ _ _ _ _ _ _ _ _ (c .before .before .before .before .loop .inv .2) (c .before .before .place .ensures .0) (c .before .is-uncommitted .ensures) (w .0 .left) (w .1)))
+    (λ w. (search needs, search needs, count-hit _ _ _ _ _ _ _ _ _ (c .before .before .before .before .loop .inv .2) (c .before .before .place .ensures .0) (c .before .is-fresh .ensures) (w .0 .taken) (w .1)))
+    (λ w. (search needs, search needs, count-miss _ _ _ _ _ _ _ _ _ (c .before .before .before .before .loop .inv .2) (c .before .before .place .ensures .0) (c .before .is-fresh .ensures) (w .0 .left) (w .1)))
     (c .if1 .came)
 
 returns : tie.Need-returns Inv-loop μ-loop

@@ -1,55 +1,21 @@
+use mathlib.Core.Path.{_∙_, ap}
+use mathlib.Core.List.{List}
+use borrow.Author.Needs.{needs}
+use Prim.Native.Nat.{ℕ}
 use Rattle.models.specs.Digest.{Fit}
-use Rattle.back_committable.specs.Model.{tested-by, anchor-words, span-asked, span-range, span-ready, code-ready}
+use Rattle.back_history.specs.Supposing.{supposing-none}
+use Rattle.back_committable.specs.Model.{testedOf}
 use Rattle.back_committable.specs.Refines.{outcome-by}
 use Rattle.back_committable.proofs.anchor.test_anchor.Statement.{statement}
 use Rattle.back_committable.proofs.anchor.test_anchor.Tie as tie
 
-round-at-requires : tie.Need-round-at-requires
-round-at-requires c κs =
-    let a = c .before .before .before .before .args in
-    anchor-words (a .s) (a .keys .now) (a .links .now) (a .certs .now) (a .order .now) (c .before .before .before .before .pre .0) (a .anchor) (c .before .before .before .before .pre .1)
-
-span-of-requires : tie.Need-span-of-requires
-span-of-requires c κs =
-    let a = c .before .before .before .before .before .args in
-    span-asked (a .s) (a .keys .now) (a .links .now) (a .certs .now) (a .order .now) (c .before .before .before .before .before .pre .0) (a .anchor) (c .before .before .before .before .before .pre .1) (c .round-at .result .0) (c .round-at .ensures)
-
-gather-uncommitted-requires : tie.Need-gather-uncommitted-requires
-gather-uncommitted-requires c κs =
-    let a = c .before .before .before .before .before .before .before .before .args in
-    let fk : Fit (a .keys .now) = λ p. c .before .before .before .before .before .before .before .shared-slice-known .given p .fits in
-    let fl : Fit (a .links .now) = λ p. c .before .before .before .before .before .before .shared-slice-known2 .given p .fits in
-    span-ready (a .s) (a .keys .now) (a .links .now) (a .certs .now) (a .order .now) (c .before .before .before .before .before .before .before .before .pre .0) (a .anchor) (c .before .before .before .before .before .before .before .before .pre .1) fk fl (c .before .before .before .round-at .result .0) (c .before .before .span-of .result) (c .before .before .before .round-at .ensures) (c .before .before .span-of .ensures)
-
-count-points-requires : tie.Need-count-points-requires
-count-points-requires c κs =
-    let a = c .before .before .before .before .before .before .before .before .before .before .args in
-    let fk : Fit (a .keys .now) = λ p. c .before .before .before .before .before .before .before .before .before .shared-slice-known .given p .fits in
-    let fl : Fit (a .links .now) = λ p. c .before .before .before .before .before .before .before .before .shared-slice-known2 .given p .fits in
-    span-range (a .s) (a .keys .now) (a .links .now) (a .certs .now) (a .order .now) (c .before .before .before .before .before .before .before .before .before .before .pre .0) (a .anchor) (c .before .before .before .before .before .before .before .before .before .before .pre .1) fk fl (c .before .before .before .before .before .round-at .result .0) (c .before .before .before .before .span-of .result) (c .before .before .before .before .before .round-at .ensures) (c .before .before .before .before .span-of .ensures)
-
-anchor-code-requires : tie.Need-anchor-code-requires
-anchor-code-requires c κs =
-    let a = c .before .before .before .before .before .before .before .before .before .before .before .before .args in
-    let fk : Fit (a .keys .now) = λ p. c .before .before .before .before .before .before .before .before .before .before .before .shared-slice-known .given p .fits in
-    let fl : Fit (a .links .now) = λ p. c .before .before .before .before .before .before .before .before .before .before .shared-slice-known2 .given p .fits in
-    code-ready (a .s) (a .keys .now) (a .links .now) (a .certs .now) (a .order .now) (c .before .before .before .before .before .before .before .before .before .before .before .before .pre .0) (a .anchor) (c .before .before .before .before .before .before .before .before .before .before .before .before .pre .1) fk fl (c .before .before .before .before .before .before .before .round-at .result .0) (c .before .before .before .before .before .before .span-of .result) (c .before .before .before .before .before .before .before .round-at .ensures) (c .before .before .before .before .before .before .span-of .ensures)
-
 returns : tie.Need-returns
 returns c =
-    let a = c .before .before .before .before .before .before .before .before .before .before .before .before .before .args in
-    let fk : Fit (a .keys .now) = λ p. c .before .before .before .before .before .before .before .before .before .before .before .before .shared-slice-known .given p .fits in
-    let fl : Fit (a .links .now) = λ p. c .before .before .before .before .before .before .before .before .before .before .before .shared-slice-known2 .given p .fits in
-    let e = tested-by (a .s) (a .keys .now) (a .links .now) (a .certs .now) (a .order .now) (a .anchor) (c .before .before .before .before .before .before .before .before .round-at .result .0) (c .before .before .before .before .before .before .before .span-of .result) _ _ (c .anchor-code .result) (c .before .before .before .before .before .before .before .before .round-at .ensures) (c .before .before .before .before .before .before .before .span-of .ensures) (c .before .before .before .before .gather-uncommitted .ensures) (c .before .before .count-points .ensures) (c .anchor-code .ensures) in
-    (e, outcome-by (a .s) (a .keys .now) (a .links .now) (a .certs .now) (a .order .now) fk fl (c .before .before .before .before .before .before .before .before .before .before .before .before .before .pre .0) (a .anchor) (c .before .before .before .before .before .before .before .before .before .before .before .before .before .pre .1) _ e)
+    let a = c .before .before .before .before .before .before .args in
+    let fk : Fit (a .keys .now) = λ p. c .before .before .before .before .before .shared-slice-known .given p .fits in
+    let fl : Fit (a .links .now) = λ p. c .before .before .before .before .shared-slice-known2 .given p .fits in
+    let e = c .test-supposed .ensures ∙ ap (λ (cs : List ℕ). testedOf (a .s) (a .keys .now) (a .links .now) cs (a .order .now) (a .anchor)) (supposing-none 4096 (a .certs .now)) in
+    (e, outcome-by (a .s) (a .keys .now) (a .links .now) (a .certs .now) (a .order .now) fk fl (c .before .before .before .before .before .before .pre .0) (a .anchor) (c .before .before .before .before .before .before .pre .1) _ e)
 
 pub test-anchor-spec : {M : Type 1} → statement M
-test-anchor-spec =
-    tie.close
-    (tie.spec
-    round-at-requires
-    span-of-requires
-    gather-uncommitted-requires
-    count-points-requires
-    anchor-code-requires
-    returns)
+test-anchor-spec = tie.close (tie.spec (λ c κs. search needs) returns)

@@ -12,7 +12,8 @@ put-looks-requires : tie.Need-put-looks-requires
 put-looks-requires c κs =
     let a = c .before .before .before .before .before .before .before .before .before .args in
     let p = c .before .before .before .before .before .before .before .before .before .pre in
-    (p .0, (p .1 .0, (p .1 .1, chain-fits (view (a .s) (a .keys .now) (a .links .now) (a .certs .now) (a .order .now)) (a .b .now) (chainOf (a .list) (a .count)) _ (c .before .before .before .look-all .ensures) (c .before .enum-told .given .1))))
+    let f = chain-fits (view (a .s) (a .keys .now) (a .links .now) (a .certs .now) (a .order .now)) (a .b .now) (chainOf (a .list) (a .count)) _ (c .before .before .before .look-all .ensures) (c .before .enum-told .given .1) in
+    (p .0, (p .1 .0, ((p .1 .1, f .0), f .1)))
 
 returns-2 : tie.Need-returns-2
 returns-2 c = let a = c .before .before .before .before .before .before .before .before .before .before .before .before .args in chain-all (view (a .s) (a .keys .now) (a .links .now) (a .certs .now) (a .order .now)) (a .b .now) (chainOf (a .list) (a .count)) _ (c .before .before .before .before .before .before .look-all .ensures) (c .before .before .before .before .enum-told .given .1) _ (c .before .before .put-looks .ensures)

@@ -4,7 +4,8 @@ use mathlib.Core.Path.{_≡_, refl, sym, ap, _∙_}
 use mathlib.Core.Logic.{⊎-elim}
 use native.Mathlib.Omega.{arith}
 use lib.ListN.{length, getD, length-set}
-use Rattle.output_record.specs.Marks.{marksAll, committedWord, marks-none, marks-yes, marks-no, marks-small}
+use Rattle.models.specs.Cert.{committedWord}
+use Rattle.output_record.specs.Marks.{marksAll, marks-none, marks-yes, marks-no, marks-small}
 use Rattle.output_record.proofs.after.mark_all.Statement.{statement}
 use Rattle.output_record.proofs.after.mark_all.Tie as tie
 
