@@ -101,7 +101,8 @@ fn sweep(
 )
     requires { ⌜ Range (now certs) (now order) low high ⌝ }
     requires { ⌜ (length (now keys) ≡ length (now order) * 8) × (length (now links) ≡ length (now order) * 328) ⌝ }
-    ensures { λ _. ⌜ now (marks .exit) ≡ swept (bottom .0) (now (keys .entry)) (now (links .entry)) (supposing (now (taken .entry)) (now (certs .entry))) (now (order .entry)) (now (marks .entry)) high (high - low) ⌝ }
+    ensures { λ _. ⌜ now (marks .exit) ≡ swept (bottom .0) (now (keys .entry)) (now (links .entry))
+        (supposing (now (taken .entry)) (now (certs .entry))) (now (order .entry)) (now (marks .entry)) high (high - low) ⌝ }
 {
     let mut p = high;
     while low < p {

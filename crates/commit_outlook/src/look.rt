@@ -63,9 +63,11 @@ pub fn look_one(
 ) -> Look
     requires { ⌜ Started s (now keys) (now links) (now certs) (now order) ⌝ }
     requires { ⌜ Used (now order) (s .count) (e .anchor) × (length (now taken) ≡ 4096) ⌝ }
-    ensures outcome { λ r. ⌜ r .check ≡ lookCode (testedOf s (now (keys .entry)) (now (links .entry)) (supposing (now (taken .entry)) (now (certs .entry))) (now (order .entry)) (e .anchor) .check) left
+    ensures outcome { λ r. ⌜ r .check ≡ lookCode
+        (testedOf s (now (keys .entry)) (now (links .entry)) (supposing (now (taken .entry)) (now (certs .entry))) (now (order .entry)) (e .anchor) .check) left
         (lookLong (now (keys .entry)) (e .anchor) (gatheredOf s (now (keys .entry)) (now (links .entry)) (supposing (now (taken .entry)) (now (certs .entry))) (now (order .entry)) (e .anchor))) ⌝ }
-    ensures bytes { λ r. ⌜ r .size ≡ lookLong (now (keys .entry)) (e .anchor) (gatheredOf s (now (keys .entry)) (now (links .entry)) (supposing (now (taken .entry)) (now (certs .entry))) (now (order .entry)) (e .anchor)) ⌝ }
+    ensures bytes { λ r. ⌜ r .size ≡ lookLong (now (keys .entry)) (e .anchor)
+        (gatheredOf s (now (keys .entry)) (now (links .entry)) (supposing (now (taken .entry)) (now (certs .entry))) (now (order .entry)) (e .anchor)) ⌝ }
     ensures took { λ r. ⌜ (r .check ≡ Passed → Took (now (certs .entry)) (now (order .entry)) (now (taken .entry))
         (gatheredOf s (now (keys .entry)) (now (links .entry)) (supposing (now (taken .entry)) (now (certs .entry))) (now (order .entry)) (e .anchor)) (now (taken .exit))) ⌝ }
 {
@@ -141,7 +143,8 @@ pub fn put_look(
     requires { ⌜ Started s (now keys) (now links) (now certs) (now order) ⌝ }
     requires { ⌜ Used (now order) (s .count) (e .anchor) × (length (now taken) ≡ 4096) ⌝ }
     requires { ⌜ at + lookLong (now keys) (e .anchor) (gatheredOf s (now keys) (now links) (supposing (now taken) (now certs)) (now order) (e .anchor)) ≤ length (now b) ⌝ }
-    ensures next { λ r. ⌜ r ≡ at + lookLong (now (keys .entry)) (e .anchor) (gatheredOf s (now (keys .entry)) (now (links .entry)) (supposing (now (taken .entry)) (now (certs .entry))) (now (order .entry)) (e .anchor)) ⌝ }
+    ensures next { λ r. ⌜ r ≡ at + lookLong (now (keys .entry)) (e .anchor)
+        (gatheredOf s (now (keys .entry)) (now (links .entry)) (supposing (now (taken .entry)) (now (certs .entry))) (now (order .entry)) (e .anchor)) ⌝ }
     ensures bytes { λ r. ⌜ now (b .exit) ≡ written (now (b .entry)) at (lookBytes (s .count) (now (keys .entry)) (now (order .entry)) (e .anchor)
         (gatheredOf s (now (keys .entry)) (now (links .entry)) (supposing (now (taken .entry)) (now (certs .entry))) (now (order .entry)) (e .anchor))) ⌝ }
     ensures took { λ r. ⌜ Took (now (certs .entry)) (now (order .entry)) (now (taken .entry))
