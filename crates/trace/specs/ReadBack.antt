@@ -17,6 +17,7 @@ use Rattle.spec.specs.Ids.{Id, Ref}
 use Rattle.spec.specs.Store.{Resolution, bit}
 use Rattle.spec.specs.Chain.{Out, good}
 use Rattle.spec.specs.Walk.{then-good, refuse-good, refuse-back}
+use Rattle.spec.specs.Demand3Second.{good-same}
 use Rattle.spec.specs.Calls.{Call, StartArgs, start, resetAll, round, name, resolve, certify, gapQuestion, commit, outlook, remove, drop as dropTo}
 use Rattle.models.specs.Digest.{words}
 use Rattle.trace.specs.Numbers.{numberAt, idAt}
@@ -380,9 +381,6 @@ pub record Written (c : Call) (r : List ℕ) : Type 0 where
   pub fields-fit : all fitsField (fieldsOf c) ≡ true
   pub rest-fits : 2 + length (fieldsIn c) ≤ 4096
   pub bytes : r ≡ recordBytes (kindByte c) (fieldsIn c)
-
-pub good-same : {A : Type 0} (x y : A) → _≡_ {A = Out A} (good x) (good y) → x ≡ y
-good-same x y h = cc
 
 pub not-no : (b : Bool) → not b ≡ false → b ≡ true
 not-no true h = refl

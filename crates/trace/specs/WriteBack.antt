@@ -17,6 +17,7 @@ use Rattle.spec.specs.Store.{bit}
 use Rattle.spec.specs.Chain.{good}
 use Rattle.spec.specs.Walk.{refuse-good, refuse-back}
 use Rattle.spec.specs.Calls.{Call}
+use Rattle.spec.specs.Demand3Second.{good-same}
 use Rattle.models.specs.Digest.{words, words-length}
 use Rattle.trace.specs.Numbers.{numberAt, idAt, words-append}
 use Rattle.trace.specs.Head.{linksIn, sizeOf, fieldsFit, fits-length, versionOk, restAt, wholeAt, part, fieldsAt, whole-elim}
@@ -26,7 +27,7 @@ use Rattle.trace.specs.Kinds.{Kind, kindOf, kindOk}
 use Rattle.trace.specs.Kinds as kind
 use Rattle.trace.specs.Fields.{usedIn, startIn, sinceIn, linksFrom, payloadFrom, resolutionIn, callBy}
 use Rattle.trace.specs.Write.{Field, field, fieldBytes, fitsField, idThen, usedByte, startFields, linkFields, marksByte, resolveFields, removeFields, fieldsOf, kindByte, is255, sayable, fieldsIn, recordBytes, recordOf}
-use Rattle.trace.specs.ReadBack.{byte-is, words-own, fields-append, lists-back, good-same, not-no}
+use Rattle.trace.specs.ReadBack.{byte-is, words-own, fields-append, lists-back, not-no}
 
 -- every element is a byte
 abbrev pub AllBytes : List ℕ → Type 0
