@@ -47,7 +47,7 @@ extern "C" {
  * the minor number for an addition. The patch number is raised for anything else. A number that is raised sets those after it to 0.
  */
 #define COMMITTER_VERSION_MAJOR 0
-#define COMMITTER_VERSION_MINOR 8
+#define COMMITTER_VERSION_MINOR 9
 #define COMMITTER_VERSION_PATCH 0
 
 /* As text, "major.minor.patch". */
@@ -148,17 +148,32 @@ extern "C" {
  *   75   round of the previous anchor (4), 0 for none
  *   79   number of points n (4)
  *   83   their ids, by rising round; inside a round in the reverse of the order that its place list says (see 'place lists')
- *   83 + 37n   the sum of payload_len over them (8)
- *   91 + 37n   the sum of payload_bytes over them (8)
+ *   83 + 37n   of each of them, in the same order, the link behind it, COMMITTER_LINK_BYTES bytes:
+ *     +0       id of a point of the same record that links to it
+ *     +37      the link's kind as a word (8), filled with zero bytes: `includes` if that point is one round above, `witness` if it is two
+ *   83 + 82n   the sum of payload_len over them (8)
+ *   91 + 82n   the sum of payload_bytes over them (8)
+ * If several points of the record link to it, told is the one in the highest round, and of these the one with the lowest digest. The anchor
+ * stands with its own id and the word `anchor`; any other point of the record has such a link. So the links lead from every point up to the
+ * anchor, and say why it is in the record. A link of a point that isn't in the record is never told.
  */
 #define COMMITTER_ID_BYTES 37u
-#define COMMITTER_RECORD_BYTES(points) (99u + COMMITTER_AS(size_t, points) * COMMITTER_ID_BYTES)
+#define COMMITTER_WORD_BYTES 8u
+#define COMMITTER_LINK_BYTES (COMMITTER_ID_BYTES + COMMITTER_WORD_BYTES)
+#define COMMITTER_RECORD_BYTES(points) (99u + COMMITTER_AS(size_t, points) * (COMMITTER_ID_BYTES + COMMITTER_LINK_BYTES))
 
-/* Where the two sums stand. */
-#define COMMITTER_SUMS_AT(points) (83u + COMMITTER_AS(size_t, points) * COMMITTER_ID_BYTES)
+/* The words, to compare COMMITTER_WORD_BYTES bytes with. */
+#define COMMITTER_WORD_INCLUDES "includes"
+#define COMMITTER_WORD_WITNESS "witness\0"
+#define COMMITTER_WORD_ANCHOR "anchor\0\0"
+
+/* Where the links stand, and where the two sums do. */
+#define COMMITTER_LINKS_AT(points) (83u + COMMITTER_AS(size_t, points) * COMMITTER_ID_BYTES)
+#define COMMITTER_SUMS_AT(points) (COMMITTER_LINKS_AT(points) + COMMITTER_AS(size_t, points) * COMMITTER_LINK_BYTES)
 
 /* A buffer of so many bytes has room for the records of any commit: at most 511 anchors, and each point in one history at most. */
-#define COMMITTER_COMMIT_MAX (511u * COMMITTER_RECORD_BYTES(0) + COMMITTER_AS(size_t, COMMITTER_PLACES_MAX) * COMMITTER_ID_BYTES)
+#define COMMITTER_COMMIT_MAX \
+    (511u * COMMITTER_RECORD_BYTES(0) + COMMITTER_AS(size_t, COMMITTER_PLACES_MAX) * (COMMITTER_ID_BYTES + COMMITTER_LINK_BYTES))
 
 /*
  * What an outlook writes for each anchor. Its counts suppose that the anchors before it in the same outlook have been committed.
@@ -488,7 +503,12 @@ COMMITTER_ASSERT(size_of_counters, sizeof(committer_counters) == 18);
 COMMITTER_ASSERT(bytes_of_a_place, COMMITTER_PLACE_BYTES == 2704u);
 COMMITTER_ASSERT(bytes_of_the_tables, COMMITTER_TABLES_BYTES(COMMITTER_PLACES_MAX) == 11075584u);
 COMMITTER_ASSERT(bytes_of_a_remove, COMMITTER_REMOVE_MAX == 5785509u);
-COMMITTER_ASSERT(bytes_of_a_commit, COMMITTER_COMMIT_MAX == 202141u);
+COMMITTER_ASSERT(bytes_of_a_link, COMMITTER_LINK_BYTES == 45u);
+COMMITTER_ASSERT(bytes_of_a_record, COMMITTER_RECORD_BYTES(1) == 181u);
+COMMITTER_ASSERT(bytes_of_the_words,
+    sizeof(COMMITTER_WORD_INCLUDES) == COMMITTER_WORD_BYTES + 1u && sizeof(COMMITTER_WORD_WITNESS) == COMMITTER_WORD_BYTES + 1u
+        && sizeof(COMMITTER_WORD_ANCHOR) == COMMITTER_WORD_BYTES + 1u);
+COMMITTER_ASSERT(bytes_of_a_commit, COMMITTER_COMMIT_MAX == 386461u);
 COMMITTER_ASSERT(bytes_of_an_outlook, COMMITTER_OUTLOOK_MAX == 511u * 1065u);
 COMMITTER_ASSERT(bytes_of_place_lists, COMMITTER_LISTS_MAX == 262655u);
 
@@ -685,7 +705,7 @@ committer_reach committer_reach_of(
 #define COMMITTER_STACK_RESOLVE 83000u
 #define COMMITTER_STACK_CERTIFY 52000u
 #define COMMITTER_STACK_DROP 37000u
-#define COMMITTER_STACK_COMMIT 127000u
+#define COMMITTER_STACK_COMMIT 135000u
 #define COMMITTER_STACK_OUTLOOK 111000u
 #define COMMITTER_STACK_REMOVE 122000u
 #define COMMITTER_STACK_MERGE 100u

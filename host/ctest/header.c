@@ -28,12 +28,28 @@ static int same(const char *a, const char *b)
 static int check_numbers(void)
 {
     CHECK(COMMITTER_TABLES_BYTES(PLACES) == sizeof keys + sizeof links + sizeof certs + sizeof order);
-    CHECK(COMMITTER_RECORD_BYTES(4) == 247 && COMMITTER_SUMS_AT(4) == 231 && COMMITTER_LOOK_BYTES(3) == 53);
+    CHECK(COMMITTER_RECORD_BYTES(4) == 427 && COMMITTER_LINKS_AT(4) == 231 && COMMITTER_SUMS_AT(4) == 411 && COMMITTER_LOOK_BYTES(3) == 53);
+    CHECK(COMMITTER_WORD_BYTES == 8 && COMMITTER_LINK_BYTES == 45);
     CHECK(COMMITTER_RECORD_MAX == 4100 && COMMITTER_BAD_RECORD == 26 && COMMITTER_UNKNOWN_RECORD == 27);
-    CHECK(COMMITTER_COMMIT_MAX == 202141 && COMMITTER_OUTLOOK_MAX == 544215 && COMMITTER_REMOVE_MAX == 5785509);
+    CHECK(COMMITTER_COMMIT_MAX == 386461 && COMMITTER_OUTLOOK_MAX == 544215 && COMMITTER_REMOVE_MAX == 5785509);
     CHECK(COMMITTER_LISTS_MAX == 262655);
     CHECK(COMMITTER_FORK_BYTES(2) == 74 && COMMITTER_EVIDENCE_BYTES(3) == 121 && COMMITTER_EVENTS_AT(2) == 63);
     CHECK(COMMITTER_CERT_TOP + COMMITTER_CERT_STARTED + COMMITTER_CERT_COMPLETED + COMMITTER_CERT_COMMITTED + COMMITTER_CERT_HEIGHT == 0xffff);
+    return 0;
+}
+
+/* each has the letters of its word, then zero bytes */
+static int check_words(void)
+{
+    static const char *const words[3] = {COMMITTER_WORD_INCLUDES, COMMITTER_WORD_WITNESS, COMMITTER_WORD_ANCHOR};
+    static const char *const letters[3] = {"includes", "witness", "anchor"};
+    for (int n = 0; n < 3; n++) {
+        int end = 0;
+        for (unsigned i = 0; i < COMMITTER_WORD_BYTES; i++) {
+            end = end || letters[n][i] == 0;
+            CHECK(words[n][i] == (end ? 0 : letters[n][i]));
+        }
+    }
     return 0;
 }
 
@@ -89,7 +105,7 @@ static int check_start(void)
 
 int main(void)
 {
-    int (*const checks[])(void) = {check_numbers, check_version, check_helpers, check_writing, check_start};
+    int (*const checks[])(void) = {check_numbers, check_words, check_version, check_helpers, check_writing, check_start};
     for (unsigned i = 0; i < sizeof checks / sizeof checks[0]; i++) {
         int line = checks[i]();
         if (line != 0) {

@@ -245,11 +245,117 @@ static void check_told(const committer_state *state, const uint8_t *look, const 
     }
 }
 
+static size_t put_id(uint8_t *bytes, committer_point_id id)
+{
+    for (int i = 0; i < 4; i++) {
+        bytes[i] = (uint8_t)(id.round >> (24 - 8 * i));
+    }
+    bytes[4] = (uint8_t)id.author;
+    committer_digest_bytes(id.digest, bytes + 5);
+    return COMMITTER_ID_BYTES;
+}
+
+static committer_point_id id_at(const uint8_t *bytes)
+{
+    committer_point_id id = {number_at(bytes), bytes[4], committer_digest_of(bytes + 5)};
+    return id;
+}
+
+static bool same_id(committer_point_id a, committer_point_id b)
+{
+    return a.round == b.round && a.author == b.author && same_words(a.digest.words, b.digest.words, 4);
+}
+
+static bool is_lower(committer_digest a, committer_digest b)
+{
+    int i = 0;
+    while (i < 3 && a.words[i] == b.words[i]) {
+        i++;
+    }
+    return a.words[i] < b.words[i];
+}
+
+/* The words of a point's links: evidence, top proof, payload, targets, digests. */
+static const uint64_t *links_of(const board *b, committer_point_id id)
+{
+    const uint64_t *key = b->keys;
+    while (key[0] != id.round || key[1] != id.author || !same_words(key + 2, id.digest.words, 4)) {
+        key += COMMITTER_KEY_WORDS;
+        CHECK(key < b->keys + COMMITTER_KEYS_LEN(b->places));
+    }
+    return b->links + (size_t)(key - b->keys) / COMMITTER_KEY_WORDS * COMMITTER_LINK_WORDS;
+}
+
+/* Whether a point was resolved with a link to another, one round down (includes) or two (witness). */
+static bool links_to(const board *b, committer_point_id by, committer_point_id to)
+{
+    if (by.round <= to.round || by.round > to.round + 2) {
+        return false;
+    }
+    const uint64_t *links = links_of(b, by);
+    size_t k = (by.round - to.round - 1) * COMMITTER_LINKS_MAX + to.author;
+    return links[8 + k] != 0 && same_words(links + 72 + 4 * k, to.digest.words, 4);
+}
+
+/* The link behind a point. */
+typedef struct {
+    committer_point_id by;
+    const char *word;
+} behind;
+
+/* Whether it is told before another: in a higher round, or in the same with a lower digest. */
+static bool goes_before(committer_point_id a, committer_point_id b)
+{
+    return a.round > b.round || (a.round == b.round && is_lower(a.digest, b.digest));
+}
+
+/* The link behind the nth point of a record, sought among the ids of the record. */
+static behind link_behind(const board *b, const uint8_t *record, uint32_t n)
+{
+    const uint8_t *ids = record + 83;
+    committer_point_id to = id_at(ids + n * COMMITTER_ID_BYTES);
+    behind found = {to, COMMITTER_WORD_ANCHOR};
+    if (memcmp(ids + n * COMMITTER_ID_BYTES, record, COMMITTER_ID_BYTES) == 0) {
+        return found;
+    }
+    for (uint32_t i = 0; i < number_at(record + 79); i++) {
+        committer_point_id by = id_at(ids + i * COMMITTER_ID_BYTES);
+        if (links_to(b, by, to) && goes_before(by, found.by)) {
+            found.by = by;
+        }
+    }
+    CHECK(!same_id(found.by, to));
+    found.word = found.by.round == to.round + 1 ? COMMITTER_WORD_INCLUDES : COMMITTER_WORD_WITNESS;
+    return found;
+}
+
+static size_t put_behind(uint8_t *bytes, behind link)
+{
+    put_id(bytes, link.by);
+    memcpy(bytes + COMMITTER_ID_BYTES, link.word, COMMITTER_WORD_BYTES);
+    return COMMITTER_LINK_BYTES;
+}
+
+/* The links of a record are those that are sought anew. Returns the record's length. */
+static size_t check_links(const board *b, const uint8_t *record)
+{
+    uint32_t points = number_at(record + 79);
+    for (uint32_t n = 0; n < points; n++) {
+        uint8_t link[COMMITTER_LINK_BYTES];
+        put_behind(link, link_behind(b, record, n));
+        CHECK(memcmp(record + COMMITTER_LINKS_AT(points) + n * COMMITTER_LINK_BYTES, link, sizeof link) == 0);
+    }
+    return COMMITTER_RECORD_BYTES(points);
+}
+
 /* Place lists and their length. */
 #define LISTS(...) (const uint8_t[]){__VA_ARGS__}, sizeof(const uint8_t[]){__VA_ARGS__}
 #define NO_LISTS NULL, 0
 
-/* With an outlook before it, which says the same unless the commit says 20, 24 or 21, and has the counts of one that isn't refused. */
+/*
+ * With an outlook before it, which says the same unless the commit says 20, 24 or 21, and has the counts of one that isn't refused. The links
+ * of its records are sought anew.
+ */
 static answer commit(board *b, committer_point_id id, const uint8_t *lists, size_t lists_len, uint8_t *buffer, size_t length)
 {
     static uint8_t large[COMMITTER_OUTLOOK_MAX];
@@ -267,6 +373,10 @@ static answer commit(board *b, committer_point_id id, const uint8_t *lists, size
         sizes all = sizes_of(&b->state, large, reply.anchors);
         CHECK(all.lists <= lists_len && all.lists <= COMMITTER_LISTS_MAX && all.records <= length);
         check_told(&b->state, large, buffer, reply.anchors);
+    }
+    const uint8_t *record = buffer;
+    for (uint32_t i = 0; i < reply.anchors; i++) {
+        record += check_links(b, record);
     }
     last_commit.anchors = reply.anchors;
     last_commit.conflict = reply.conflict;
@@ -1154,34 +1264,33 @@ static void check_cases(void)
 
 /* ---- commits */
 
-/* Names a point and resolves it with up to two includes. */
+/* Names a point and resolves it so, with its payload numbers; its links lead to these points, the includes first. */
+static void put_linked(board *b, committer_point_id id, committer_resolution resolution, const committer_point_id *to)
+{
+    uint64_t refs[4 * COMMITTER_REF_WORDS];
+    size_t count = resolution.includes + resolution.witness;
+    CHECK(count <= 4);
+    for (size_t i = 0; i < count; i++) {
+        put_link(refs, i, to[i]);
+    }
+    DONE(name(b, id));
+    DONE(resolve(b, id, paid(resolution, payload_of(id)), refs, count * COMMITTER_REF_WORDS));
+}
+
+/* With up to two includes. */
 static void put(board *b, committer_point_id id, uint32_t status, uint32_t marks, committer_point_id top, size_t includes,
     committer_point_id first, committer_point_id second)
 {
-    uint64_t refs[2 * COMMITTER_REF_WORDS];
-    committer_resolution resolution = paid(valid(includes, 0), payload_of(id));
+    committer_resolution resolution = valid(includes, 0);
     resolution.status = status;
     resolution.marks = marks;
     resolution.top_proof = top;
-    put_link(refs, 0, first);
-    put_link(refs, 1, second);
-    DONE(name(b, id));
-    DONE(resolve(b, id, resolution, refs, includes * COMMITTER_REF_WORDS));
+    put_linked(b, id, resolution, (const committer_point_id[]){first, second});
 }
 
 static void put_one(board *b, committer_point_id id, uint32_t marks, committer_point_id top, committer_point_id below)
 {
     put(b, id, COMMITTER_VALID, marks, top, 1, below, below);
-}
-
-static size_t put_id(uint8_t *bytes, committer_point_id id)
-{
-    for (int i = 0; i < 4; i++) {
-        bytes[i] = (uint8_t)(id.round >> (24 - 8 * i));
-    }
-    bytes[4] = (uint8_t)id.author;
-    committer_digest_bytes(id.digest, bytes + 5);
-    return COMMITTER_ID_BYTES;
 }
 
 static size_t put_wide(uint8_t *bytes, uint64_t number)
@@ -1192,8 +1301,12 @@ static size_t put_wide(uint8_t *bytes, uint64_t number)
     return 8;
 }
 
-/* The record of an anchor, proved one round above it by the same author, with the sums over what its points were resolved with. */
-static size_t put_record(uint8_t *bytes, committer_point_id anchor, uint32_t previous, const committer_point_id *points, uint8_t count)
+/*
+ * The record of an anchor on this board, proved one round above it by the same author, with the links that are sought anew and the sums over
+ * what its points were resolved with.
+ */
+static size_t put_record(
+    const board *b, uint8_t *bytes, committer_point_id anchor, uint32_t previous, const committer_point_id *points, uint8_t count)
 {
     uint8_t *end = bytes;
     end += put_id(end, anchor);
@@ -1206,6 +1319,10 @@ static size_t put_record(uint8_t *bytes, committer_point_id anchor, uint32_t pre
         end += put_id(end, points[i]);
         len += payload_of(points[i]).len;
         sum += payload_of(points[i]).bytes;
+    }
+    CHECK((size_t)(end - bytes) == COMMITTER_LINKS_AT(count));
+    for (uint8_t n = 0; n < count; n++) {
+        end += put_behind(end, link_behind(b, bytes, n));
     }
     CHECK((size_t)(end - bytes) == COMMITTER_SUMS_AT(count));
     end += put_wide(end, len);
@@ -1240,7 +1357,7 @@ static board k13(uint32_t after_gap)
 
 static void check_k13(void)
 {
-    enum { LENGTH = 247, MORE = 50 };
+    enum { LENGTH = 427, MORE = 50 };
     board b = k13(0), spare = new_board(8);
     committer_point_id anchor = point(13, 0), points[4] = {point(11, 1), point(12, 0), point(12, 1), anchor};
     uint8_t bytes[LENGTH + MORE], record[LENGTH];
@@ -1252,11 +1369,11 @@ static void check_k13(void)
     CHECK(bytes[0] == 0xa5 && last_commit.anchors == 0);
     DONE(commit(&b, point(15, 0), LISTS(0, 1, 0, 0), bytes, sizeof bytes));
     CHECK(last_commit.anchors == 1);
-    CHECK(put_record(record, anchor, 0, points, 4) == LENGTH);
+    CHECK(put_record(&b, record, anchor, 0, points, 4) == LENGTH);
     CHECK(memcmp(bytes, record, LENGTH) == 0);
     /* 10 and 43,210 */
     static const uint8_t sums[16] = {[7] = 10, [14] = 0xa8, [15] = 0xca};
-    CHECK(memcmp(bytes + 83 + 4 * 37, sums, 16) == 0);
+    CHECK(memcmp(bytes + 83 + 4 * 82, sums, 16) == 0);
     for (int i = 0; i < MORE; i++) {
         CHECK(bytes[LENGTH + i] == 0xa5);
     }
@@ -1291,20 +1408,20 @@ static board two_anchors(uint32_t status)
     return b;
 }
 
-/* The length of a record of one point. */
-enum { ONE = 99 + 37 };
+/* The lengths of records of one, two and three points. */
+enum { ONE = 99 + 82, TWO = 99 + 2 * 82, THREE = 99 + 3 * 82 };
 
 /* The second anchor is refused: the first one's record and marks stay, and then, with the lists after its one byte, nothing changes. */
 static void check_refused_after_one(
     board *b, uint32_t number, uint32_t conflict, size_t length, const uint8_t *lists, size_t lists_len)
 {
-    uint8_t bytes[400], record[ONE];
+    uint8_t bytes[600], record[ONE];
     committer_point_id anchor = point(11, 0);
     board spare = new_board(8);
     memset(bytes, 0xa5, sizeof bytes);
     CHECK(commit(b, point(15, 0), lists, lists_len, bytes, length).refused == number);
     CHECK(last_commit.anchors == 1 && last_commit.conflict == conflict);
-    put_record(record, anchor, 0, &anchor, 1);
+    put_record(b, record, anchor, 0, &anchor, 1);
     CHECK(memcmp(bytes, record, ONE) == 0);
     for (size_t i = ONE; i < sizeof bytes; i++) {
         CHECK(bytes[i] == 0xa5);
@@ -1320,28 +1437,28 @@ static void check_refused_after_one(
 static void check_commit_refusals(void)
 {
     board b = two_anchors(COMMITTER_VALID);
-    check_refused_after_one(&b, COMMITTER_NOT_CERTIFIED, 0, 400, LISTS(0, 0, 1, 0));
+    check_refused_after_one(&b, COMMITTER_NOT_CERTIFIED, 0, 600, LISTS(0, 0, 1, 0));
     b = two_anchors(COMMITTER_INVALID);
-    check_refused_after_one(&b, COMMITTER_UNUSABLE, 0, 400, LISTS(0, 0, 1, 0));
+    check_refused_after_one(&b, COMMITTER_UNUSABLE, 0, 600, LISTS(0, 0, 1, 0));
     for (uint32_t status = COMMITTER_INVALID; status <= COMMITTER_NOT_FOUND; status++) {
         b = two_anchors(status);
         DONE(certify(&b, point(13, 0)));
-        check_refused_after_one(&b, COMMITTER_CONFLICT, 12, 400, LISTS(0, 0, 1, 0));
+        check_refused_after_one(&b, COMMITTER_CONFLICT, 12, 600, LISTS(0, 0, 1, 0));
     }
     b = two_anchors(0);
     DONE(certify(&b, point(13, 0)));
-    check_refused_after_one(&b, COMMITTER_POINT_MISSING, 0, 400, LISTS(0, 0, 1, 0));
-    for (size_t length = ONE; length < ONE + 99 + 3 * 37; length++) {
+    check_refused_after_one(&b, COMMITTER_POINT_MISSING, 0, 600, LISTS(0, 0, 1, 0));
+    for (size_t length = ONE; length < ONE + THREE; length++) {
         b = two_anchors(COMMITTER_VALID);
         DONE(certify(&b, point(13, 0)));
         check_refused_after_one(&b, COMMITTER_NO_ROOM, 0, length, LISTS(0, 0, 1, 0));
     }
     b = two_anchors(COMMITTER_VALID);
     DONE(certify(&b, point(13, 0)));
-    uint8_t bytes[ONE + 99 + 3 * 37], record[99 + 3 * 37];
+    uint8_t bytes[ONE + THREE], record[THREE];
     committer_point_id points[3] = {point(12, 0), point(12, 1), point(13, 0)};
     DONE(commit(&b, point(15, 0), LISTS(0, 0, 1, 0), bytes, sizeof bytes));
-    put_record(record, point(13, 0), 11, points, 3);
+    put_record(&b, record, point(13, 0), 11, points, 3);
     CHECK(last_commit.anchors == 2 && memcmp(bytes + ONE, record, sizeof record) == 0);
     free_board(&b);
 }
@@ -1420,10 +1537,10 @@ static void check_outlooks(void)
 /* The anchor is refused with the number, for a buffer of any length: nothing changes, and no byte is written. */
 static void check_lists_refused(board *b, uint32_t number, const uint8_t *lists, size_t lists_len)
 {
-    static const size_t lengths[4] = {0, 98, 247, 300};
+    static const size_t lengths[4] = {0, 98, 427, 500};
     board spare = new_board(b->places);
     for (int i = 0; i < 4; i++) {
-        uint8_t bytes[300];
+        uint8_t bytes[500];
         memset(bytes, 0xa5, sizeof bytes);
         REFUSED(b, &spare, number, commit(b, point(15, 0), lists, lists_len, bytes, lengths[i]));
         CHECK(last_commit.anchors == 0);
@@ -1437,10 +1554,10 @@ static void check_lists_refused(board *b, uint32_t number, const uint8_t *lists,
 /* The commit of 15.0 hands out one anchor with these points. The board stays as it is. */
 static void check_handed(const board *b, const uint8_t *lists, size_t lists_len, const committer_point_id *points, uint8_t count)
 {
-    uint8_t bytes[300], record[300];
+    uint8_t bytes[600], record[600];
     board copy = new_board(b->places);
     copy_board(&copy, b);
-    size_t length = put_record(record, points[count - 1], 0, points, count);
+    size_t length = put_record(b, record, points[count - 1], 0, points, count);
     DONE(commit(&copy, point(15, 0), lists, lists_len, bytes, length));
     CHECK(last_commit.anchors == 1 && memcmp(bytes, record, length) == 0);
     free_board(&copy);
@@ -1508,14 +1625,14 @@ static void check_anchor_by_anchor(void)
     board b = two_anchors(COMMITTER_VALID), whole = new_board(8);
     DONE(certify(&b, point(13, 0)));
     copy_board(&whole, &b);
-    check_refused_after_one(&b, COMMITTER_BAD_LISTS, 0, 400, LISTS(0));
+    check_refused_after_one(&b, COMMITTER_BAD_LISTS, 0, 600, LISTS(0));
     static const uint8_t wrong[4][4] = {{0, 0, 1, 1}, {0, 0, 2, 0}, {0, 1, 1, 0}, {0, 0, 0, 0}};
     for (int i = 0; i < 4; i++) {
         b = new_board(8);
         copy_board(&b, &whole);
-        check_refused_after_one(&b, COMMITTER_BAD_LISTS, 0, 400, wrong[i], 4);
+        check_refused_after_one(&b, COMMITTER_BAD_LISTS, 0, 600, wrong[i], 4);
     }
-    uint8_t bytes[ONE + 99 + 3 * 37], parts[sizeof bytes];
+    uint8_t bytes[ONE + THREE], parts[sizeof bytes];
     b = new_board(8);
     copy_board(&b, &whole);
     CHECK(commit(&b, point(15, 0), LISTS(0), parts, sizeof parts).refused == COMMITTER_BAD_LISTS && last_commit.anchors == 1);
@@ -1539,7 +1656,7 @@ static void check_committed_ones(void)
     put_one(&b, point(15, 0), COMMITTER_TRIGGER, second, point(14, 0));
     DONE(certify(&b, first));
     DONE(certify(&b, second));
-    uint8_t expected[COMMITTER_LOOK_BYTES(1) + COMMITTER_LOOK_BYTES(3)], bytes[ONE + 99 + 2 * 37], record[99 + 2 * 37];
+    uint8_t expected[COMMITTER_LOOK_BYTES(1) + COMMITTER_LOOK_BYTES(3)], bytes[ONE + TWO], record[TWO];
     const uint8_t linked[3] = {1, 1, 1};
     size_t length = put_look(expected, first, 1, 1, linked);
     length += put_look(expected + length, second, 2, 3, linked);
@@ -1548,7 +1665,7 @@ static void check_committed_ones(void)
     check_lengths_of_outlook(&b, expected, put_look(expected, second, 2, 3, linked), 1);
     check_lists_refused(&b, COMMITTER_BAD_LISTS, LISTS(0, 0));
     DONE(commit(&b, point(15, 0), LISTS(0, 0, 0), bytes + ONE, sizeof bytes - ONE));
-    put_record(record, second, 11, points, 2);
+    put_record(&b, record, second, 11, points, 2);
     CHECK(last_commit.anchors == 1 && memcmp(bytes + ONE, record, sizeof record) == 0);
     free_board(&b);
 }
@@ -1593,14 +1710,13 @@ static board overlapping(bool broad)
 /* The commit of 16.0 with so many bytes of lists and of buffer: refused after the first anchor, whose record is all that is written. */
 static void check_short(const board *b, uint32_t number, const uint8_t *lists, size_t lists_len, const uint8_t *records, size_t length)
 {
-    enum { FIRST = 99 + 2 * 37 };
-    uint8_t bytes[500];
+    uint8_t bytes[700];
     board copy = new_board(b->places);
     copy_board(&copy, b);
     memset(bytes, 0xa5, sizeof bytes);
     CHECK(commit(&copy, point(16, 0), lists, lists_len, bytes, length).refused == number && last_commit.anchors == 1);
-    CHECK(memcmp(bytes, records, FIRST) == 0);
-    for (size_t i = FIRST; i < sizeof bytes; i++) {
+    CHECK(memcmp(bytes, records, TWO) == 0);
+    for (size_t i = TWO; i < sizeof bytes; i++) {
         CHECK(bytes[i] == 0xa5);
     }
     free_board(&copy);
@@ -1614,7 +1730,7 @@ static void check_sizes(void)
     static const size_t bytes_of_lists[2] = {5, 8};
     for (int broad = 0; broad < 2; broad++) {
         board b = overlapping(broad), spare = new_board(10);
-        uint8_t expected[106], looks[106], lists[8], records[500];
+        uint8_t expected[106], looks[106], lists[8], records[700];
         size_t length = put_look(expected, point(12, 0), 2, 2, (const uint8_t[]){1, 1});
         length += put_look(expected + length, point(14, 0), points[broad], 4, linked[broad]);
         CHECK(length == sizeof expected);
@@ -1644,6 +1760,111 @@ static void check_sizes(void)
     }
 }
 
+/* ---- the link behind each point */
+
+/*
+ * The commit of this trigger on a copy writes one record, of these points with these links behind them. In every shorter buffer it is 21, and
+ * no byte is written.
+ */
+static void check_behind(const board *b, committer_point_id trigger, const uint8_t *lists, size_t lists_len,
+    const committer_point_id *points, const behind *links, uint8_t count)
+{
+    uint8_t bytes[600], record[600];
+    board copy = new_board(b->places), spare = new_board(b->places);
+    copy_board(&copy, b);
+    size_t length = put_record(b, record, points[count - 1], 0, points, count);
+    CHECK(length == 99 + 82 * (size_t)count && length < sizeof bytes);
+    for (uint8_t n = 0; n < count; n++) {
+        put_behind(record + 83 + 37 * count + 45 * n, links[n]);
+    }
+    memset(bytes, 0xa5, sizeof bytes);
+    for (size_t room = 0; room < length; room++) {
+        REFUSED(&copy, &spare, COMMITTER_NO_ROOM, commit(&copy, trigger, lists, lists_len, bytes, room));
+    }
+    CHECK(bytes[0] == 0xa5 && memcmp(bytes, bytes + 1, sizeof bytes - 1) == 0);
+    DONE(commit(&copy, trigger, lists, lists_len, bytes, length));
+    CHECK(last_commit.anchors == 1 && memcmp(bytes, record, length) == 0 && bytes[length] == 0xa5);
+    free_board(&copy);
+    free_board(&spare);
+}
+
+/*
+ * List C: 11.0 and 11.1; 12.0 and 12.1 of this status, which include both; the anchor 13.0, certified, which includes 12.1, if so 12.0 too, and
+ * may have the witness 11.1; its proof 14.0, the trigger 15.0.
+ */
+static board list_c(bool left, size_t witness, uint32_t status)
+{
+    board b = started(8, used_beginning(4), 15);
+    const committer_point_id low[2] = {point(11, 0), point(11, 1)}, anchor = point(13, 0);
+    const committer_point_id both[3] = {point(12, 0), point(12, 1), low[1]};
+    committer_resolution side = valid(2, 0), over = valid(left ? 2 : 1, witness);
+    side.status = status;
+    over.top_proof = point(10, 0);
+    put_linked(&b, low[0], valid(0, 0), NULL);
+    put_linked(&b, low[1], valid(0, 0), NULL);
+    put_linked(&b, both[0], valid(2, 0), low);
+    put_linked(&b, both[1], side, low);
+    put_linked(&b, anchor, over, left ? both : both + 1);
+    put_one(&b, point(14, 0), COMMITTER_PROOF, point(14, 0), anchor);
+    put_one(&b, point(15, 0), COMMITTER_TRIGGER, anchor, point(14, 0));
+    DONE(certify(&b, anchor));
+    return b;
+}
+
+/* The cases of document 02, N7. */
+static void check_links_behind(void)
+{
+    CHECK(COMMITTER_WORD_BYTES == 8 && COMMITTER_LINK_BYTES == 45 && COMMITTER_LINKS_AT(4) == 231 && COMMITTER_RECORD_BYTES(5) == 509);
+    const committer_point_id a = point(11, 0), low = point(11, 1), c = point(12, 0), d = point(12, 1), e = point(13, 0), trigger = point(15, 0);
+    const behind by_c = {c, "includes"}, by_d = {d, "includes"}, by_e = {e, "includes"}, seen = {e, "witness\0"}, itself = {e, "anchor\0\0"};
+    /* the lowest digest of the round above, and a witness before it; the other order of the lists */
+    board b = list_c(true, 1, COMMITTER_VALID);
+    check_behind(&b, trigger, LISTS(0, 1, 0, 1, 0), (const committer_point_id[]){a, low, c, d, e}, (const behind[]){by_c, seen, by_e, by_e, itself}, 5);
+    check_behind(&b, trigger, LISTS(0, 0, 1, 0, 1), (const committer_point_id[]){low, a, d, c, e}, (const behind[]){seen, by_c, by_e, by_e, itself}, 5);
+    free_board(&b);
+    /* without the witness */
+    b = list_c(true, 0, COMMITTER_VALID);
+    check_behind(&b, trigger, LISTS(0, 1, 0, 1, 0), (const committer_point_id[]){a, low, c, d, e}, (const behind[]){by_c, by_c, by_e, by_e, itself}, 5);
+    free_board(&b);
+    for (uint32_t status = COMMITTER_VALID; status <= COMMITTER_TRANS_INVALID; status++) {
+        /* 12.0 isn't reached, and its links don't count; 12.1 may be trans-invalid */
+        b = list_c(false, 1, status);
+        check_behind(&b, trigger, LISTS(0, 0, 1, 0), (const committer_point_id[]){a, low, d, e}, (const behind[]){by_d, seen, by_e, itself}, 4);
+        free_board(&b);
+    }
+    /* a witness alone, and the anchor alone */
+    for (size_t witness = 0; witness < 2; witness++) {
+        b = started(8, used_beginning(2), 15);
+        committer_resolution over = valid(0, witness);
+        over.top_proof = point(10, 0);
+        put_linked(&b, a, valid(0, 0), NULL);
+        put_linked(&b, e, over, &a);
+        put_one(&b, point(14, 0), COMMITTER_PROOF, point(14, 0), e);
+        put_one(&b, trigger, COMMITTER_TRIGGER, e, point(14, 0));
+        DONE(certify(&b, e));
+        const committer_point_id points[2] = {a, e};
+        const behind links[2] = {seen, itself};
+        check_behind(&b, trigger, LISTS(0, 0), points + 1 - witness, links + 1 - witness, (uint8_t)(1 + witness));
+        free_board(&b);
+    }
+}
+
+/* Two records: 13.0 of the second links to 12.0, which stands in the first, and that link isn't told. */
+static void check_links_of_two(void)
+{
+    board b = overlapping(false);
+    uint8_t bytes[2 * TWO], links[4 * COMMITTER_LINK_BYTES];
+    const behind expected[4] = {
+        {point(12, 0), "includes"}, {point(12, 0), "anchor\0\0"}, {point(14, 0), "includes"}, {point(14, 0), "anchor\0\0"}};
+    for (size_t n = 0; n < 4; n++) {
+        put_behind(links + 45 * n, expected[n]);
+    }
+    DONE(commit(&b, point(16, 0), LISTS(0, 0, 0, 0, 0), bytes, sizeof bytes));
+    CHECK(last_commit.anchors == 2 && memcmp(bytes + 83 + 2 * 37, links, 90) == 0);
+    CHECK(memcmp(bytes + TWO + 83 + 2 * 37, links + 90, 90) == 0);
+    free_board(&b);
+}
+
 /* ---- payloads */
 
 /* Word 7 of a place. */
@@ -1660,7 +1881,7 @@ static uint64_t word_of(payload with)
 /* The commit of K13 on a copy: its record ends with these sums. */
 static void check_sums(const board *b, uint64_t len, uint64_t sum)
 {
-    uint8_t bytes[247], sums[16];
+    uint8_t bytes[427], sums[16];
     board copy = new_board(b->places);
     copy_board(&copy, b);
     DONE(commit(&copy, point(15, 0), LISTS(0, 0, 1, 0), bytes, sizeof bytes));
@@ -1673,8 +1894,8 @@ static void check_sums(const board *b, uint64_t len, uint64_t sum)
 /* K13: what each point holds; second and refused resolutions, statuses 4 and 5; any words. */
 static void check_payloads(void)
 {
-    CHECK(sizeof(committer_resolution) == 80 && COMMITTER_RECORD_BYTES(4) == 247 && COMMITTER_RECORD_BYTES(0) == 99);
-    CHECK(COMMITTER_SUMS_AT(4) == 231 && COMMITTER_COMMIT_MAX == 511 * 99 + 4096 * 37);
+    CHECK(sizeof(committer_resolution) == 80 && COMMITTER_RECORD_BYTES(4) == 427 && COMMITTER_RECORD_BYTES(0) == 99);
+    CHECK(COMMITTER_SUMS_AT(4) == 411 && COMMITTER_COMMIT_MAX == 511 * 99 + 4096 * 82);
     static const payload seven = {7, 7};
     board b = k13(0), spare = new_board(8);
     DONE(certify(&b, point(13, 0)));
@@ -2074,6 +2295,8 @@ int main(void)
     check_anchor_by_anchor();
     check_committed_ones();
     check_sizes();
+    check_links_behind();
+    check_links_of_two();
     check_payloads();
     check_freed_payloads();
     check_removes();

@@ -1,11 +1,13 @@
 /*
  * A board's use of the committer from C: case K13 of document 01. Genesis 10, H 2, a start at 10; the trigger 15.0 yields the anchor 13.0
  * with four points. One outlook tells the lengths of the place lists of all anchors and the buffer that they need; then they are committed at
- * once. What the outlook tells and the anchor records are written as the lines that `replay` writes.
+ * once. What the outlook tells and the anchor records are written as the lines that `replay` writes. At last it says why a point is in its
+ * record.
  */
 #include <inttypes.h>
 #include <stdio.h>
 #include <stdlib.h>
+#include <string.h>
 
 #include "committer.h"
 
@@ -111,6 +113,61 @@ static size_t make_lists(const uint8_t *look, uint8_t *lists)
     return length;
 }
 
+/* The id of a record's point. */
+static const uint8_t *point_at(const uint8_t *record, uint32_t n)
+{
+    return record + 83 + n * COMMITTER_ID_BYTES;
+}
+
+/* The link behind a record's point: the id of the point that links to it, and a word. */
+static const uint8_t *link_at(const uint8_t *record, uint32_t n)
+{
+    return record + COMMITTER_LINKS_AT(number(record + 79)) + n * COMMITTER_LINK_BYTES;
+}
+
+static int has_word(const uint8_t *link, const char *word)
+{
+    return memcmp(link + COMMITTER_ID_BYTES, word, COMMITTER_WORD_BYTES) == 0;
+}
+
+/* The word of a link, as text. */
+static const char *word_of(const uint8_t *link)
+{
+    if (has_word(link, COMMITTER_WORD_INCLUDES)) {
+        return COMMITTER_WORD_INCLUDES;
+    }
+    if (has_word(link, COMMITTER_WORD_WITNESS)) {
+        return COMMITTER_WORD_WITNESS;
+    }
+    return has_word(link, COMMITTER_WORD_ANCHOR) ? COMMITTER_WORD_ANCHOR : "?";
+}
+
+/* Prints a link behind a point after the point's id. */
+static void print_link(const uint8_t *id, const uint8_t *link)
+{
+    printf("link ");
+    print_id(id, '.');
+    printf(" by ");
+    print_id(link, '.');
+    printf(" %s\n", word_of(link));
+}
+
+/*
+ * Prints why a point is in a record: the links behind it, followed up to the anchor. Rounds rise, so the point that links to another stands
+ * behind it, and the anchor last.
+ */
+static void print_why(const uint8_t *record, const uint8_t *id)
+{
+    uint32_t points = number(record + 79);
+    printf("why:\n");
+    for (uint32_t n = 0; n < points; n++) {
+        if (memcmp(point_at(record, n), id, COMMITTER_ID_BYTES) == 0) {
+            print_link(id, link_at(record, n));
+            id = link_at(record, n);
+        }
+    }
+}
+
 /* Prints an anchor record, and returns its length. */
 static size_t print_record(const uint8_t *bytes)
 {
@@ -124,9 +181,12 @@ static size_t print_record(const uint8_t *bytes)
     printf(" payload %" PRIu64 " %" PRIu64 " points %" PRIu32 ":", wide(sums), wide(sums + 8), points);
     for (uint32_t i = 0; i < points; i++) {
         putchar(' ');
-        print_id(bytes + 83 + i * COMMITTER_ID_BYTES, '.');
+        print_id(point_at(bytes, i), '.');
     }
     putchar('\n');
+    for (uint32_t i = 0; i < points; i++) {
+        print_link(point_at(bytes, i), link_at(bytes, i));
+    }
     return COMMITTER_RECORD_BYTES(points);
 }
 
@@ -148,7 +208,10 @@ static void hand_out(committer_point_id trigger)
     uint32_t handed = keep("commit", &reply);
     const uint8_t *record = records;
     for (uint32_t i = 0; i < handed; i++) {
-        record += print_record(record);
+        const uint8_t *lowest = point_at(record, 0);
+        size_t length = print_record(record);
+        print_why(record, lowest);
+        record += length;
     }
 }
 

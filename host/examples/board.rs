@@ -1,11 +1,12 @@
-//! A board's use of the committer: a start, rounds with their points, certificates, the anchors of a trigger, a drop.
+//! A board's use of the committer: a start, rounds with their points, certificates, the anchors of a trigger and why a
+//! point is among theirs, a drop.
 //!
 //! Four peers send one point a round. Each point includes all points of the round below and has a witness two rounds
 //! down. Peer 0's are anchors in 12 and 14 with their proofs in 13 and 15, and the trigger in 16.
 
 use committer::{
-    Anchor, CommitSizes, Committer, Link, Look, OUTLOOK_BYTES_MAX, Point, PointId, PointInfo, Refused, Start, Status,
-    anchors, lists_in_order, looks,
+    Anchor, CommitSizes, Committer, Link, LinkBehind, Look, OUTLOOK_BYTES_MAX, Point, PointId, PointInfo, Refused,
+    Start, Status, anchors, lists_in_order, looks,
 };
 
 const GENESIS: u32 = 10;
@@ -54,6 +55,9 @@ fn main() -> Result<(), Refused> {
         let points: Vec<String> = anchor.points.iter().map(|id| format!("{}.{}", id.round, id.author)).collect();
         println!("  {}.{}: {}", anchor.anchor.round, anchor.anchor.author, points.join(" "));
         println!("  payload {} of {} bytes", anchor.payload_len, anchor.payload_bytes);
+        let lowest = anchor.points[0];
+        let links = why(&anchor, &lowest).expect("a point of the record");
+        println!("  why {}.{} is there: {links}", lowest.round, lowest.author);
     }
 
     println!("the trigger named again: {}", board.name(&point_id(TOP, 0)).expect_err("its digest is named"));
@@ -77,7 +81,18 @@ fn outlook(board: &Committer, trigger: &PointId) -> Result<Vec<Look>, Refused> {
 fn hand_out(board: &mut Committer, trigger: &PointId, told: &[Look]) -> Result<Vec<Anchor>, Refused> {
     let mut buffer = vec![0; CommitSizes::of(told).records];
     let handed = board.commit(trigger, &lists_in_order(told), &mut buffer)?;
-    Ok(anchors(&buffer, handed))
+    Ok(anchors(&buffer, handed).expect("a commit writes whole records"))
+}
+
+/// The links behind a point of an anchor's record, followed up to the anchor; none if the point isn't in it.
+fn why(anchor: &Anchor, id: &PointId) -> Option<String> {
+    let (mut text, mut at) = (String::new(), *id);
+    while at != anchor.anchor {
+        let LinkBehind { by, word } = anchor.link_behind(&at)?;
+        text += &format!("{word} of {}.{}, ", by.round, by.author);
+        at = *by;
+    }
+    Some(text + "the anchor")
 }
 
 /// A stand-in for the digest that a real point has.

@@ -2,13 +2,18 @@
 
 use std::fmt;
 
+use crate::behind::{LINK_BYTES, LinkBehind, WORD_BYTES, Word};
 use crate::sys::State;
 use crate::types::PointId;
 
 /// Of a point id's bytes.
 pub(crate) const ID_BYTES: usize = 37;
-/// Of a record's bytes beside the ids of its points: 83 before them, the two sums after them.
-pub const RECORD_BYTES: usize = 2 * ID_BYTES + 9 + 2 * 8;
+/// Of a record's bytes before the ids of its points.
+const HEAD_BYTES: usize = 2 * ID_BYTES + 9;
+/// Of a record's bytes beside those of its points: 83 before them, the two sums after them.
+pub const RECORD_BYTES: usize = HEAD_BYTES + 2 * 8;
+/// Of a record's bytes for each point: its id, and the link behind it.
+pub const POINT_BYTES: usize = ID_BYTES + LINK_BYTES;
 /// Of what an outlook writes for an anchor, before the counts of its rounds.
 pub const LOOK_BYTES: usize = ID_BYTES + 4;
 /// Of the count of a round.
@@ -24,19 +29,23 @@ pub struct Anchor {
     pub previous: u32,
     /// the history: by rising round; inside a round in the reverse of the order that its place list says
     pub points: Vec<PointId>,
+    /// the link behind each of them, in the same order
+    pub links: Vec<LinkBehind>,
     /// the sum over the history
     pub payload_len: u64,
     /// the sum over the history
     pub payload_bytes: u64,
 }
 
-/// The line that `replay` writes for it (docs/FORMATS.md).
+/// The lines that `replay` writes for it (docs/FORMATS.md), the last without its newline.
 impl fmt::Display for Anchor {
     fn fmt(&self, f: &mut fmt::Formatter<'_>) -> fmt::Result {
         let (anchor, proof) = (self.anchor.text(" "), self.proof.text(" "));
         write!(f, "anchor {anchor} proof {proof} exec {} prev {}", u32::from(self.executable), self.previous)?;
         write!(f, " payload {} {} points {}:", self.payload_len, self.payload_bytes, self.points.len())?;
-        self.points.iter().try_for_each(|id| write!(f, " {}", id.text(".")))
+        self.points.iter().try_for_each(|id| write!(f, " {}", id.text(".")))?;
+        let mut links = self.points.iter().zip(&self.links);
+        links.try_for_each(|(id, behind)| write!(f, "\nlink {} {behind}", id.text(".")))
     }
 }
 
@@ -45,26 +54,78 @@ impl Anchor {
     pub fn bytes(&self) -> usize {
         record_bytes(self.points.len())
     }
+
+    /// The link behind a point; none if the point isn't in this record.
+    pub fn link_behind(&self, id: &PointId) -> Option<&LinkBehind> {
+        let at = self.points.iter().position(|point| point == id)?;
+        self.links.get(at)
+    }
 }
 
 /// The length of a record with so many points.
 fn record_bytes(points: usize) -> usize {
-    RECORD_BYTES + ID_BYTES * points
+    RECORD_BYTES + POINT_BYTES * points
 }
 
-/// The anchors of so many records that stand one after the other from the first byte on. Fewer if the bytes end before.
-pub fn anchors(bytes: &[u8], count: u32) -> Vec<Anchor> {
-    let mut rest = bytes;
-    (0..count).map_while(|_| anchor(&mut rest)).collect()
+/// Bytes that aren't the anchor records that they are read as.
+#[derive(Clone, Copy, Debug, PartialEq, Eq, Hash)]
+pub enum BrokenAnchor {
+    /// they end before the record does whose first byte has this offset
+    Cut { at: usize },
+    /// the word of a link, whose first byte has this offset, is none of the three
+    Word { at: usize, bytes: [u8; WORD_BYTES] },
 }
 
-fn anchor(rest: &mut &[u8]) -> Option<Anchor> {
+impl fmt::Display for BrokenAnchor {
+    fn fmt(&self, f: &mut fmt::Formatter<'_>) -> fmt::Result {
+        match self {
+            BrokenAnchor::Cut { at } => write!(f, "the anchor record at byte {at} is cut short"),
+            BrokenAnchor::Word { at, bytes } => {
+                let shown = bytes.escape_ascii();
+                write!(f, "the word of a link at byte {at} is none of includes, witness and anchor: {shown}")
+            }
+        }
+    }
+}
+
+impl std::error::Error for BrokenAnchor {}
+
+/// The anchors of so many records that stand one after the other from the first byte on.
+pub fn anchors(bytes: &[u8], count: u32) -> Result<Vec<Anchor>, BrokenAnchor> {
+    let mut begin = 0;
+    let next = |_| {
+        let anchor = anchor(bytes, begin)?;
+        begin += anchor.bytes();
+        Ok(anchor)
+    };
+    (0..count).map(next).collect()
+}
+
+/// The anchor of the record that begins here.
+fn anchor(bytes: &[u8], begin: usize) -> Result<Anchor, BrokenAnchor> {
+    let (mut anchor, told) = fields(&mut &bytes[begin..]).ok_or(BrokenAnchor::Cut { at: begin })?;
+    let links_at = begin + HEAD_BYTES + ID_BYTES * anchor.points.len();
+    for (n, (by, bytes)) in told.iter().enumerate() {
+        let at = links_at + LINK_BYTES * n + ID_BYTES;
+        let word = Word::of(bytes).ok_or(BrokenAnchor::Word { at, bytes: *bytes })?;
+        anchor.links.push(LinkBehind { by: *by, word });
+    }
+    Ok(anchor)
+}
+
+/// The id and the bytes of the word of a link.
+type Told = (PointId, [u8; WORD_BYTES]);
+
+/// An anchor without its links, and these as they stand in its record. None if the bytes end before the record does.
+fn fields(rest: &mut &[u8]) -> Option<(Anchor, Vec<Told>)> {
     let (anchor, proof) = (id(rest)?, id(rest)?);
     let [executable] = taken(rest)?;
-    let (previous, count) = (number(rest)?, number(rest)?);
+    let (executable, previous, count) = (executable != 0, number(rest)?, number(rest)?);
     let points = (0..count).map(|_| id(rest)).collect::<Option<_>>()?;
+    let told = (0..count).map(|_| Some((id(rest)?, taken(rest)?))).collect::<Option<_>>()?;
     let [payload_len, payload_bytes] = [taken(rest)?, taken(rest)?].map(u64::from_be_bytes);
-    Some(Anchor { anchor, proof, executable: executable != 0, previous, points, payload_len, payload_bytes })
+    let links = Vec::new();
+    Some((Anchor { anchor, proof, executable, previous, points, links, payload_len, payload_bytes }, told))
 }
 
 /// What an outlook tells of an anchor. Its counts suppose that the anchors before it in the same outlook have been

@@ -1,11 +1,12 @@
 //! The proved committer for hosts written in Rust, over the static library that `rt staticlib committer` writes.
 //!
 //! [`Committer`] owns the tables and the state. Every call on every input has an answer: a call that can't be done is
-//! refused with a number ([`Refusal`]) and changes nothing, but for the anchors that a commit finished before. What a
-//! commit would hand out, an outlook tells without a change, and how long its lists and records are ([`CommitSizes`]);
-//! what a remove drains, it reports.
+//! refused with a number ([`Refusal`]) and changes nothing, but for the anchors that a commit finished before. A record
+//! tells of each of its points which other one links to it ([`LinkBehind`]). What a commit would hand out, an outlook tells
+//! without a change, and how long its lists and records are ([`CommitSizes`]); what a remove drains, it reports.
 
 mod anchor;
+mod behind;
 mod game;
 mod pcg;
 pub mod record;
@@ -16,7 +17,10 @@ pub mod sys;
 mod types;
 mod version;
 
-pub use anchor::{Anchor, CommitSizes, LOOK_BYTES, Look, RECORD_BYTES, anchors, lists_in_order, looks};
+pub use anchor::{
+    Anchor, BrokenAnchor, CommitSizes, LOOK_BYTES, Look, POINT_BYTES, RECORD_BYTES, anchors, lists_in_order, looks,
+};
+pub use behind::{LINK_BYTES, LinkBehind, WORD_BYTES, Word};
 pub use game::{Game, Reach};
 pub use pcg::Pcg;
 pub use record::Call;
@@ -42,7 +46,7 @@ pub const LINKS_MAX: usize = 32;
 pub const HISTORY_MAX: usize = 255;
 pub const ROUND_MAX: u32 = 4_000_000_000;
 /// A buffer of so many bytes has room for the records of any commit.
-pub const COMMIT_BYTES_MAX: usize = (ROUNDS_MAX - 1) * RECORD_BYTES + PLACES_MAX * anchor::ID_BYTES;
+pub const COMMIT_BYTES_MAX: usize = (ROUNDS_MAX - 1) * RECORD_BYTES + PLACES_MAX * POINT_BYTES;
 /// A buffer of so many bytes has room for any outlook.
 pub const OUTLOOK_BYTES_MAX: usize = (ROUNDS_MAX - 1) * (LOOK_BYTES + (HISTORY_MAX + 1) * anchor::COUNT_BYTES);
 
@@ -275,8 +279,8 @@ impl Committer {
     fn handed(&mut self, trigger: &PointId, lists: &[u8]) -> Answer {
         let mut buffer = vec![0; COMMIT_BYTES_MAX];
         match self.commit(trigger, lists, &mut buffer) {
-            Ok(count) => Answer::Handed(anchors(&buffer, count)),
-            Err(why) => Answer::Refused(why, anchors(&buffer, why.finished)),
+            Ok(count) => Answer::Handed(records(&buffer, count)),
+            Err(why) => Answer::Refused(why, records(&buffer, why.finished)),
         }
     }
 
@@ -358,6 +362,11 @@ impl Committer {
             cert: self.tables.certs[place] as u16,
         }
     }
+}
+
+/// The anchors that a commit wrote the records of.
+fn records(buffer: &[u8], count: u32) -> Vec<Anchor> {
+    anchors(buffer, count).expect("a commit writes whole records")
 }
 
 /// What a call said, or why it was refused.

@@ -1,11 +1,11 @@
 //! A commit made again on copies: with buffers that are too small, and with place lists that are damaged or longer. The Rust has neither
 //! buffers nor lists.
 
-use committer::{Anchor, Committer, PointId, Refusal, Refused, anchors};
+use committer::{Anchor, Committer, LINK_BYTES, PointId, Refusal, Refused};
 use oracle::PlaceLists;
 
 use crate::compare::in_a_row;
-use crate::library::{LARGE, UNTOUCHED};
+use crate::library::{LARGE, UNTOUCHED, records};
 
 /// Of the two sums at the end of a record.
 const SUMS: usize = 16;
@@ -34,7 +34,7 @@ impl<'a> Commit<'a> {
         let lists = in_a_row(lists);
         let mut large = vec![UNTOUCHED; LARGE];
         let whole = before.clone().commit(trigger, &lists, &mut large);
-        let records = anchors(&large, finished(&whole));
+        let records = records(&large, finished(&whole));
         Commit { trigger, lists, begins, before, after, whole, large, records }
     }
 
@@ -54,7 +54,8 @@ impl<'a> Commit<'a> {
         let mut tried = 0;
         for n in 0..self.records.len() {
             let (begin, end) = (self.begin(n), self.begin(n + 1));
-            for length in [begin, begin + 82, end - SUMS, end - 1] {
+            let links = end - SUMS - LINK_BYTES * self.records[n].points.len();
+            for length in [begin, begin + 82, links, links + SUMS, end - SUMS, end - 1] {
                 let committer = self.cut(n, length)?;
                 if n == 0 && committer != *self.before {
                     return Err(format!("a buffer of {length} bytes: refused with 0 anchors, and something changed"));

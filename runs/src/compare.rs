@@ -6,6 +6,7 @@ use std::fmt;
 use committer::{Anchor, Call, PointId, Start};
 use oracle::{HAS_OWN_ORDER, OWN_ORDER, PlaceLists};
 
+use crate::behind::{self, Linkers};
 use crate::counts::Counts;
 use crate::known::{self, Known, Strict, Tried};
 use crate::library::Side;
@@ -52,6 +53,8 @@ pub enum Kind {
     Strict,
     /// the records of a commit aren't the points that it marked
     Records,
+    /// the links behind the points of a record aren't those of its points
+    Links,
     /// a commit or a remove into a smaller buffer
     Buffer,
     /// a commit with a damaged place list
@@ -261,8 +264,9 @@ impl<'a, S: Side> Pair<'a, S> {
         Err((Kind::Rule, format!("{}: {}; by document 01: {due:?}", name(call), answer_text(answer))))
     }
 
-    /// The points of a commit's records are those that got their committed mark, each once; the records before a refusal, which the Rust
-    /// loses, have the sums of these points' payloads; smaller buffers cut the records, and damaged place lists refuse them.
+    /// The points of a commit's records are those that got their committed mark, each once; the links behind them are those that the points
+    /// of the same record have; the records before a refusal, which the Rust loses, have the sums of these points' payloads; smaller buffers
+    /// cut the records, and damaged place lists refuse them.
     fn records(&self, answer: &Answer, lists: &PlaceLists, view: &View, counts: &mut Counts) -> Result<(), Found> {
         let records = match answer {
             Answer::Anchors(anchors) => anchors,
@@ -281,9 +285,11 @@ impl<'a, S: Side> Pair<'a, S> {
             let text = format!("commit hands out {} points and marks {}", handed.len(), marked.len());
             return Err((Kind::Records, text));
         }
+        counts.linked(&self.links_behind(records)?);
         let refused = matches!(answer, Answer::Refused(_));
         if let Some(record) = records.iter().find(|record| refused && !has_sums(record, view)) {
-            return Err((Kind::Records, format!("commit is refused after {record}, and its points have other sums")));
+            let anchor = record.anchor.text(".");
+            return Err((Kind::Records, format!("commit is refused after {anchor}, and its points have other sums")));
         }
         counts.handed(records.len(), refused);
         let tried = self.ours.smaller_buffers(lists).map_err(|text| (Kind::Buffer, format!("commit: {text}")))?;
@@ -291,6 +297,12 @@ impl<'a, S: Side> Pair<'a, S> {
         let tried = self.ours.damaged_lists(lists).map_err(|text| (Kind::Lists, format!("commit: {text}")))?;
         counts.damaged(tried);
         Ok(())
+    }
+
+    /// What the records of a commit tell of links, beside the links that both took.
+    fn links_behind(&self, records: &[Anchor]) -> Result<behind::Seen, Found> {
+        let compared = behind::compared(records, &Linkers::of(&self.taken));
+        compared.map_err(|text| (Kind::Links, format!("commit: the record of {text}")))
     }
 
     /// A refused call leaves every word as it was.
@@ -418,7 +430,7 @@ impl<'a, S: Side> Pair<'a, S> {
             && let Some(lesser) = removes::same(ours, rust, &self.taken, before)
         {
             counts.removed(ours, lesser, before, &self.view);
-        } else if told != Told::Answer(answer.clone()) {
+        } else if told != Told::Answer(without_links(answer)) {
             return match (known::taken(call, &told), &told) {
                 (Some(known), _) => {
                     counts.met(known);
@@ -517,6 +529,15 @@ fn refused_as_told(told: Option<&Compared>, answer: &Answer) -> Result<(), Found
         (Some(told), Answer::Refused(why)) => outlook::refused_as_told(told, why).map_err(of_outlook),
         _ => Ok(()),
     }
+}
+
+/// As the Rust has it, which tells no links.
+fn without_links(answer: &Answer) -> Answer {
+    let mut answer = answer.clone();
+    if let Answer::Anchors(anchors) = &mut answer {
+        anchors.iter_mut().for_each(|anchor| anchor.links.clear());
+    }
+    answer
 }
 
 /// The record's sums are those of the points held.

@@ -6,6 +6,7 @@ use std::fmt;
 use committer::{Anchor, Call, Removal};
 use oracle::PlaceLists;
 
+use crate::behind::Seen;
 use crate::known::{ENTRIES, Known, ROWS, row_is_entry};
 use crate::outlook::Compared;
 use crate::view::{Memory, Point, View};
@@ -35,6 +36,8 @@ pub struct Counts {
     /// of them those with three linked points or more in a round, and of these those in the Rust's own order
     pub three_linked: u64,
     pub own_order: u64,
+    /// links behind the points of records, also of those before a refusal
+    pub links: Seen,
     /// commits with a damaged place list
     pub damaged_lists: u64,
     /// commits that handed out so many anchors, and that were refused after so many
@@ -115,6 +118,10 @@ impl Counts {
         self.anchors += anchors.len() as u64;
         self.three_linked += three;
         self.own_order += if own { three } else { 0 };
+    }
+
+    pub fn linked(&mut self, seen: &Seen) {
+        self.links.add(seen);
     }
 
     pub fn damaged(&mut self, lists: u64) {
@@ -206,6 +213,7 @@ impl Counts {
         self.wide_sums += other.wide_sums;
         self.three_linked += other.three_linked;
         self.own_order += other.own_order;
+        self.links.add(&other.links);
         self.damaged_lists += other.damaged_lists;
         for (ours, others) in self.commits.iter_mut().zip(&other.commits) {
             for (anchors, times) in others {
@@ -284,6 +292,8 @@ impl fmt::Display for Counts {
             "anchor records with three linked points or more in a round: {}, in the Rust's own order {}",
             self.three_linked, self.own_order
         )?;
+        let links = self.links.named().map(|(what, times)| format!("{what} {times}"));
+        writeln!(f, "links behind points: {}", links.join(", "))?;
         writeln!(f, "commits with a damaged place list: {}", self.damaged_lists)?;
         for (commits, what) in self.commits.iter().zip(["handed out", "finished before a refusal"]) {
             writeln!(f, "commits by anchors {what}: {}", listed(commits))?;

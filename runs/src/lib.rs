@@ -1,5 +1,6 @@
 //! The proved committer beside the unchanged Rust. README.md says what is compared and how.
 
+pub mod behind;
 pub mod commits;
 pub mod compare;
 pub mod counts;

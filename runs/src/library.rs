@@ -89,14 +89,14 @@ impl Side for Library {
         let _ = copy.gap_question();
         let mut buffer = vec![UNTOUCHED; LARGE];
         let short = match copy.commit(trigger, lists, &mut buffer) {
-            Ok(count) => return Ok(anchors(&buffer, count)),
+            Ok(count) => return Ok(records(&buffer, count)),
             Err(why) if why.refusal == Refusal::BadLists && (why.finished > 0 || lists.is_empty()) => why,
             Err(why) => return Err(why),
         };
-        let mut handed = anchors(&buffer, short.finished);
+        let mut handed = records(&buffer, short.finished);
         let rest = lists_told(&copy, trigger)?;
         let count = copy.commit(trigger, &rest, &mut buffer)?;
-        handed.extend(anchors(&buffer, count));
+        handed.extend(records(&buffer, count));
         Ok(handed)
     }
 
@@ -134,6 +134,11 @@ pub fn with_lists(committer: &Committer, call: &Call) -> Call {
         Call::Commit(trigger, _) => Call::Commit(*trigger, lists_told(committer, trigger).unwrap_or_default()),
         _ => call.clone(),
     }
+}
+
+/// The records that a commit wrote.
+pub fn records(buffer: &[u8], count: u32) -> Vec<Anchor> {
+    anchors(buffer, count).expect("a commit writes whole records")
 }
 
 pub(crate) const LARGE: usize = committer::COMMIT_BYTES_MAX;

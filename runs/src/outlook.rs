@@ -3,9 +3,10 @@
 
 use std::collections::{HashMap, HashSet};
 
-use committer::{Anchor, Call, Look, OUTLOOK_BYTES_MAX, PointId, PointInfo, Refusal, Refused, Start};
+use committer::{Anchor, Call, Look, OUTLOOK_BYTES_MAX, PointId, Refusal, Refused, Start};
 use oracle::PlaceLists;
 
+use crate::behind::links;
 use crate::compare::in_a_row;
 use crate::library::{Side, UNTOUCHED};
 use crate::view::{self, View};
@@ -195,21 +196,16 @@ struct Histories {
 
 impl Histories {
     fn of(taken: &[&Call], view: &View) -> Histories {
-        let begun = taken.iter().rposition(|call| matches!(call, Call::Start(_)));
-        let mut histories = Histories {
-            links: HashMap::new(),
+        let start = taken.iter().rev().find_map(|call| match call {
+            Call::Start(with) => Some(*with),
+            _ => None,
+        });
+        Histories {
+            links: links(taken).collect(),
             uncommitted: view.points.iter().filter(|point| !point.is_committed()).map(|point| point.id).collect(),
-            with: Start::default(),
+            with: start.unwrap_or_default(),
             bottom: view.state.as_ref().map_or(0, |state| state.bottom),
-        };
-        for call in &taken[begun.unwrap_or(0)..] {
-            match call {
-                Call::Start(with) => histories.with = *with,
-                Call::Resolve(id, info) => drop(histories.links.insert(*id, targets(id, info))),
-                _ => {}
-            }
         }
-        histories
     }
 
     fn of_anchor(&self, anchor: &PointId) -> History {
@@ -233,14 +229,4 @@ impl Histories {
     fn commit(&mut self, history: &History) {
         self.uncommitted.retain(|id| !history.points.contains(id));
     }
-}
-
-fn targets(id: &PointId, info: &PointInfo) -> Vec<PointId> {
-    let one = info.includes.iter().map(|link| (1, link));
-    let two = info.witness.iter().map(|link| (2, link));
-    one.chain(two)
-        .filter_map(|(down, link)| {
-            Some(PointId { round: id.round.checked_sub(down)?, author: link.peer, digest: link.digest })
-        })
-        .collect()
 }

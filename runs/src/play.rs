@@ -2,9 +2,10 @@
 //! places and with a zeroed buffer of 4,096 bytes for each call that takes one. See docs/FORMATS.md.
 
 use committer::record::Broken;
-use committer::{Anchor, Answer, Call, Committer, Look, PointId, Refusal, Refused, anchors, looks, removal};
+use committer::{Anchor, Answer, Call, Committer, Look, PointId, Refusal, Refused, looks, removal};
 
-use crate::library::view;
+use crate::behind::{Linkers, with_links};
+use crate::library::{records, view};
 use crate::outlook::counted;
 
 /// The places that the programs lend.
@@ -31,17 +32,21 @@ pub fn full(calls: impl Iterator<Item = Result<Call, Broken>>) -> String {
     full_by(calls, answer)
 }
 
-/// The same, but the counts of an outlook aren't the library's: they are made from the links that were taken and the marks.
+/// The same, but the counts of an outlook and the links behind points aren't the library's: they are made from the links that were taken and the
+/// marks.
 pub fn full_counted(calls: impl Iterator<Item = Result<Call, Broken>>) -> String {
     let mut taken: Vec<Call> = Vec::new();
     full_by(calls, |committer, call| {
-        let answer = match answer(committer, call) {
+        let mut answer = answer(committer, call);
+        let before: Vec<&Call> = taken.iter().collect();
+        match &mut answer {
             Answer::Looked(looks) => {
                 let anchors: Vec<PointId> = looks.iter().map(|look| look.anchor).collect();
-                Answer::Looked(counted(&anchors, &taken.iter().collect::<Vec<_>>(), &view(committer)))
+                *looks = counted(&anchors, &before, &view(committer));
             }
-            other => other,
-        };
+            Answer::Handed(anchors) | Answer::Refused(_, anchors) => with_links(anchors, &Linkers::of(&before)),
+            _ => {}
+        }
         if !matches!(answer, Answer::Refused(..)) {
             taken.push(call.clone());
         }
@@ -70,8 +75,8 @@ fn answer(committer: &mut Committer, call: &Call) -> Answer {
     let mut buffer = [0; BUFFER];
     match call {
         Call::Commit(trigger, lists) => match committer.commit(trigger, lists, &mut buffer) {
-            Ok(count) => Answer::Handed(anchors(&buffer, count)),
-            Err(why) => Answer::Refused(why, anchors(&buffer, why.finished)),
+            Ok(count) => Answer::Handed(records(&buffer, count)),
+            Err(why) => Answer::Refused(why, records(&buffer, why.finished)),
         },
         Call::Outlook(trigger) => match committer.outlook(trigger, &mut buffer) {
             Ok(count) => Answer::Looked(looks(&buffer, count, committer.parts().1)),

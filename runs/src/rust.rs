@@ -177,6 +177,8 @@ fn anchor(anchor: &oracle::Anchor) -> Anchor {
         executable: anchor.executable,
         previous: anchor.prev_anchor.unwrap_or(0),
         points: anchor.points.iter().map(id).collect(),
+        // the Rust has none
+        links: Vec::new(),
         payload_len: anchor.payload_len,
         payload_bytes: anchor.payload_bytes,
     }

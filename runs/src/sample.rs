@@ -4,6 +4,7 @@ use std::collections::BTreeSet;
 
 use committer::{Anchor, Call, Committer, record};
 
+use crate::behind::{Linkers, with_links};
 use crate::compare::{List, lent};
 use crate::counts::{Counts, kind};
 use crate::known::Known;
@@ -121,16 +122,23 @@ fn words_left(calls: &[Call]) -> usize {
     if points.len() >= LEFT_LEAST { words.len() } else { 0 }
 }
 
-/// A line for each call, then the state and the points. The Rust's own assertions hold.
+/// A line for each call, then the state and the points. The Rust's own assertions hold. The links behind points, which the Rust doesn't tell, are
+/// those of the resolutions.
 fn played(calls: &[Call]) -> String {
     oracle::set_shuffle_order(ORDER);
     let mut rust = Rust::strict();
     let mut text = String::new();
+    let mut taken: Vec<&Call> = Vec::new();
     for call in calls {
-        match rust.call(call) {
-            Told::Answer(answer) => text += &line(call, &answer),
+        let mut answer = match rust.call(call) {
+            Told::Answer(answer) => answer,
             other => panic!("the Rust doesn't take {call:?}: {other:?}"),
+        };
+        if let Answer::Anchors(anchors) = &mut answer {
+            with_links(anchors, &Linkers::of(&taken));
         }
+        text += &line(call, &answer);
+        taken.push(call);
     }
     text + &held(&rust.view())
 }
@@ -152,7 +160,7 @@ pub fn line(call: &Call, answer: &Answer) -> String {
     what + "\n"
 }
 
-/// A line for each anchor.
+/// The lines of each anchor.
 fn anchor_lines(anchors: &[Anchor]) -> String {
     anchors.iter().map(|anchor| format!("{anchor}\n")).collect()
 }

@@ -1,9 +1,13 @@
-//! The harness finds faults: a side with one wrong height, flag, answer, refusal, word, sum, counter, event or entry of the memory is caught,
-//! and the list that shows it is short.
+//! The harness finds faults: a side with one wrong height, flag, answer, refusal, word, link, sum, counter, event or entry of the memory is
+//! caught, and the list that shows it is short.
 
+use std::cmp::Reverse;
 use std::marker::PhantomData;
 
-use committer::{Anchor, Call, JournalDagEvent, LOOK_BYTES, Look, OUTLOOK_BYTES_MAX, PointId, Removal};
+use committer::{
+    Anchor, Call, JournalDagEvent, LOOK_BYTES, LinkBehind, Look, OUTLOOK_BYTES_MAX, PointId, Removal, Word,
+};
+use runs::behind::{Linkers, link};
 use runs::compare::{Difference, Kind, List, compare, lent};
 use runs::counts::Counts;
 use runs::library::{Library, Side};
@@ -30,6 +34,9 @@ trait Fault {
     /// the lists that a commit is taken to be lent; an outlook has told the first anchor
     fn lists(_first: &Look, _lists: &mut Vec<u8>) {}
 
+    /// what the records of a commit tell of links, changed; the linkers are of all points
+    fn links(_records: &mut [Anchor], _linkers: &Linkers) {}
+
     /// added to the fingerprint after a call with this answer
     fn written(_answer: &Answer) -> u64 {
         0
@@ -44,18 +51,25 @@ trait Fault {
 /// The library with a fault.
 struct Wrong<F> {
     library: Library,
+    /// starts and resolutions
+    calls: Vec<Call>,
     written: u64,
     fault: PhantomData<F>,
 }
 
 impl<F: Fault> Side for Wrong<F> {
     fn new(places: usize) -> Self {
-        Wrong { library: Library::new(places), written: 0, fault: PhantomData }
+        Wrong { library: Library::new(places), calls: Vec::new(), written: 0, fault: PhantomData }
     }
 
     fn call(&mut self, call: &Call) -> Answer {
         let before = self.view();
-        let answer = F::answer(call, &before, self.library.call(&self.misread(call)));
+        let mut answer = F::answer(call, &before, self.library.call(&self.misread(call)));
+        if let Answer::Anchors(records) | Answer::Refused(Refused { finished: records, .. }) = &mut answer {
+            F::links(records, &Linkers::of(&self.calls.iter().collect::<Vec<_>>()));
+        } else if matches!(call, Call::Start(_) | Call::Resolve(..)) {
+            self.calls.push(call.clone());
+        }
         self.written += F::written(&answer);
         answer
     }
@@ -403,6 +417,7 @@ fn a_commit_other_than_told_is_caught() {
         executable: true,
         previous: 0,
         points: vec![point(11, 0, 1), point(12, 0, 2)],
+        links: Vec::new(),
         payload_len: 0,
         payload_bytes: 0,
     };
@@ -539,6 +554,157 @@ fn faults_of_payloads_are_caught() {
     assert_eq!(found_in_chains::<Narrow>(), Kind::Answer);
     assert_eq!(calls::<Exchanged>(), (3, Kind::Points));
     assert_eq!(calls::<Unheld>(), (3, Kind::Points));
+}
+
+/// Behind each point but the anchor the linker that is picked from those of its record, or from all.
+fn picked(records: &mut [Anchor], linkers: &Linkers, outside: bool, pick: impl Fn(&[PointId]) -> Option<PointId>) {
+    for record in records {
+        for (id, told) in record.points.iter().zip(&mut record.links).filter(|(id, _)| **id != record.anchor) {
+            let linkers = linkers.to(id).iter().filter(|by| outside || record.points.contains(by));
+            let by = pick(&linkers.copied().collect::<Vec<_>>()).expect("a point of a history has a linker");
+            *told = link(by, id);
+        }
+    }
+}
+
+/// Of several linkers the one in the lowest round is told.
+struct LowestRound;
+
+impl Fault for LowestRound {
+    fn links(records: &mut [Anchor], linkers: &Linkers) {
+        picked(records, linkers, false, |own| own.iter().min_by_key(|by| (by.round, by.digest)).copied());
+    }
+}
+
+/// Of several in a round the one with the greatest digest is.
+struct GreatestDigest;
+
+impl Fault for GreatestDigest {
+    fn links(records: &mut [Anchor], linkers: &Linkers) {
+        picked(records, linkers, false, |own| own.iter().max_by_key(|by| (by.round, by.digest)).copied());
+    }
+}
+
+/// Points outside the record count as linkers.
+struct AnyLinker;
+
+impl Fault for AnyLinker {
+    fn links(records: &mut [Anchor], linkers: &Linkers) {
+        picked(records, linkers, true, |all| all.iter().min_by_key(|by| (Reverse(by.round), by.digest)).copied());
+    }
+}
+
+/// The words are exchanged.
+struct OtherWord;
+
+impl OtherWord {
+    fn exchange(anchor: &mut Anchor) {
+        for told in &mut anchor.links {
+            told.word = match told.word {
+                Word::Includes => Word::Witness,
+                Word::Witness => Word::Includes,
+                Word::Anchor => Word::Anchor,
+            };
+        }
+    }
+}
+
+impl Fault for OtherWord {
+    fn answer(_: &Call, _: &View, answer: Answer) -> Answer {
+        records(answer, false, OtherWord::exchange)
+    }
+}
+
+/// They are in a record that is finished before a refusal, which the Rust loses.
+struct OtherWordBefore;
+
+impl Fault for OtherWordBefore {
+    fn answer(_: &Call, _: &View, answer: Answer) -> Answer {
+        records(answer, true, OtherWord::exchange)
+    }
+}
+
+/// Behind the first point of a record that has others stands the anchor of the record before.
+struct EarlierRecord;
+
+impl Fault for EarlierRecord {
+    fn links(records: &mut [Anchor], _: &Linkers) {
+        for n in 1..records.len() {
+            let by = records[n - 1].anchor;
+            if let [first, _, ..] = &mut records[n].links[..] {
+                first.by = by;
+            }
+        }
+    }
+}
+
+/// The anchor stands with its proof.
+struct ByProof;
+
+impl Fault for ByProof {
+    fn answer(_: &Call, _: &View, answer: Answer) -> Answer {
+        records(answer, false, |anchor| anchor.links.last_mut().expect("the anchor's").by = anchor.proof)
+    }
+}
+
+/// The links stand by rising digest in their round, whatever the order of the ids.
+struct InOtherOrder;
+
+impl Fault for InOtherOrder {
+    fn answer(_: &Call, _: &View, answer: Answer) -> Answer {
+        records(answer, false, |anchor| {
+            let mut pairs: Vec<(&PointId, LinkBehind)> =
+                anchor.points.iter().zip(anchor.links.iter().copied()).collect();
+            pairs.sort_by_key(|(id, _)| (id.round, id.digest));
+            anchor.links = pairs.into_iter().map(|(_, told)| told).collect();
+        })
+    }
+}
+
+/// The last link is missing.
+struct LostLink;
+
+impl Fault for LostLink {
+    fn answer(_: &Call, _: &View, answer: Answer) -> Answer {
+        records(answer, false, |anchor| anchor.links.truncate(anchor.points.len() - 1))
+    }
+}
+
+/// A record ends with its sums behind the ids.
+struct NoLinks;
+
+impl Fault for NoLinks {
+    fn answer(_: &Call, _: &View, answer: Answer) -> Answer {
+        records(answer, false, |anchor| anchor.links.clear())
+    }
+}
+
+#[test]
+fn faults_of_links_are_caught() {
+    assert_eq!(found_in_chains::<LowestRound>(), Kind::Links);
+    assert_eq!(found_in_chains::<GreatestDigest>(), Kind::Links);
+    assert_eq!(found_in_chains::<AnyLinker>(), Kind::Links);
+    assert_eq!(found_in_chains::<OtherWord>(), Kind::Links);
+    assert_eq!(found_in_chains::<OtherWordBefore>(), Kind::Links);
+    assert_eq!(found_in_chains::<EarlierRecord>(), Kind::Links);
+    assert_eq!(found_in_chains::<ByProof>(), Kind::Links);
+    assert_eq!(found_in_chains::<InOtherOrder>(), Kind::Links);
+    assert_eq!(found_in_chains::<LostLink>(), Kind::Links);
+    assert_eq!(found_in_chains::<NoLinks>(), Kind::Links);
+}
+
+/// How many points the shortest list resolves that shows the fault of a commit.
+fn points_of_shortest<F: Fault>() -> usize {
+    let (list, found) = first_chain::<F>();
+    let (short, _) = shrink::<Wrong<F>>(&list, &found);
+    short.calls.iter().filter(|call| matches!(call, Call::Resolve(..))).count()
+}
+
+/// Beside anchor, proof and trigger: a point with a witness of the anchor and an include between them; one with two includes.
+#[test]
+fn faults_of_links_are_shown_by_short_lists() {
+    assert_eq!(points_of_shortest::<LowestRound>(), 3 + 2);
+    assert_eq!(points_of_shortest::<GreatestDigest>(), 3 + 3);
 }
 
 /// Each list of the first anchor.
@@ -792,6 +958,7 @@ fn the_library_passes_chains() {
     assert!(counts.several_as_told() > 50 && counts.outlooks_shuffled[1] > 50, "{counts}");
     assert!(counts.three_linked > 50 && counts.damaged_lists > 500, "{counts}");
     assert!(counts.sums > 100 && counts.wide_sums > 50, "{counts}");
+    assert!(counts.links.named().iter().all(|(_, times)| *times > 50), "{counts}");
 }
 
 /// A word is written where 9 is given.

@@ -10,7 +10,7 @@ use borrow.Author.Tests.{not-true, leb-true}
 use Rattle.laws.specs.Test.{byTest, clash, both, and-l, and-r, not-no, sameOr, leOr}
 use Rattle.spec.specs.Store as store
 use Rattle.spec.specs.Store.{Point, Store}
-use Rattle.spec.specs.Paths.{height}
+use Rattle.spec.specs.Paths.{LinkedTo, height}
 use Rattle.spec.specs.Links.{linked, down}
 use Rattle.spec.specs.HeightEquations.{Sized}
 use Rattle.spec.specs.History.{limit, lowest, Need, anchor, hand, needed}
@@ -112,8 +112,15 @@ module _ (s : State) (ks ls cs os : List ℕ) (fk : Fit ks) (fl : Fit ls) (t : S
   unfolding view confOf heightOf
   used-height q u = heightsAre.heightsAre-elim b n ks ls cs os (t .facts .sorted) (t .facts .right) low-round fine fk fl v sized sees (t .facts .heights) q u
 
+  -- the links of points are the live links of their words
+  pub leads-link : (p q : ℕ) → Leads b ks ls os n p q → LinkedTo v p q
+  leads-link = heightsAre.link-intro b n ks ls cs os (t .facts .sorted) (t .facts .right) low-round fine fk fl v sized sees
+
+  pub link-leads : (p q : ℕ) → LinkedTo v p q → Leads b ks ls os n p q
+  link-leads = heightsAre.link-elim b n ks ls cs os (t .facts .sorted) (t .facts .right) low-round fine fk fl v sized sees
+
   -- a used place is one of 4,096
-  used-small : (q : ℕ) → Used os n q → q < 4096
+  pub used-small : (q : ℕ) → Used os n q → q < 4096
   used-small q (i, l, e) = omega (arith, t .facts .inside i l, small)
 
   -- a live link leads to a used place of a lower round
@@ -129,7 +136,7 @@ module _ (s : State) (ks ls cs os : List ℕ) (fk : Fit ks) (fl : Fit ls) (t : S
       byTest (isUncommitted cs m p)
       (λ y. ⊎-elim (h q)
       (λ (j, l, e). hand p q (h p (and-l _ _ y)) (used-done p u ∙ not-true _ (and-r (getD m p false) _ y))
-      (heightsAre.link-intro b n ks ls cs os (t .facts .sorted) (t .facts .right) low-round fine fk fl v sized sees p q (record { from = u; which = j; live = l; to = e })))
+      (leads-link p q (record { from = u; which = j; live = l; to = e })))
       (marked-only ls m p (reach b ks p) q (rw y at o)))
       (λ f. h q (rw f at o))
 
@@ -246,7 +253,7 @@ module _ (s : State) (ks ls cs os : List ℕ) (fk : Fit ks) (fl : Fit ls) (t : S
     unfolding marks
     marks-complete q anchor l = swept-keeps b ks ls cs os (alone a) high (high - low) a (alone-on a (used-small a used))
     marks-complete q (hand p x k d e) l =
-        let edge : Leads b ks ls os n p x = heightsAre.link-elim b n ks ls cs os (t .facts .sorted) (t .facts .right) low-round fine fk fl v sized sees p x e in
+        let edge : Leads b ks ls os n p x = link-leads p x e in
         let less = falls p x edge .1 in
         let o : On m p = marks-complete p k (omega arith) in
         go edge (edge .from) (sym (used-done p (edge .from)) ∙ d) o (need-used p k .1) (omega arith)

@@ -179,7 +179,10 @@ module _ (s : State) (ks ls cs os : List ℕ) (fk : Fit ks) (fl : Fit ls) (t : S
     unfolding inOrder
     order-is = ap (map (idAt v)) (sym drawn-is)
 
-    -- each stands at a used place
+    -- each is of the history, so it stands at a used place
+    pub drawn-in : (q : ℕ) → List·Memᴰ q (drawnBy ks os n cs m (downFrom (roundAt ks a) (roundAt ks a + 1 - lowestOf s (roundAt ks a))) l) → inHistory v a q ≡ true
+    drawn-in q k = drawn-elim v a (roundsOf v a) l ok q (subst (List·Memᴰ q) drawn-is k) .1
+
     pub drawn-used : (q : ℕ) → List·Memᴰ q (drawnBy ks os n cs m (downFrom (roundAt ks a) (roundAt ks a + 1 - lowestOf s (roundAt ks a))) l) → Used os n q
     unfolding inHistory
-    drawn-used q k = needed-used q (and-l _ _ (drawn-elim v a (roundsOf v a) l ok q (subst (List·Memᴰ q) drawn-is k) .1))
+    drawn-used q k = needed-used q (and-l _ _ (drawn-in q k))

@@ -25,6 +25,7 @@ use Rattle.back_committable.specs.Model.{testedOf}
 use Rattle.back_order.specs.Counts.{countsBy}
 use Rattle.back_order.specs.Drawn.{drawnBy}
 use Rattle.back_history.specs.Model.{isUncommitted}
+use Rattle.back_behind.specs.Model.{sources}
 use Rattle.output_record.specs.Sums.{lenSum, bytesSum}
 use Rattle.output_record.specs.Model.{recordOf, executes, previousOf}
 use Rattle.output_record.specs.Listed.{roundsBy, sizeBy, historyBy, Listable}
@@ -55,7 +56,7 @@ Drawable s ks cs os l end m low e n = let r = roundAt ks (e .anchor) in Listable
 
 -- what refuses an anchor: its tests, 20, 24, 21
 unfoldable pub numberFor : Check → ℕ → Bool → ℕ → ℕ → Check
-numberFor c gap ok n left = orNext c (cond (eqb gap 1) (failed 20) (cond ok (cond (ltb left (99 + n * 37)) (failed 21) Passed) (failed 24)))
+numberFor c gap ok n left = orNext c (cond (eqb gap 1) (failed 20) (cond ok (cond (ltb left (99 + n * 82)) (failed 21) Passed) (failed 24)))
 
 -- how many marked places the rounds of its history have
 abbrev pub countsFor : State → List ℕ → List ℕ → List Bool → ℕ → ℕ → List ℕ
@@ -65,11 +66,11 @@ countsFor s ks os m low a = countsBy ks os (s .count) m (roundsBy (roundAt ks a)
 abbrev pub sizeFor : State → List ℕ → List ℕ → List Bool → ℕ → ℕ → ℕ
 sizeFor s ks os m low a = sizeBy ks os (s .count) m (roundsBy (roundAt ks a) low)
 
--- the anchor's record, in the order that the lists l say, with its sums
-unfoldable pub recordFor : State → List ℕ → List ℕ → List ℕ → List Bool → ℕ → List ℕ → EnqueuedAnchor → ℕ → ℕ → List ℕ
-recordFor s ks cs os m low l e len bytes =
+-- the anchor's record, in the order that the lists l say, with what is noted for its points, and its sums
+unfoldable pub recordFor : State → List ℕ → List ℕ → List ℕ → List ℕ → List Bool → ℕ → List ℕ → EnqueuedAnchor → ℕ → ℕ → List ℕ
+recordFor s ks by cs os m low l e len bytes =
     let r = roundAt ks (e .anchor) in
-    recordOf ks (e .anchor) (e .proof) (executes s r) (previousOf s r (e .prevProofRound)) (drawnBy ks os (s .count) cs m (roundsBy r low) l) len bytes
+    recordOf ks by (e .anchor) (e .proof) (executes s r) (previousOf s r (e .prevProofRound)) (drawnBy ks os (s .count) cs m (roundsBy r low) l) len bytes
 
 -- what one anchor leaves
 pub record Step : Type 0 where
@@ -90,11 +91,15 @@ lenFor ls cs os t = lenSum ls os (isUncommitted cs (t .marks)) (t .low) (t .high
 abbrev pub bytesFor : List ℕ → List ℕ → List ℕ → Tested → ℕ
 bytesFor ls cs os t = bytesSum ls os (isUncommitted cs (t .marks)) (t .low) (t .high - t .low)
 
+-- what is noted for its points
+abbrev pub sourcesFor : State → List ℕ → List ℕ → List ℕ → List ℕ → Tested → List ℕ
+sourcesFor s ks ls cs os t = sources (s .bottom .0) ks ls cs os (t .marks) (t .low) (t .high)
+
 -- of an anchor with what its tests gave, and what refuses it; its lists are those of l from `from` on
 unfoldable pub oneWith : State → List ℕ → List ℕ → List ℕ → List ℕ → List ℕ → ℕ → List ℕ → ℕ → EnqueuedAnchor → Tested → Check → Step
 oneWith s ks ls cs os l from b at e t Passed =
     stepOf Passed (afterState s (roundAt ks (e .anchor)) (roundAt ks (e .proof)) (authorAt ks (e .anchor))) (marksAll os (t .marks) (t .low) cs (t .high))
-    (written b at (recordFor s ks cs os (t .marks) (t .lowest .0) (drop from l) e (lenFor ls cs os t) (bytesFor ls cs os t))) (at + 99 + t .count * 37) (from + sizeFor s ks os (t .marks) (t .lowest .0) (e .anchor))
+    (written b at (recordFor s ks (sourcesFor s ks ls cs os t) cs os (t .marks) (t .lowest .0) (drop from l) e (lenFor ls cs os t) (bytesFor ls cs os t))) (at + 99 + t .count * 82) (from + sizeFor s ks os (t .marks) (t .lowest .0) (e .anchor))
 oneWith s ks ls cs os l from b at e t (Failed r) = stepOf (Failed r) s cs b at from
 
 -- whether its lists are right
@@ -130,24 +135,24 @@ module _ (c : Check) (gap : ℕ) (ok : Bool) (n left : ℕ) where
 
       module _ (t : ok ≡ true) where
         -- 21
-        pub number-room : left < 99 + n * 37 → failed 21 ≡ numberFor c gap ok n left
+        pub number-room : left < 99 + n * 82 → failed 21 ≡ numberFor c gap ok n left
         unfolding numberFor orNext
-        number-room l = rw (z, ne-eqb gap 1 d, t, lt-ltb left (99 + n * 37) l) refl
+        number-room l = rw (z, ne-eqb gap 1 d, t, lt-ltb left (99 + n * 82) l) refl
 
         -- none
-        pub number-none : 99 + n * 37 ≤ left → Passed ≡ numberFor c gap ok n left
+        pub number-none : 99 + n * 82 ≤ left → Passed ≡ numberFor c gap ok n left
         unfolding numberFor orNext
-        number-none l = rw (z, ne-eqb gap 1 d, t, le-ltb left (99 + n * 37) l) refl
+        number-none l = rw (z, ne-eqb gap 1 d, t, le-ltb left (99 + n * 82) l) refl
 
 -- an anchor that nothing refuses has right lists, and room for its record
-pub number-fits : (c : Check) (gap : ℕ) (ok : Bool) (n left : ℕ) → numberFor c gap ok n left ≡ Passed → (ok ≡ true) × (99 + n * 37 ≤ left)
+pub number-fits : (c : Check) (gap : ℕ) (ok : Bool) (n left : ℕ) → numberFor c gap ok n left ≡ Passed → (ok ≡ true) × (99 + n * 82 ≤ left)
 unfolding numberFor orNext
 number-fits (Failed r) gap ok n left h = absurd (not-failed r h)
 number-fits Passed gap false n left h = byTest (eqb gap 1) (λ g. absurd (not-failed (Number 20) (rw g at h))) (λ g. absurd (not-failed (Number 24) (rw g at h)))
 number-fits Passed gap true n left h =
     byTest (eqb gap 1)
     (λ g. absurd (not-failed (Number 20) (rw g at h)))
-    (λ g. byTest (ltb left (99 + n * 37)) (λ l. absurd (not-failed (Number 21) (rw (g, l) at h))) (λ l. (refl, ltb-false _ _ l)))
+    (λ g. byTest (ltb left (99 + n * 82)) (λ l. absurd (not-failed (Number 21) (rw (g, l) at h))) (λ l. (refl, ltb-false _ _ l)))
 
 -- whether its lists are right, and where they end, by the round that is read
 pub listed-by : (s : State) (ks os l : List ℕ) (from : ℕ) (m : List Bool) (low : ℕ) (e : EnqueuedAnchor) (r : ℕ) → r ≡ roundAt ks (e .anchor) → (ok : Bool) (end : ℕ)
@@ -161,10 +166,10 @@ module _ (s : State) (ks cs os l : List ℕ) (end : ℕ) (m : List Bool) (low : 
   draw-by n h = rw is h
 
   -- the record, from what is read for it
-  pub record-by : (x : Bool) (p len bytes : ℕ) → x ≡ executes s r → p ≡ previousOf s r (e .prevProofRound)
-      → recordOf ks (e .anchor) (e .proof) x p (historyBy ks os (s .count) cs m l end r low) len bytes ≡ recordFor s ks cs os m low (drop (end - sizeFor s ks os m low (e .anchor)) l) e len bytes
+  pub record-by : (by : List ℕ) (x : Bool) (p len bytes : ℕ) → x ≡ executes s r → p ≡ previousOf s r (e .prevProofRound)
+      → recordOf ks by (e .anchor) (e .proof) x p (historyBy ks os (s .count) cs m l end r low) len bytes ≡ recordFor s ks by cs os m low (drop (end - sizeFor s ks os m low (e .anchor)) l) e len bytes
   unfolding recordFor
-  record-by x p len bytes c d = rw (d, c, is) refl
+  record-by by x p len bytes c d = rw (d, c, is) refl
 
 -- the state, from what is read for it
 pub state-by : (s : State) (ks : List ℕ) (e : EnqueuedAnchor) (a p n : ℕ) → a ≡ roundAt ks (e .anchor) → p ≡ roundAt ks (e .proof) → n ≡ authorAt ks (e .anchor)
@@ -183,13 +188,14 @@ module _ (s : State) (ks ls cs os l : List ℕ) (from : ℕ) (b : List ℕ) (at 
   one-refused r h = rw (← is, sym by-lists ∙ h) refl
 
   -- taken
-  pub one-taken : c ≡ Passed → (s′ : State) (cs′ b′ : List ℕ) (end next len bytes : ℕ) → (len ≡ lenFor ls cs os t) × (bytes ≡ bytesFor ls cs os t) → s′ ≡ afterState s (roundAt ks (e .anchor)) (roundAt ks (e .proof)) (authorAt ks (e .anchor)) → cs′ ≡ marksAll os (t .marks) (t .low) cs (t .high)
-      → next ≡ from + sizeFor s ks os (t .marks) (t .lowest .0) (e .anchor) → b′ ≡ written b at (recordFor s ks cs os (t .marks) (t .lowest .0) (drop (next - sizeFor s ks os (t .marks) (t .lowest .0) (e .anchor)) l) e len bytes)
-      → end ≡ at + 99 + t .count * 37 → stepOf Passed s′ cs′ b′ end next ≡ oneOf s ks ls cs os l from b at e
+  pub one-taken : c ≡ Passed → (s′ : State) (cs′ b′ by : List ℕ) (end next len bytes : ℕ) → by ≡ sourcesFor s ks ls cs os t → (len ≡ lenFor ls cs os t) × (bytes ≡ bytesFor ls cs os t)
+      → s′ ≡ afterState s (roundAt ks (e .anchor)) (roundAt ks (e .proof)) (authorAt ks (e .anchor)) → cs′ ≡ marksAll os (t .marks) (t .low) cs (t .high)
+      → next ≡ from + sizeFor s ks os (t .marks) (t .lowest .0) (e .anchor) → b′ ≡ written b at (recordFor s ks by cs os (t .marks) (t .lowest .0) (drop (next - sizeFor s ks os (t .marks) (t .lowest .0) (e .anchor)) l) e len bytes)
+      → end ≡ at + 99 + t .count * 82 → stepOf Passed s′ cs′ b′ end next ≡ oneOf s ks ls cs os l from b at e
   unfolding oneOf oneIn oneWith
-  one-taken z s′ cs′ b′ end next len bytes (u, y) a g w d h =
+  one-taken z s′ cs′ b′ by end next len bytes told (u, y) a g w d h =
       let back : next - sizeFor s ks os (t .marks) (t .lowest .0) (e .anchor) ≡ from = omega (arith, w) in
-      rw (← is, sym by-lists ∙ z, a, g, d ∙ (λ i. written b at (recordFor s ks cs os (t .marks) (t .lowest .0) (drop (back i) l) e (u i) (y i))), h, w) refl
+      rw (← is, sym by-lists ∙ z, a, g, d ∙ (λ i. written b at (recordFor s ks (told i) cs os (t .marks) (t .lowest .0) (drop (back i) l) e (u i) (y i))), h, w) refl
 
 -- the offset after the anchor's lists is within them
 pub one-within : (s : State) (ks ls cs os l : List ℕ) (from : ℕ) (b : List ℕ) (at : ℕ) (e : EnqueuedAnchor) (o : Step) → o ≡ oneOf s ks ls cs os l from b at e → from ≤ length l → o .next ≤ length l

@@ -1,5 +1,5 @@
 -- One anchor's commit is that of document 01 (commit/mod.rs, 'Refusals' 13 to 15, 17, 18, 20 to 22) and of document 02 (N1, 24).
-use Prim.Native.Nat.{ℕ, _+_, _*_, _-_, _≤_}
+use Prim.Native.Nat.{ℕ, _+_, _*_, _-_, _<_, _≤_}
 use mathlib.Core.Path.{_≡_, refl, sym, ap, subst, _∙_}
 use mathlib.Core.List.{List}
 use mathlib.Core.Bool.{Bool, true, false, not}
@@ -13,7 +13,7 @@ use Rattle.laws.specs.Bytes.{written, written-length}
 use Rattle.spec.specs.Store.{Store}
 use Rattle.spec.specs.Rules.{countsAsStarted}
 use Rattle.spec.specs.Chain.{Out, good, then, refuse, EnqueuedAnchor}
-use Rattle.spec.specs.History.{linkedCounts, listsOk, afterLists, tested, gapPending, testAnchor, recordBytes, dequeued}
+use Rattle.spec.specs.History.{inHistory, linkedCounts, listsOk, afterLists, tested, gapPending, testAnchor, linkBytes, recordBytes, dequeued}
 use Rattle.spec.specs.OrderInRound.{lists-long}
 use Rattle.spec.specs.Links.{resolved-named}
 use Rattle.spec.specs.Walk.{Anchored, Tested, test-good}
@@ -30,7 +30,7 @@ use Rattle.tables_test.specs.Model.{shape-says, places-says}
 use Rattle.tables_test.specs.View.{view}
 use Rattle.tables_test.specs.Refines.{Started, counted}
 use Rattle.dag_round_order.specs.Span.{below-le}
-use Rattle.back_history.specs.Model.{isUncommitted}
+use Rattle.back_history.specs.Model.{isUncommitted, Range}
 use Rattle.back_history.specs.Picked.{uncommittedAt}
 use Rattle.back_history.specs.RefinesNeeded.{named-used, low-high}
 use Rattle.back_history.specs.Refines.{well, in-elim, in-intro}
@@ -41,13 +41,15 @@ use Rattle.back_order.specs.Drawn.{drawnBy}
 use Rattle.back_order.specs.Refines.{counts-are, rest-is}
 use Rattle.answer_bytes.specs.Bytes.{placeId}
 use Rattle.back_history.specs.Refines.{picked}
+use Rattle.output_record.specs.Links.{linkOf}
+use Rattle.output_record.specs.LinksAre.{link-is}
 use Rattle.output_record.specs.Listed.{roundsBy, Ranking}
 use Rattle.output_record.specs.Picked.{isPicked}
 use Rattle.output_record.specs.Marks.{Small, marksAll}
 use Rattle.output_record.specs.ModelState.{afterState}
 use Rattle.output_record.specs.History.{Picks, history-is}
 use Rattle.output_record.specs.Refines.{anchor-ready, tables-ready, record-is, drawn-length, record-size, committed-view, committed-counts}
-use Rattle.commit_dequeue.specs.Model.{Pickable, Listing, Drawable, Placed, numberFor, number-fits, countsFor, sizeFor, recordFor, lenFor, bytesFor, listedFor, Step, oneWith, oneIn, oneOf}
+use Rattle.commit_dequeue.specs.Model.{Pickable, Listing, Drawable, Placed, numberFor, number-fits, countsFor, sizeFor, recordFor, sourcesFor, lenFor, bytesFor, listedFor, Step, oneWith, oneIn, oneOf}
 
 -- what the commit of the anchor e, from byte at on, leaves of the store v, the lists l and the buffer b, in 01's terms
 pub record Says (v : Store) (l b : List ℕ) (at : ℕ) (e : EnqueuedAnchor) (c : Check) (v′ : Store) (l′ b′ : List ℕ) (end : ℕ) : Type 0 where
@@ -66,13 +68,13 @@ pub record Says (v : Store) (l b : List ℕ) (at : ℕ) (e : EnqueuedAnchor) (c 
 -- ---- the tests
 
 -- 20, 24 and 21 after its tests; the record's length is asked of right lists only
-number-is : (c : Check) (a gap n left size : ℕ) (w ok : Bool) → w ≡ eqb gap 1 → (ok ≡ true → size ≡ 99 + n * 37)
+number-is : (c : Check) (a gap n left size : ℕ) (w ok : Bool) → w ≡ eqb gap 1 → (ok ≡ true → size ≡ 99 + n * 82)
     → unlessFailed (numberFor c gap ok n left) (good a) ≡ then (unlessFailed c (good a)) (λ x. refuse w 20 (refuse (not ok) 24 (refuse (ltb left size) 21 (good a))))
 unfolding unlessFailed numberFor orNext refuse refusalOf
 number-is (Failed r) a gap n left size w ok e d = refl
 number-is Passed a gap n left size w false e d = rw e (byTest (eqb gap 1) (λ g. rw g refl) (λ g. rw g refl))
 number-is Passed a gap n left size w true e d =
-    rw (e, d refl) (byTest (eqb gap 1) (λ g. rw g refl) (λ g. rw g (byTest (ltb left (99 + n * 37)) (λ l. rw l refl) (λ l. rw l refl))))
+    rw (e, d refl) (byTest (eqb gap 1) (λ g. rw g refl) (λ g. rw g (byTest (ltb left (99 + n * 82)) (λ l. rw l refl) (λ l. rw l refl))))
 
 module _ (s : State) (ks ls cs os : List ℕ) (fk : Fit ks) (fl : Fit ls) (h : countsAsStarted (view s ks ls cs os) ≡ true) (e : EnqueuedAnchor) (x : Anchored (view s ks ls cs os) e) where
   -- the store
@@ -129,6 +131,11 @@ module _ (s : State) (ks ls cs os : List ℕ) (fk : Fit ks) (fl : Fit ls) (h : c
     pub marked-counts : Tested v (e .anchor) → countsAsStarted (view (afterState s (roundAt ks (e .anchor)) (roundAt ks (e .proof)) (authorAt ks (e .anchor))) ks ls (marksAll os (t .marks) (t .low) cs (t .high)) os) ≡ true
     marked-counts = committed-counts s ks ls cs os fk fl h e anchor-used proof-used (t .marks) (t .low) (t .high) high-le picks long x
 
+  -- what is told of a point of its history, from what is noted for it
+  told-is : (q : ℕ) → Used os (s .count) q → inHistory v (e .anchor) q ≡ true → linkOf ks (sourcesFor s ks ls cs os t) q ≡ linkBytes v (e .anchor) q
+  unfolding testedOf testedIn gatheredOf gatheredIn historySpan
+  told-is = link-is s ks ls cs os fk fl held (e .anchor) anchor-used
+
   -- how many points its rounds have
   counted-is : countsFor s ks os (t .marks) (t .lowest .0) (e .anchor) ≡ linkedCounts v (e .anchor)
   unfolding testedOf testedIn gatheredOf gatheredIn historySpan
@@ -140,8 +147,8 @@ module _ (s : State) (ks ls cs os : List ℕ) (fk : Fit ks) (fl : Fit ls) (h : c
 
   module _ (l : List ℕ) (ok : listsOk (countsFor s ks os (t .marks) (t .lowest .0) (e .anchor)) l ≡ true) where
     -- the record's length
-    size-is : length (recordBytes v l e) ≡ 99 + t .count * 37
-    size-is = record-size s ks ls cs os fk fl h e anchor-used proof-used (t .marks) (t .low) (t .high) high-le picks l (sym (right-is l) ∙ ok) ∙ ap (λ (n : ℕ). 99 + n * 37) (sym count-is)
+    size-is : length (recordBytes v l e) ≡ 99 + t .count * 82
+    size-is = record-size s ks ls cs os fk fl h e anchor-used proof-used (t .marks) (t .low) (t .high) high-le picks l (sym (right-is l) ∙ ok) ∙ ap (λ (n : ℕ). 99 + n * 82) (sym count-is)
 
     -- the number of points that come out
     drawn-count : t .count ≡ length (drawnBy ks os (s .count) cs (t .marks) (roundsBy (roundAt ks (e .anchor)) (t .lowest .0)) l)
@@ -149,9 +156,9 @@ module _ (s : State) (ks ls cs os : List ℕ) (fk : Fit ks) (fl : Fit ls) (h : c
     drawn-count = count-is ∙ sym (drawn-length s ks ls cs os fk fl h e anchor-used proof-used (t .marks) (t .low) (t .high) high-le picks l (sym (right-is l) ∙ ok))
 
     -- the record
-    record-same : Tested v (e .anchor) → recordFor s ks cs os (t .marks) (t .lowest .0) l e (lenFor ls cs os t) (bytesFor ls cs os t) ≡ recordBytes v l e
+    record-same : Tested v (e .anchor) → recordFor s ks (sourcesFor s ks ls cs os t) cs os (t .marks) (t .lowest .0) l e (lenFor ls cs os t) (bytesFor ls cs os t) ≡ recordBytes v l e
     unfolding recordFor testedOf testedIn gatheredOf gatheredIn historySpan
-    record-same = record-is s ks ls cs os fk fl h e anchor-used proof-used (t .marks) (t .low) (t .high) high-le picks l (sym (right-is l) ∙ ok)
+    record-same = record-is s ks ls cs os fk fl h e anchor-used proof-used (t .marks) (t .low) (t .high) high-le picks l (sym (right-is l) ∙ ok) (sourcesFor s ks ls cs os t) told-is
 
   -- ---- what the code is given
 
@@ -187,6 +194,13 @@ module _ (s : State) (ks ls cs os : List ℕ) (fk : Fit ks) (fl : Fit ls) (h : c
       let (n, (a, b, c, d, f), g) = picked-ready r is in
       let (k, l, w) = shape-says ks ls cs os (held .shaped) in
       (a, b, omega (arith, b, c, w), c, omega (arith, l, w), f)
+
+  -- for the links behind them
+  pub sources-ready : (r : code.Tested) → r ≡ t → Range cs os (r .low) (r .high) × ((length ks ≡ length os * 8) × (length ls ≡ length os * 328))
+  sources-ready r is =
+      let (n, (a, b, c, d, f), g) = picked-ready r is in
+      let (k, l, w) = shape-says ks ls cs os (held .shaped) in
+      ((a, b, ranking .places, w, λ i x. subst (λ y. placeAt os i < y) w (f i x)), (k, l))
 
   module _ (l : List ℕ) (from : ℕ) where
     -- its record, from what the tests and the lists gave
@@ -248,14 +262,14 @@ module _ (s : State) (ks ls cs os : List ℕ) (fk : Fit ks) (fl : Fit ls) (h : c
         rest-same = rest-is s ks ls cs os fk fl held (e .anchor) anchor-used l from _ refl
 
         -- its last byte
-        end-is : at + 99 + t .count * 37 ≡ at + length (recordBytes v here e)
+        end-is : at + 99 + t .count * 82 ≡ at + length (recordBytes v here e)
         end-is = omega (arith, size-is here right)
 
-        end-within : at + 99 + t .count * 37 ≤ length b
+        end-within : at + 99 + t .count * 82 ≤ length b
         end-within = let p = test-good v here _ _ (e .anchor) _ passes in omega (arith, size-is here right, p .3)
 
         says-taken : Says v here b at e Passed (view (afterState s (roundAt ks (e .anchor)) (roundAt ks (e .proof)) (authorAt ks (e .anchor))) ks ls (marksAll os (t .marks) (t .low) cs (t .high)) os)
-            (drop (from + sizeFor s ks os (t .marks) (t .lowest .0) (e .anchor)) l) (written b at (recordFor s ks cs os (t .marks) (t .lowest .0) here e (lenFor ls cs os t) (bytesFor ls cs os t))) (at + 99 + t .count * 37)
+            (drop (from + sizeFor s ks os (t .marks) (t .lowest .0) (e .anchor)) l) (written b at (recordFor s ks (sourcesFor s ks ls cs os t) cs os (t .marks) (t .lowest .0) here e (lenFor ls cs os t) (bytesFor ls cs os t))) (at + 99 + t .count * 82)
         unfolding unlessFailed
         says-taken = record {
           outcome = sym passes;

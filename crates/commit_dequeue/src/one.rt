@@ -11,15 +11,17 @@ ghost use Rattle.spec.specs.Walk.{Anchored};
 ghost use Rattle.models.specs.Tables.{roundAt, authorAt};
 ghost use Rattle.tables_test.specs.View.{view};
 ghost use Rattle.back_walk.specs.Refines.{enqueuedOf};
+ghost use Rattle.back_behind.specs.Model.{Sourced};
 ghost use Rattle.output_record.specs.ModelState.{afterState};
 ghost use Rattle.commit_dequeue.specs.Model.{Listing, Drawable, Placed, numberFor, countsFor, sizeFor, recordFor, stepOf, oneOf};
 ghost use Rattle.commit_dequeue.specs.Refines.{Says};
+use back_behind::link_sources;
 use back_committable::anchor::test_anchor;
 use back_order::Listed;
 use back_order::lists_fit;
 use back_walk::EnqueuedAnchor;
 use commit_state::state::State;
-use models::output::ID_BYTES;
+use models::output::POINT_BYTES;
 use models::output::RECORD_BYTES;
 use models::parts::Round;
 use models::place::round_at;
@@ -60,7 +62,7 @@ fn number_for(check: Check, gap: u32, listed: bool, count: usize, left: usize) -
     if !listed {
         return Check::Failed(Refusal::Number(BAD_LISTS));
     }
-    if left < RECORD_BYTES + count * ID_BYTES {
+    if left < RECORD_BYTES + count * POINT_BYTES {
         return Check::Failed(Refusal::Number(NO_ROOM));
     }
     Check::Passed
@@ -86,7 +88,8 @@ fn list_anchor(
     lists_fit(keys, order, s.count, marks, lists, from, round, lowest)
 }
 
-// The record of the anchor, of `count` points, in the order that its lists say, which end at `lists_end`; then the sums over them.
+// The record of the anchor, of `count` points, in the order that its lists say, which end at `lists_end`; what `by` notes for each, then
+// the sums over them.
 fn put_anchor(
     s: State,
     keys: &[u64],
@@ -97,16 +100,17 @@ fn put_anchor(
     b: &mut [u8],
     at: usize,
     e: EnqueuedAnchor,
+    by: &[u16; PLACES_MAX],
     marks: &[bool; PLACES_MAX],
     lowest: Round,
     count: usize,
     sums: PayloadSums,
 ) -> usize
-    requires { ⌜ Drawable s (now keys) (now certs) (now order) (now lists) «lists_end» (now marks) (lowest .0) (enqueuedOf e) count ⌝ }
+    requires { ⌜ Drawable s (now keys) (now certs) (now order) (now lists) «lists_end» (now marks) (lowest .0) (enqueuedOf e) count × Sourced (length (now keys)) (now by) ⌝ }
     requires { ⌜ Placed (now keys) (now certs) (enqueuedOf e) ⌝ }
-    requires { ⌜ at + 99 + count * 37 ≤ length (now b) ⌝ }
-    ensures { λ r. ⌜ (r ≡ at + 99 + count * 37) × (now (b .exit) ≡ written (now (b .entry)) at (recordFor s (now (keys .entry)) (now (certs .entry)) (now (order .entry))
-        (now (marks .entry)) (lowest .0) (drop («lists_end» - sizeFor s (now (keys .entry)) (now (order .entry)) (now (marks .entry)) (lowest .0) (e .anchor))
+    requires { ⌜ at + 99 + count * 82 ≤ length (now b) ⌝ }
+    ensures { λ r. ⌜ (r ≡ at + 99 + count * 82) × (now (b .exit) ≡ written (now (b .entry)) at (recordFor s (now (keys .entry)) (now (by .entry)) (now (certs .entry))
+        (now (order .entry)) (now (marks .entry)) (lowest .0) (drop («lists_end» - sizeFor s (now (keys .entry)) (now (order .entry)) (now (marks .entry)) (lowest .0) (e .anchor))
         (now (lists .entry))) (enqueuedOf e) (sums .len) (sums .bytes))) ⌝ }
 {
     let anchor = e.anchor as usize;
@@ -120,6 +124,7 @@ fn put_anchor(
         b,
         at,
         keys,
+        by,
         marks,
         order,
         certs,
@@ -188,6 +193,8 @@ pub fn dequeue_anchor(
         };
     }
     let sums = payload_sums(&marks, links, certs, order, t.low, t.high);
+    let bottom = s.bottom;
+    let by = link_sources(keys, links, certs, order, bottom, t.low, t.high, &marks);
     let lists_end = listed.end;
     let end = put_anchor(
         s,
@@ -199,6 +206,7 @@ pub fn dequeue_anchor(
         b,
         at,
         e,
+        &by,
         &marks,
         t.lowest,
         t.count,

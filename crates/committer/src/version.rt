@@ -12,11 +12,11 @@ pub struct Version {
 
 #[no_mangle]
 pub extern "C" fn committer_library_version() -> Version
-    ensures { λ r. ⌜ (r .major ≡ 0) × (r .minor ≡ 8) × (r .patch ≡ 0) ⌝ }
+    ensures { λ r. ⌜ (r .major ≡ 0) × (r .minor ≡ 9) × (r .patch ≡ 0) ⌝ }
 {
     Version {
         major: 0,
-        minor: 8,
+        minor: 9,
         patch: 0,
     }
 }

@@ -1,5 +1,5 @@
--- Demand 3 (01: 'Demand 3') and the sums (02: N2) of the code: whatever list of calls is made, one after another on the tables that the one
--- before left, with answers, tables and bytes as their contracts say.
+-- Demand 3 (01: 'Demand 3'), the sums (02: N2) and the links behind the points (02: N7) of the code: whatever list of calls is made, one after
+-- another on the tables that the one before left, with answers, tables and bytes as their contracts say.
 use Prim.Native.Nat.{ℕ, suc}
 use mathlib.Core.Path.{_≡_, refl, sym, _∙_, subst, ap, ap₂}
 use mathlib.Core.Bool.{true}
@@ -11,9 +11,10 @@ use Rattle.spec.specs.Store.{Store, retained}
 use Rattle.spec.specs.Rules.{countsAsStarted}
 use Rattle.spec.specs.Calls as calls
 use Rattle.spec.specs.Calls.{Call, StartArgs, start, commit, call, done, flag, anchors, refused}
-use Rattle.spec.specs.Demand.{AllInList, after, History, wrote, histories, Given, gave, resolutions, AllExact, AsSaid, AllAsSaid, AllArrive, Summed}
+use Rattle.spec.specs.Demand.{AllInList, after, History, wrote, histories, Given, gave, resolutions, AllExact, AsSaid, AllAsSaid, AllArrive, Summed, LinksTold}
 use Rattle.spec.specs.HeightEquations.{Sized}
 use Rattle.spec.specs.Demand3.{demand-3, sums-follow}
+use Rattle.spec.specs.LinksFollow.{links-follow}
 use Rattle.models.specs.Digest.{Fit}
 use Rattle.tables_test.specs.Whole.{sized}
 use Rattle.tables_test.specs.Refines.{counted}
@@ -77,10 +78,19 @@ SecondHalf = (d : Tables) → Fit (d .keys) → Fit (d .links) → countsAsStart
     → l .before ≡ lastTables d ms → l .what ≡ commit i ls b
     → (l .left .answer ≡ m .left .answer) × (l .left .buffer ≡ m .left .buffer)
 
--- 02, N2: "Sums follow from the ids in the record and from what was resolved": in each record, as read from the bytes that its commits left
+-- what each record, as read from the bytes that its commits left, says by the accepted resolutions of the list
+abbrev pub EachRecord : (List Given → History → Type 0) → Type 0
+EachRecord P = (s : Made) (b : StartArgs) (ms : List Made) → s .what ≡ start b → answerOf (s .left .answer) ≡ done → Chained (s .left .tables) ms → AllInList (callsOf ms)
+    → (h : History) → List·Memᴰ h (historiesIn ms) → P (resolutionsIn ms) h
+
+-- 02, N2: "Sums follow from the ids in the record and from what was resolved."
 abbrev pub SumsFollow : Type 0
-SumsFollow = (s : Made) (b : StartArgs) (ms : List Made) → s .what ≡ start b → answerOf (s .left .answer) ≡ done → Chained (s .left .tables) ms → AllInList (callsOf ms)
-    → (h : History) → List·Memᴰ h (historiesIn ms) → Summed (resolutionsIn ms) h
+SumsFollow = EachRecord Summed
+
+-- 02, N7: "for each point in the same order, the id of a point of the same history that links to it and the word .. The anchor stands with
+-- itself .. Any other point without such a link is in no history."
+abbrev pub LinksFollow : Type 0
+LinksFollow = EachRecord LinksTold
 
 -- ---- the code's lists are the definitions'
 
@@ -181,8 +191,17 @@ second-half d fk fl c i ls b n m l ms m0 m1 a r v l0 l1 =
 pub demand-3-of-code : FirstHalf × SecondHalf
 demand-3-of-code = (first-half, second-half)
 
-pub sums-of-code : SumsFollow
-sums-of-code s b ms f a r i h m =
+-- what is so of each record by the definitions is so of the code's
+each-of-code : (P : List Given → History → Type 0)
+    → ((s : Store) (b : StartArgs) (cs : List Call) → call s (start b) .answer ≡ done → AllInList cs → let t = call s (start b) .store in (h : History) → List·Memᴰ h (histories t cs) → P (resolutions t cs) h)
+    → EachRecord P
+each-of-code P follow s b ms f a r i h m =
     let (d, e) = start-is s b f a in
-    subst (λ g. Summed g h) (sym (resolutions-is (call (viewOf (s .before)) (start b) .store) (s .left .tables) ms e r))
-    (sums-follow (viewOf (s .before)) b (callsOf ms) d i h (subst (λ hs. List·Memᴰ h hs) (histories-is (call (viewOf (s .before)) (start b) .store) (s .left .tables) ms e r) m))
+    subst (λ g. P g h) (sym (resolutions-is (call (viewOf (s .before)) (start b) .store) (s .left .tables) ms e r))
+    (follow (viewOf (s .before)) b (callsOf ms) d i h (subst (λ hs. List·Memᴰ h hs) (histories-is (call (viewOf (s .before)) (start b) .store) (s .left .tables) ms e r) m))
+
+pub sums-of-code : SumsFollow
+sums-of-code = each-of-code Summed sums-follow
+
+pub links-of-code : LinksFollow
+links-of-code = each-of-code LinksTold links-follow

@@ -15,8 +15,9 @@ use Rattle.laws.specs.Test.{leOr}
 use Rattle.spec.specs.Store.{Store, retained}
 use Rattle.spec.specs.Chain.{Out, bad, good, refuse}
 use Rattle.spec.specs.Calls.{Call, StartArgs, start, call, done}
-use Rattle.spec.specs.Demand.{AllInList, after, History, histories, resolutions, AllExact, AllAsSaid, Summed}
+use Rattle.spec.specs.Demand.{AllInList, after, History, histories, resolutions, Given, AllExact, AllAsSaid, Summed, LinksTold}
 use Rattle.spec.specs.Demand3.{demand-3, sums-follow}
+use Rattle.spec.specs.LinksFollow.{links-follow}
 use Rattle.commit_answer.specs.Answer.{Tables, viewOf}
 use Rattle.trace.specs.Kinds.{kindOf, kindOk, kindKnown}
 use Rattle.trace.specs.Head.{fieldsFit, wholeAt, restAt, fieldsAt, versionOk, kindCode, codeAt, by-zero, code-whole, whole-elim}
@@ -170,7 +171,15 @@ pub trace-first : (room bs : List ℕ) → AllBytes bs → (s : Store) (xs ys zs
     → let t = call (after s xs) (start a) .store in NoDup (joined (λ (h : History). h .ids) (histories t ys)) × AllExact (resolutions t ys) [] (histories t ys) × AllAsSaid t ys × ((r : ℕ) → retained t r ≡ eqb r (a .bottom))
 trace-first room bs h s xs ys zs a e f n = demand-3 .0 (after s xs) a ys f (trace-part room bs h xs ys zs (start a) e n)
 
--- and the sums in it
-pub trace-sums : (room bs : List ℕ) → AllBytes bs → (s : Store) (xs ys zs : List Call) (a : StartArgs) → traceIn room bs .calls ≡ xs ++ (start a ∷ (ys ++ zs)) → call (after s xs) (start a) .answer ≡ done → NoReset ys
-    → let t = call (after s xs) (start a) .store in (x : History) → List·Memᴰ x (histories t ys) → Summed (resolutions t ys) x
+-- and what each record in it says
+abbrev pub EachTraced : (List Given → History → Type 0) → Type 0
+EachTraced P = (room bs : List ℕ) → AllBytes bs → (s : Store) (xs ys zs : List Call) (a : StartArgs) → traceIn room bs .calls ≡ xs ++ (start a ∷ (ys ++ zs)) → call (after s xs) (start a) .answer ≡ done → NoReset ys
+    → let t = call (after s xs) (start a) .store in (x : History) → List·Memᴰ x (histories t ys) → P (resolutions t ys) x
+
+-- its sums (02, N2)
+pub trace-sums : EachTraced Summed
 trace-sums room bs h s xs ys zs a e f n = sums-follow (after s xs) a ys f (trace-part room bs h xs ys zs (start a) e n)
+
+-- the links behind its points (02, N7)
+pub trace-links : EachTraced LinksTold
+trace-links room bs h s xs ys zs a e f n = links-follow (after s xs) a ys f (trace-part room bs h xs ys zs (start a) e n)

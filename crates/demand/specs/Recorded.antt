@@ -1,5 +1,5 @@
--- Demand 3 (01: 'Demand 3') and the sums (02: N2) of the code's loop over recorded calls, the ten of 01's lists and resets: for all bytes,
--- tables and buffers that it is given, with no premise about their widths.
+-- Demand 3 (01: 'Demand 3'), the sums (02: N2) and the links behind the points (02: N7) of the code's loop over recorded calls, the ten of
+-- 01's lists and resets: for all bytes, tables and buffers that it is given, with no premise about their widths.
 use Prim.Native.Nat.{ℕ, suc, _+_, _<_, _^_}
 use mathlib.Core.Path.{_≡_, refl, sym, _∙_, subst, ap, ap₂}
 use mathlib.Core.Bool.{Bool, true, false, cond}
@@ -14,7 +14,7 @@ use Rattle.spec.specs.Rules.{countsAsStarted}
 use Rattle.spec.specs.Calls as calls
 use Rattle.spec.specs.Calls.{Call, StartArgs, start, resetAll, round, name, resolve, certify, gapQuestion, commit, outlook, remove, drop, call, isStart, done, flag, anchors, refused}
 use Rattle.spec.specs.Preservation.{isResetCall}
-use Rattle.spec.specs.Demand.{InList, AllInList, History, AllExact, AllArrive, Summed}
+use Rattle.spec.specs.Demand.{InList, AllInList, History, AllExact, Given, AllArrive, Summed, LinksTold}
 use Rattle.models.specs.Digest.{Fit}
 use Rattle.commit_answer.specs.Answer.{Tables, viewOf, Left, outcomeOf, answerOf, Did, byTables, call-by}
 use Rattle.commit_answer.specs.declared.answer.Outcome.{Outcome}
@@ -27,7 +27,7 @@ use Rattle.trace.specs.WriteBack.{AllBytes, number-below}
 use Rattle.play_calls.specs.Calls.{takesBuffer, modelBy}
 use Rattle.play.specs.Plays.{Plays, PlaysAt, plays-good}
 use Rattle.play.specs.Runs.{Runs, none-yet, one-more}
-use Rattle.demand.specs.Code.{Made, Chained, lastTables, callsOf, historiesIn, resolutionsIn, AllSaid, demand-3-of-code, sums-of-code}
+use Rattle.demand.specs.Code.{Made, Chained, lastTables, callsOf, historiesIn, resolutionsIn, AllSaid, EachRecord, demand-3-of-code, sums-of-code, links-of-code}
 
 -- ---- the calls of a run
 
@@ -236,10 +236,21 @@ pub first : {w : Bool} {room bs : List ℕ} {d : Tables} {p : ℕ} {t : List ℕ
     → NoDup (joined (λ (h : History). h .ids) (historiesIn ys)) × AllExact (resolutionsIn ys) [] (historiesIn ys) × AllSaid ys × ((x : ℕ) → retained (viewOf (s .left .tables)) x ≡ eqb x (a .bottom))
 first r xs ys zs s a g f k n = let (h, i) = stretch r xs ys zs s g n in demand-3-of-code .0 s a ys f k h i
 
--- and the sums in it (02, N2): "Sums follow from the ids in the record and from what was resolved."
-pub sums : {w : Bool} {room bs : List ℕ} {d : Tables} {p : ℕ} {t : List ℕ} {e : Tables} (r : Runs w room bs d p t e) (xs ys zs : List Made) (s : Made) (a : StartArgs) → madeIn r ≡ xs ++ (s ∷ (ys ++ zs))
-    → s .what ≡ start a → answerOf (s .left .answer) ≡ done → NoReset (callsOf ys) → (h : History) → List·Memᴰ h (historiesIn ys) → Summed (resolutionsIn ys) h
-sums r xs ys zs s a g f k n = let (h, i) = stretch r xs ys zs s g n in sums-of-code s a ys f k h i
+-- and what each record of such a stretch says
+abbrev pub EachOf : (List Given → History → Type 0) → List Made → Type 0
+EachOf P made = (xs ys zs : List Made) (s : Made) (a : StartArgs) → made ≡ xs ++ (s ∷ (ys ++ zs)) → s .what ≡ start a → answerOf (s .left .answer) ≡ done → NoReset (callsOf ys)
+    → (h : History) → List·Memᴰ h (historiesIn ys) → P (resolutionsIn ys) h
+
+each : {w : Bool} {room bs : List ℕ} {d : Tables} {p : ℕ} {t : List ℕ} {e : Tables} (P : List Given → History → Type 0) → EachRecord P → (r : Runs w room bs d p t e) → EachOf P (madeIn r)
+each P follow r xs ys zs s a g f k n = let (h, i) = stretch r xs ys zs s g n in follow s a ys f k h i
+
+-- its sums (02, N2): "Sums follow from the ids in the record and from what was resolved."
+pub sums : {w : Bool} {room bs : List ℕ} {d : Tables} {p : ℕ} {t : List ℕ} {e : Tables} (r : Runs w room bs d p t e) → EachOf Summed (madeIn r)
+sums r = each Summed sums-of-code r
+
+-- the links behind its points (02, N7)
+pub links : {w : Bool} {room bs : List ℕ} {d : Tables} {p : ℕ} {t : List ℕ} {e : Tables} (r : Runs w room bs d p t e) → EachOf LinksTold (madeIn r)
+links r = each LinksTold links-of-code r
 
 -- a commit that is played after a run of late calls, and the same one, with the same lists, played before it: demand 3's second half
 pub second : {w : Bool} {room bs : List ℕ} {d : Tables} {p : ℕ} {t : List ℕ} {e : Tables} (r : Runs w room bs d p t e) → AllArrive (viewOf d) (callsOf (madeIn r))

@@ -143,17 +143,17 @@ module _ (v : List ℕ) (n : ℕ) (b₀ : List ℕ) (at : ℕ) where
     pub putting-room : at + length v ≤ length b₀ → next + 33 ≤ length b
     putting-room h = omega (arith, putting-there left from next b l i, i .near, i .same)
 
-    pub putting-fits : (points : ℕ) → points ≡ numberAt v (from + 79) 4 → from + 99 + points * 37 ≤ length v
+    pub putting-fits : (points : ℕ) → points ≡ numberAt v (from + 79) 4 → from + 99 + points * 82 ≤ length v
     unfolding pointsAt
     putting-fits points e = let w = putting-there left from next b l i in let q : points ≡ field v (from + 79) 4 = e ∙ field-number v (from + 79) 4 (omega arith) in omega arith
 
   -- one line more
   pub putting-step : (left from next : ℕ) (b : List ℕ) → 0 < left → Putting v n b₀ at left from next b
       → (round author points : ℕ) → round ≡ numberAt v from 4 → author ≡ getD v (from + 4) 0 → points ≡ numberAt v (from + 79) 4
-      → (e : ℕ) (b₁ : List ℕ) → length b₁ ≡ length b → Put b next (lineText (anchorLine round author points)) e b₁ × (e ≤ next + 33) → Putting v n b₀ at (left - 1) (from + 99 + points * 37) e b₁
+      → (e : ℕ) (b₁ : List ℕ) → length b₁ ≡ length b → Put b next (lineText (anchorLine round author points)) e b₁ × (e ≤ next + 33) → Putting v n b₀ at (left - 1) (from + 99 + points * 82) e b₁
   unfolding HoldsFrom nextAt text joined linesAt lineAt pointsAt
   putting-step zero from next b l i round author points er ea ep e b₁ s (p, f) = absurd (omega arith)
-  putting-step (suc left) from next b l i round author points er ea ep e b₁ s (p, f) = subst (λ k. Putting v n b₀ at k (from + 99 + points * 37) e b₁) one-less (record {
+  putting-step (suc left) from next b l i round author points er ea ep e b₁ s (p, f) = subst (λ k. Putting v n b₀ at k (from + 99 + points * 82) e b₁) one-less (record {
     holds = subst (HoldsFrom left v) goes (i .holds .1);
     near = omega (arith, i .near, f);
     inside = putting-fits (suc left) from next b l i points ep;
@@ -170,7 +170,7 @@ module _ (v : List ℕ) (n : ℕ) (b₀ : List ℕ) (at : ℕ) where
       read : points ≡ field v (from + 79) 4
       read = ep ∙ field-number v (from + 79) 4 (omega arith)
 
-      goes : from + recordLength (field v (from + 79) 4) ≡ from + 99 + points * 37
+      goes : from + recordLength (field v (from + 79) 4) ≡ from + 99 + points * 82
       goes = omega (arith, read)
 
       line : Put b next (lineText (anchorLine (field v from 4) (field v (from + 4) 1) (field v (from + 79) 4))) e b₁

@@ -11,7 +11,7 @@ use crate::line::put_anchor;
 use crate::line::put_refused;
 use commit_answer::answer::Answer;
 use models::output::ID_AUTHOR;
-use models::output::ID_BYTES;
+use models::output::POINT_BYTES;
 use models::output::RECORD_BYTES;
 use models::output::RECORD_POINTS;
 use models::refusal::refusal_number;
@@ -54,7 +54,7 @@ fn put_anchors(b: &[u8], n: u32, out: &mut [u8], at: usize) -> usize
         let author = byte_of(b, from + ID_AUTHOR);
         let points = number_of(b, from + RECORD_POINTS);
         next = put_anchor(out, next, round, author, points);
-        from = from + RECORD_BYTES + points as usize * ID_BYTES;
+        from = from + RECORD_BYTES + points as usize * POINT_BYTES;
         left -= 1;
     }
     next

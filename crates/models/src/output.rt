@@ -19,6 +19,22 @@ pub const ID_DIGEST: usize = 5;
 // An anchor record without its points: two ids, executable (1), previous anchor (4), number of points (4), two sums (8 each).
 pub const RECORD_BYTES: usize = 99;
 
+// A word that is told of a link, filled with zero bytes.
+pub const WORD_BYTES: usize = 8;
+
+// 02, N7: "the word `includes` or `witness`, words filled with zero bytes to 8", "the word `anchor`".
+pub const INCLUDES: [u8; WORD_BYTES] = *b"includes";
+
+pub const WITNESS: [u8; WORD_BYTES] = *b"witness\0";
+
+pub const ANCHOR: [u8; WORD_BYTES] = *b"anchor\0\0";
+
+// What is told of a point: the id of the point behind it, a word.
+pub const LINK_BYTES: usize = ID_BYTES + WORD_BYTES;
+
+// What a record has for each point: its id, and what is told of it.
+pub const POINT_BYTES: usize = ID_BYTES + LINK_BYTES;
+
 // An anchor record up to its points' ids.
 pub const RECORD_HEAD_BYTES: usize = 83;
 

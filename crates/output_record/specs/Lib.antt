@@ -1,5 +1,7 @@
 pub mod Picked
 pub mod Sums
+pub mod Links
+pub mod LinksAre
 pub mod Model
 pub mod Listed
 pub mod Marks

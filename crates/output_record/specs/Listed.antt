@@ -10,6 +10,7 @@ use lib.ListN.{length, getD, take, drop, length-append}
 use lib.Seq.{drop-drop}
 use Rattle.laws.specs.Test.{cond-yes, cond-no, leOr}
 use Rattle.laws.specs.Lists.{weigh, weigh-append, getD-in}
+use Rattle.laws.specs.Bytes.{written}
 use Rattle.spec.specs.History.{downFrom, eachOnce, listsOk}
 use Rattle.spec.specs.OrderInRound.{each-length, each-below, lists-head}
 use Rattle.models.specs.Tables.{Inside}
@@ -21,7 +22,8 @@ use Rattle.back_order.specs.Linked.{Run, linkedBy}
 use Rattle.back_order.specs.Each.{part-at}
 use Rattle.back_order.specs.Counts.{countBy, countsBy, run-of, count-by}
 use Rattle.back_order.specs.Drawn.{newOf, outBy, ranksBy, drawnBy, out-none, out-step, out-fewer, lists-below, drawn-below}
-use Rattle.output_record.specs.Model.{Wrote, wrote-none, wrote-is, wrote-more}
+use Rattle.output_record.specs.Links.{linksOf}
+use Rattle.output_record.specs.Model.{pointsOf, Wrote, Room, wrote-none, wrote-is, wrote-more, wrote-all}
 
 -- the rounds from r down to lo
 abbrev pub roundsBy : ℕ → ℕ → List ℕ
@@ -130,8 +132,8 @@ module _ (l : List ℕ) (from n : ℕ) (ok : eachOnce n (take n (drop from l)) �
           place = ap (λ x. getD ps x 0) (part-at l from n (n - 1 - j) (omega arith) ∙ sym byte) ∙ sym is
 
       -- there is room for it
-      pub last-room : (ks : List ℕ) (at : ℕ) (b₀ b : List ℕ) (end size : ℕ) → Wrote ks at b₀ (lastOut j) b end → at + length (outBy cs ps list) * 37 ≤ size → end + length (newOf cs q) * 37 ≤ size
-      last-room ks at b₀ b end size (e, d) r = omega (arith, e, r, out-fewer cs ps list (n - (j + 1)), ap length last-more, length-append (lastOut j) (newOf cs q))
+      pub last-room : (k end ids told size : ℕ) → end ≡ k + length (lastOut j) → Room ids told k (length (outBy cs ps list)) size → Room ids told end (length (newOf cs q)) size
+      last-room k end ids told size e r = let fewer = out-fewer cs ps list (n - (j + 1)) in let more = ap length last-more ∙ length-append (lastOut j) (newOf cs q) in (omega (arith, e, r .0, fewer, more), omega (arith, e, r .1, fewer, more))
 
 -- ---- one round
 
@@ -168,8 +170,8 @@ abbrev pub upBy : ℕ → ℕ → List ℕ
 upBy lo k = downFrom (lo + k - 1) k
 
 -- so many rounds were written, and the lists of the others end at `from`
-abbrev pub Sofar : List ℕ → List ℕ → ℕ → List ℕ → List Bool → List ℕ → ℕ → ℕ → ℕ → List ℕ → ℕ → ℕ → List ℕ → ℕ → Type 0
-Sofar ks os n cs m l end lo at b₀ k from b next = (from + sizeBy ks os n m (upBy lo k) ≡ end) × Wrote ks at b₀ (drawnBy ks os n cs m (upBy lo k) (drop from l)) b next
+abbrev pub Sofar : List ℕ → List ℕ → List ℕ → ℕ → List ℕ → List Bool → List ℕ → ℕ → ℕ → ℕ → ℕ → List ℕ → ℕ → ℕ → List ℕ → ℕ → Type 0
+Sofar ks by os n cs m l end lo ids told b₀ k from b next = (from + sizeBy ks os n m (upBy lo k) ≡ end) × Wrote ks by ids told b₀ 0 (drawnBy ks os n cs m (upBy lo k) (drop from l)) b next
 
 -- rounds downwards, in two parts
 down-append : (r j k : ℕ) → downFrom r (j + k) ≡ downFrom r j ++ downFrom (r - j) k
@@ -207,15 +209,17 @@ module _ (ks os : List ℕ) (n : ℕ) (cs : List ℕ) (m : List Bool) (l : List 
   abbrev draw : List ℕ → List ℕ → List ℕ
   draw = drawnBy ks os n cs m
 
-  module _ (at : ℕ) (b₀ : List ℕ) where
+  module _ (by : List ℕ) (ids told : ℕ) (b₀ : List ℕ) where
     -- none at first
-    pub sofar-none : Sofar ks os n cs m l end lo at b₀ 0 end b₀ at
+    pub sofar-none : Sofar ks by os n cs m l end lo ids told b₀ 0 end b₀ 0
     unfolding downFrom weigh drawnBy
-    sofar-none = (omega arith, wrote-none ks at b₀ [] b₀ at refl refl refl)
+    sofar-none = (omega arith, wrote-none ks by ids told b₀ 0 [] b₀ 0 refl refl refl)
 
     -- all rounds
-    pub sofar-all : (k from : ℕ) (b : List ℕ) (next : ℕ) → Sofar ks os n cs m l end lo at b₀ k from b next → k ≡ r + 1 - lo → Wrote ks at b₀ (historyBy ks os n cs m l end r lo) b next
-    sofar-all k from b next (e, w) is = wrote-is ks at b₀ (draw (upBy lo k) (drop from l)) (historyBy ks os n cs m l end r lo) b next (ap (λ x. draw x (drop from l)) rounds ∙ ap (λ x. draw (roundsBy r lo) (drop x l)) start) w
+    pub sofar-all : (k from : ℕ) (b : List ℕ) (next : ℕ) → Sofar ks by os n cs m l end lo ids told b₀ k from b next → k ≡ r + 1 - lo
+        → b ≡ written (written b₀ ids (pointsOf ks (historyBy ks os n cs m l end r lo))) told (linksOf ks by (historyBy ks os n cs m l end r lo))
+    sofar-all k from b next (e, w) is =
+        wrote-all ks by ids told b₀ (historyBy ks os n cs m l end r lo) b next (wrote-is ks by ids told b₀ 0 (draw (upBy lo k) (drop from l)) (historyBy ks os n cs m l end r lo) b next (ap (λ x. draw x (drop from l)) rounds ∙ ap (λ x. draw (roundsBy r lo) (drop x l)) start) w)
       where
         rounds : upBy lo k ≡ roundsBy r lo
         rounds = ap (upBy lo) is ∙ up-all r lo
@@ -281,8 +285,8 @@ module _ (ks os : List ℕ) (n : ℕ) (cs : List ℕ) (m : List Bool) (l : List 
         back = omega (arith, fits)
 
     -- there is room for them
-    pub sofar-room : (at : ℕ) (b₀ b : List ℕ) (next room : ℕ) → Wrote ks at b₀ (draw (upBy lo k) (drop from l)) b next → at + length (historyBy ks os n cs m l end r lo) * 37 ≤ room → next + length (roundBy ks os n cs m l from x) * 37 ≤ room
-    sofar-room at b₀ b next room (f, g) a = omega (arith, f, a, all, ap length drawn-round, length-append (draw (upBy lo k) (drop from l)) (roundBy ks os n cs m l from x))
+    pub sofar-room : (next ids told room : ℕ) → next ≡ length (draw (upBy lo k) (drop from l)) → Room ids told 0 (length (historyBy ks os n cs m l end r lo)) room → Room ids told next (length (roundBy ks os n cs m l from x)) room
+    sofar-room next ids told room f a = let parts = ap length drawn-round ∙ length-append (draw (upBy lo k) (drop from l)) (roundBy ks os n cs m l from x) in (omega (arith, f, a .0, all, parts), omega (arith, f, a .1, all, parts))
       where
         all : length (draw (x ∷ upBy lo k) (drop (from - c) l)) ≤ length (historyBy ks os n cs m l end r lo)
         all =
@@ -295,10 +299,10 @@ module _ (ks os : List ℕ) (n : ℕ) (cs : List ℕ) (m : List Bool) (l : List 
     rising = up-more lo k ∙ ap (λ y. y ∷ upBy lo k) (sym is)
 
     -- one round more
-    pub sofar-more : (at : ℕ) (b₀ b b′ : List ℕ) (next next′ from′ : ℕ) → Wrote ks at b₀ (draw (upBy lo k) (drop from l)) b next → from′ ≡ from - c → Wrote ks next b (roundBy ks os n cs m l from x) b′ next′
-        → Sofar ks os n cs m l end lo at b₀ (k + 1) from′ b′ next′
+    pub sofar-more : (by : List ℕ) (ids told : ℕ) (b₀ b b′ : List ℕ) (next next′ from′ : ℕ) → ids + (next + length (roundBy ks os n cs m l from x)) * 37 ≤ told
+        → Wrote ks by ids told b₀ 0 (draw (upBy lo k) (drop from l)) b next → from′ ≡ from - c → Wrote ks by ids told b next (roundBy ks os n cs m l from x) b′ next′ → Sofar ks by os n cs m l end lo ids told b₀ (k + 1) from′ b′ next′
     unfolding weigh
-    sofar-more at b₀ b b′ next next′ from′ w d v = (
+    sofar-more by ids told b₀ b b′ next next′ from′ room w d v = (
       omega (arith, d, e, fits, ap size rising),
-      wrote-more ks at b₀ (draw (upBy lo k) (drop from l)) (roundBy ks os n cs m l from x) _ b b′ next next′ w v (ap (λ y. draw y (drop from′ l)) rising ∙ (ap (λ y. draw (x ∷ upBy lo k) (drop y l)) d ∙ drawn-round)),
+      wrote-more ks by ids told b₀ 0 (draw (upBy lo k) (drop from l)) (roundBy ks os n cs m l from x) _ b b′ next next′ room w v (ap (λ y. draw y (drop from′ l)) rising ∙ (ap (λ y. draw (x ∷ upBy lo k) (drop y l)) d ∙ drawn-round)),
     )

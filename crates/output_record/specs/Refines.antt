@@ -9,14 +9,14 @@ use lib.Dec.{eqb, leb, ltb}
 use lib.ListN.{length, getD, length-map}
 use borrow.Author.Tests.{ltb-true}
 use Rattle.laws.specs.Test.{byTest, clash, and-l}
-use Rattle.laws.specs.Lists.{joined, map-same, weigh}
+use Rattle.laws.specs.Lists.{joined, joined-same, map-same, weigh}
 use Rattle.laws.specs.Bytes.{be}
 use Rattle.spec.specs.Ids.{Id, idBytes, prev}
 use Rattle.spec.specs.Store as store
 use Rattle.spec.specs.Store.{Resolution, Store, idAt}
 use Rattle.spec.specs.Rules.{isPeer, countsAsStarted}
 use Rattle.spec.specs.Chain.{EnqueuedAnchor}
-use Rattle.spec.specs.History.{isExecutable, isFirstExecutable, prevAnchor, downFrom, linkedCounts, listsOk, inOrder, summed, tailBytes, recordBytes, inHistory, history, setCommitted, gapAfter, useProof, dequeued}
+use Rattle.spec.specs.History.{isExecutable, isFirstExecutable, prevAnchor, downFrom, linkedCounts, listsOk, inOrder, summed, sumBytes, linkBytes, tailBytes, recordBytes, inHistory, history, setCommitted, gapAfter, useProof, dequeued}
 use Rattle.spec.specs.OrderInRound.{order-length}
 use Rattle.spec.specs.Records.{record-length}
 use Rattle.spec.specs.WellFormed.{Wf, countsAsStarted-elim, countsAsStarted-intro}
@@ -40,8 +40,9 @@ use Rattle.back_history.specs.Supposing.{flags-marked, height-marked}
 use Rattle.back_history.specs.RefinesNeeded.{lowestOf, marksOf}
 use Rattle.back_history.specs.Refines.{picked}
 use Rattle.back_order.specs.Drawn.{drawnBy}
-use Rattle.back_order.specs.Refines.{order-is, drawn-used}
+use Rattle.back_order.specs.Refines.{drawn-is, order-is, drawn-used, drawn-in}
 use Rattle.output_record.specs.Sums.{lenSum, bytesSum, sumsOf}
+use Rattle.output_record.specs.Links.{linkOf, linksOf}
 use Rattle.output_record.specs.Model.{flagOf, headOf, pointsOf, recordOf, executes, isFirstOf, previousOf}
 use Rattle.output_record.specs.Marks.{Small, marksAll, marks-length, marks-at, marks-small}
 use Rattle.output_record.specs.ModelState.{afterState, option-is, asked-is, gap-reads, after-rounds}
@@ -143,23 +144,26 @@ module _ (s : State) (ks ls cs os : List ℕ) (fk : Fit ks) (fl : Fit ls) (h : c
           (λ q l k. c .ready q l (and-l _ _ k) .0)
 
       module _ (l : List ℕ) (ok : listsOk (linkedCounts v (e .anchor)) l ≡ true) where
-        -- the record's bytes are those of 01, in the order of 02, N1, with the sums of N2
-        pub record-is : Tested v (e .anchor)
-            → recordOf ks (e .anchor) (e .proof) (executes s (roundAt ks (e .anchor))) (previousOf s (roundAt ks (e .anchor)) (e .prevProofRound))
+        -- the record's bytes are those of 01, in the order of 02, N1, with the links of N7 and the sums of N2
+        pub record-is : (by : List ℕ) → ((q : ℕ) → Used os (s .count) q → inHistory v (e .anchor) q ≡ true → linkOf ks by q ≡ linkBytes v (e .anchor) q) → Tested v (e .anchor)
+            → recordOf ks by (e .anchor) (e .proof) (executes s (roundAt ks (e .anchor))) (previousOf s (roundAt ks (e .anchor)) (e .prevProofRound))
             (drawnBy ks os (s .count) cs (marksOf s ks ls cs os (e .anchor)) (downFrom (roundAt ks (e .anchor)) (roundAt ks (e .anchor) + 1 - lowestOf s (roundAt ks (e .anchor)))) l)
             (lenSum ls os (isUncommitted cs m) low (high - low)) (bytesSum ls os (isUncommitted cs m) low (high - low)) ≡ recordBytes v l e
-        unfolding recordOf headOf pointsOf recordBytes flagOf sumsOf tailBytes
-        record-is c =
+        unfolding recordOf headOf pointsOf recordBytes flagOf linksOf sumsOf tailBytes sumBytes
+        record-is by told c =
             let is = sym (order-named l ok) in
             let anchor = sym (id-is (e .anchor) ua) in
             let proof = sym (id-is (e .proof) up) in
             let flag = ap (λ (b : Bool). be 1 (cond b 1 0)) (sym executable-is) in
             let before = ap (be 4) (sym previous-is) in
             let number = ap (be 4) (sym (length-map (drawnFor l) (placeId ks)) ∙ ap length is) in
+            let links =
+            joined-same (linkOf ks by) (linkBytes v (e .anchor)) (drawnFor l) (λ q k. told q (drawn-used s ks ls cs os fk fl t (e .anchor) ua l ok q k) (drawn-in s ks ls cs os fk fl t (e .anchor) ua l ok q k))
+            ∙ ap (joined (linkBytes v (e .anchor))) (drawn-is s ks ls cs os fk fl t (e .anchor) ua l ok) in
             let len = sum-of c (λ r. r .payloadLen) in
             let bytes = sum-of c (λ r. r .payloadBytes) in
             six-parts (idBytes (placeId ks (e .anchor))) (idBytes (placeId ks (e .proof))) (be 1 (cond (executes s ar) 1 0)) (be 4 (previousOf s ar (e .prevProofRound))) (be 4 (length (drawnFor l))) _
-            ∙ (λ i. idBytes (anchor i) ++ (idBytes (proof i) ++ (flag i ++ (before i ++ (number i ++ (joined idBytes (is i) ++ (be 8 (len i) ++ be 8 (bytes i))))))))
+            ∙ (λ i. idBytes (anchor i) ++ (idBytes (proof i) ++ (flag i ++ (before i ++ (number i ++ (joined idBytes (is i) ++ (links i ++ (be 8 (len i) ++ be 8 (bytes i)))))))))
 
         -- as many come out
         pub drawn-length : length (drawnBy ks os (s .count) cs (marksOf s ks ls cs os (e .anchor)) (downFrom (roundAt ks (e .anchor)) (roundAt ks (e .anchor) + 1 - lowestOf s (roundAt ks (e .anchor)))) l) ≡ length (picked os (isUncommitted cs m) low (high - low))
@@ -168,8 +172,8 @@ module _ (s : State) (ks ls cs os : List ℕ) (fk : Fit ks) (fl : Fit ls) (h : c
             ∙ (ap length (sym (order-named l ok)) ∙ (order-length v w (e .anchor) (used-named s ks ls cs os fk w (t .facts .sorted) (e .anchor) ua) l ok ∙ number-is))
 
         -- the record's length
-        pub record-size : length (recordBytes v l e) ≡ 99 + length (picked os (isUncommitted cs m) low (high - low)) * 37
-        record-size = record-length v w l e (used-named s ks ls cs os fk w (t .facts .sorted) (e .anchor) ua) ok ∙ (ap (λ (k : ℕ). 83 + k * 37 + 16) number-is ∙ omega arith)
+        pub record-size : length (recordBytes v l e) ≡ 99 + length (picked os (isUncommitted cs m) low (high - low)) * 82
+        record-size = record-length v w l e (used-named s ks ls cs os fk w (t .facts .sorted) (e .anchor) ua) ok ∙ (ap (λ (k : ℕ). 83 + k * 37 + (k * 45 + 16)) number-is ∙ omega arith)
 
       -- what the code is given: the tables
       pub tables-ready : (high ≤ length os) × (length cs ≤ 4096) × (length cs * 8 ≤ length ks) × Inside os high (length cs) × Small os cs high

@@ -1,18 +1,24 @@
 // Origin: none.
-// The lines of committed anchors, from the records in an answer buffer.
+// The lines of committed anchors and of the links behind their points, from the records in an answer buffer.
 ghost use Prim.Native.Nat.{_+_, _*_, _≤_};
 ghost use lib.ListN.{length};
 use crate::text::write;
 use crate::text::write_digest;
 use crate::text::write_number;
 use models::output::ID_BYTES;
+use models::output::LINK_BYTES;
+use models::output::POINT_BYTES;
 use models::output::RECORD_BYTES;
 use models::output::RECORD_HEAD_BYTES;
 use models::parts::PointId;
 use trace::anchors::AnchorHead;
 use trace::anchors::AnchorSums;
+use trace::anchors::WORD_ANCHOR;
+use trace::anchors::WORD_INCLUDES;
+use trace::anchors::WORD_WITNESS;
 use trace::anchors::anchor_head;
 use trace::anchors::anchor_sums;
+use trace::anchors::word_at;
 use trace::bytes::id_of;
 
 // An id after its name, with a mark between its parts.
@@ -50,7 +56,33 @@ pub fn write_ids(b: &[u8], at: usize, n: usize)
     }
 }
 
-// The line of the record at the offset. Says where the next one begins: the end of the bytes, if no whole record stands there.
+// The word of a link, after a space; `?` for bytes that are none of the three words.
+fn write_word(word: u32) {
+    match word {
+        WORD_INCLUDES => write(b" includes\n"),
+        WORD_WITNESS => write(b" witness\n"),
+        WORD_ANCHOR => write(b" anchor\n"),
+        _ => write(b" ?\n"),
+    }
+}
+
+// A line for each of the n points, their ids from one offset on, what is told of them from another.
+fn write_links(b: &[u8], ids: usize, told: usize, n: usize)
+    requires { ⌜ (ids + n * 37 ≤ length (now b)) × (told + n * 45 ≤ length (now b)) ⌝ }
+{
+    let mut i: usize = 0;
+    while i < n {
+        let id = id_of(b, ids + i * ID_BYTES);
+        write_id(b"link ", id, b".");
+        let by = id_of(b, told + i * LINK_BYTES);
+        write_id(b" by ", by, b".");
+        let word = word_at(b, told + i * LINK_BYTES + ID_BYTES);
+        write_word(word);
+        i += 1;
+    }
+}
+
+// The lines of the record at the offset. Says where the next one begins: the end of the bytes, if no whole record stands there.
 fn write_anchor(b: &[u8], at: usize) -> usize
     requires { ⌜ at ≤ length (now b) ⌝ }
     ensures { λ r. ⌜ r ≤ length (now (b .entry)) ⌝ }
@@ -61,15 +93,17 @@ fn write_anchor(b: &[u8], at: usize) -> usize
     }
     let head = anchor_head(b, at);
     let n = head.points as usize;
-    if (left - RECORD_BYTES) / ID_BYTES < n {
+    if (left - RECORD_BYTES) / POINT_BYTES < n {
         return b.len();
     }
     let ids = at + RECORD_HEAD_BYTES;
-    let sums = anchor_sums(b, ids + n * ID_BYTES);
+    let told = ids + n * ID_BYTES;
+    let sums = anchor_sums(b, told + n * LINK_BYTES);
     write_head(head, sums);
     write_ids(b, ids, n);
     write(b"\n");
-    at + RECORD_BYTES + n * ID_BYTES
+    write_links(b, ids, told, n);
+    at + RECORD_BYTES + n * POINT_BYTES
 }
 
 // The lines of the first n records.

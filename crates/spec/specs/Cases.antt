@@ -31,7 +31,7 @@ thirteen =
     ∷ certify (id 13 0 130) ∷ []
 
 abbrev k13 : Outcome
-k13 = call (after (blank 6) thirteen) (commit (id 15 0 150) (0 ∷ 0 ∷ 1 ∷ 0 ∷ []) (replicate 300 0))
+k13 = call (after (blank 6) thirteen) (commit (id 15 0 150) (0 ∷ 0 ∷ 1 ∷ 0 ∷ []) (replicate 427 0))
 
 -- the number of points of the first record
 abbrev points : List ℕ → ℕ

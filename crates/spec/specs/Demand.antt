@@ -14,7 +14,7 @@ use Rattle.spec.specs.Store.{Resolution, Store, idAt, find, statusAt, re
 use Rattle.spec.specs.Paths.{Path}
 use Rattle.spec.specs.Rules.{countsAsStarted}
 use Rattle.spec.specs.Chain.{Refusal, number, Out, bad, good, EnqueuedAnchor, anchorsOf}
-use Rattle.spec.specs.History.{limit, listsOk, afterLists, recordBytes, testAnchor, dequeued}
+use Rattle.spec.specs.History.{limit, listsOk, afterLists, includesWord, witnessWord, anchorWord, recordBytes, testAnchor, dequeued}
 use Rattle.spec.specs.Calls.{Answer, done, flag, anchors, refused, Outcome, withoutBuffer, StartArgs, Call, start, resetAll, round, name, resolve, certify, gapQuestion, commit, outlook, remove, drop as dropTo, call}
 use Rattle.spec.specs.HeightEquations.{Sized}
 
@@ -50,9 +50,10 @@ pub record History : Type 0 where
   pub ids : List Id
   pub tail : List ℕ
 
--- the bytes that follow the ids of a record of n points; 02, N2: "an anchor record ends with their two 64-bit sums"
+-- the bytes that follow the ids of a record of n points; 02, N7: an id and a word of 8 bytes for each point; N2: "an anchor record ends with
+-- their two 64-bit sums"
 abbrev pub tailSize : ℕ → ℕ
-tailSize n = 16
+tailSize n = n * 45 + 16
 
 -- "Its histories are the ids that follow the number of points, as many as it says, in each anchor record that its commits wrote, in the
 -- order written". The number stands after two ids, the executable byte and the previous anchor round: at byte 79.
@@ -211,12 +212,52 @@ paid f (g ∷ gs) x = elim (sameId (g .who) x) [ true ↦ f g | false ↦ paid f
 
 -- "Sums follow from the ids in the record and from what was resolved."
 abbrev pub Summed : List Given → History → Type 0
-Summed G h = h .tail ≡ be 8 (weigh (paid (λ g. g .payloadLen) G) (h .ids)) ++ be 8 (weigh (paid (λ g. g .payloadBytes) G) (h .ids))
+Summed G h = drop (length (h .ids) * 45) (h .tail) ≡ be 8 (weigh (paid (λ g. g .payloadLen) G) (h .ids)) ++ be 8 (weigh (paid (λ g. g .payloadBytes) G) (h .ids))
 
 -- so it is of every record, for any list of the ten calls after a start that isn't refused
 abbrev pub SumsFollow : Type 0
 SumsFollow = (s : Store) (b : StartArgs) (cs : List Call) → call s (start b) .answer ≡ done → AllInList cs
     → let t = call s (start b) .store in (h : History) → List·Memᴰ h (histories t cs) → Summed (resolutions t cs) h
+
+-- ---- the links behind the points (02: N7)
+
+-- what follows the ids: of each point the id that is told and a word of 8 bytes
+pub record ToldLink : Type 0 where
+  pub by : Id
+  pub word : List ℕ
+
+unfoldable pub readLinks : ℕ → List ℕ → List ToldLink
+readLinks zero bs = []
+readLinks (suc n) bs = record { by = readId bs; word = take 8 (drop 37 bs) } ∷ readLinks n (drop 45 bs)
+
+-- what is told of a point x of the history h that isn't its anchor
+pub record LinkBehind (G : List Given) (h : History) (x : Id) (t : ToldLink) : Type 0 where
+  -- "the id of a point of the same history that links to it", by a link as an accepted resolution gave it
+  pub inside : List·Memᴰ (t .by) (h .ids)
+  pub edge : Edge G (t .by) x
+  -- "and the word `includes` or `witness`"; 01: "Includes lead one round down, witness two."
+  pub kind : ((edge .link .dist ≡ 1) × (t .word ≡ includesWord)) ⊎ ((edge .link .dist ≡ 2) × (t .word ≡ witnessWord))
+  -- "Among several it is the one in the highest round, then with the lowest digest."
+  pub first : (y : Id) → List·Memᴰ y (h .ids) → Edge G y x → (y ≡ t .by) ⊎ ((y .round < t .by .round) ⊎ ((y .round ≡ t .by .round) × (t .by .digest < y .digest)))
+
+-- "The anchor stands with itself and the word `anchor`. Any other point without such a link is in no history."
+abbrev pub ToldOf : List Given → History → Id → ToldLink → Type 0
+ToldOf G h x t = ((x ≡ h .anchor) × (t .by ≡ x) × (t .word ≡ anchorWord)) ⊎ ((x ≢ h .anchor) × LinkBehind G h x t)
+
+-- "for each point in the same order"
+abbrev pub AllToldOf : List Given → History → List Id → List ToldLink → Type 0
+AllToldOf G h [] [] = Unit {0}
+AllToldOf G h [] (t ∷ ts) = ⊥
+AllToldOf G h (x ∷ xs) [] = ⊥
+AllToldOf G h (x ∷ xs) (t ∷ ts) = ToldOf G h x t × AllToldOf G h xs ts
+
+abbrev pub LinksTold : List Given → History → Type 0
+LinksTold G h = AllToldOf G h (h .ids) (readLinks (length (h .ids)) (h .tail))
+
+-- so it is of every record, for any list of the ten calls after a start that isn't refused
+abbrev pub LinksFollow : Type 0
+LinksFollow = (s : Store) (b : StartArgs) (cs : List Call) → call s (start b) .answer ≡ done → AllInList cs
+    → let t = call s (start b) .store in (h : History) → List·Memᴰ h (histories t cs) → LinksTold (resolutions t cs) h
 
 -- ---- the outlook's counts (02: N6)
 

@@ -1,5 +1,5 @@
 -- Demand 3 and the sums (02: N2): the proofs of the statements in Demand.antt.
-use Prim.Native.Nat.{ℕ, _+_, _-_, _^_, _≤_, _<_, max}
+use Prim.Native.Nat.{ℕ, _+_, _-_, _*_, _≤_, _<_, max}
 use mathlib.Core.Path.{_≡_, refl, sym, _∙_, subst, ap, ap₂}
 use mathlib.Core.Logic.{_⊎_, inl, inr, _↔_, ⊎-elim}
 use mathlib.Core.Bool.{true, false, false≢true}
@@ -7,6 +7,7 @@ use mathlib.Core.List.{List, [], _∷_, _++_, map, append-assoc, append-nil, Lis
 use mathlib.Core.Option.{Option, none, some}
 use lib.Dec.{eqb}
 use lib.ListN.{length, take}
+use lib.Seq.{drop-at}
 use borrow.Author.Tests.{leb-true, le-leb, ltb-true}
 use native.Mathlib.Omega.{arith}
 use native.Mathlib.Nat.{le-trans, sub-zero, zero-add}
@@ -18,8 +19,8 @@ use Rattle.spec.specs.Store.{Resolution, Memory, Store, idAt, roundAt, r
 use Rattle.spec.specs.Paths.{Path, here, step, LinkedTo}
 use Rattle.spec.specs.Rules.{isPeer}
 use Rattle.spec.specs.Chain.{Refusal, Out, bad, good, EnqueuedAnchor, orZero, anchorsOf}
-use Rattle.spec.specs.History.{limit, lowest, inHistory, history, summed, tailBytes, dequeued, Finished, commitAll}
-use Rattle.spec.specs.Calls.{Outcome, finish, StartArgs, startOk, memoryKept, begun, doResolve, commitEnd, doCommit, Call, start, resetAll, round, name, resolve, certify, gapQuestion, commit, outlook, remove, drop as dropTo, perform, call}
+use Rattle.spec.specs.History.{limit, lowest, inHistory, history, roundsOf, drawn, summed, sumBytes, linkBytes, tailBytes, dequeued, Finished, commitAll}
+use Rattle.spec.specs.Calls.{done, Outcome, finish, StartArgs, startOk, memoryKept, begun, doResolve, commitEnd, doCommit, Call, start, resetAll, round, name, resolve, certify, gapQuestion, commit, outlook, remove, drop as dropTo, perform, call}
 use Rattle.spec.specs.Graph.{snoc, path-down}
 use Rattle.spec.specs.Links.{down, linked, resolved-named}
 use Rattle.spec.specs.WellFormed.{Wf}
@@ -29,7 +30,7 @@ use Rattle.spec.specs.Walk.{same-id, id-same}
 use Rattle.spec.specs.Accepted.{finish-store, name-way, resolve-way, certify-way}
 use Rattle.spec.specs.Demand.{InList, AllInList, History, readRecords, finished, wrote, histories, Given, accepted, gave, resolutions, Edge, Exact, AllExact, Writes, StartRefused, AsSaid, AllAsSaid, FirstHalf, Demand3, paid, Summed, SumsFollow}
 use Rattle.spec.specs.Demand3Second.{commit-is, second-half}
-use Rattle.spec.specs.Records.{Fits, Event, passed, bytesOf, every-commit, commit-buffer, Readable, read-all, readAs}
+use Rattle.spec.specs.Records.{Fits, links-length, drawn-ids, Event, passed, bytesOf, every-commit, commit-buffer, Readable, read-all, readAs}
 use Rattle.spec.specs.Preservation.{begun-kept, call-perform, start-begun}
 use Rattle.spec.specs.Invariant.{Inv, hist-paths, history-is}
 use Rattle.spec.specs.Demand3First.{ids, allIds, Right, AllRight, split-max, finishesBy, commitBy, finishes, eventsOf, Keeps, call-keeps}
@@ -79,7 +80,7 @@ unfolding isPeer
 author-small s i h = ltb-true _ _ (and-l _ _ h)
 
 -- the ids of a finished anchor's record are those of its history
-ids-mem : (hs : List Id) (e : Event) → Right hs e → (x : Id) → List·Memᴰ x (ids e) ↔ List·Memᴰ x (history (e .from) (e .enq .anchor))
+pub ids-mem : (hs : List Id) (e : Event) → Right hs e → (x : Id) → List·Memᴰ x (ids e) ↔ List·Memᴰ x (history (e .from) (e .enq .anchor))
 ids-mem hs e r x = order-mem (e .from) (r .inv .wf) (e .enq .anchor) (r .next .there) (e .list) (r .listed) x
 
 -- they are exactly what paths of links reach, down to the lowest round, and no history before held
@@ -89,6 +90,10 @@ ids-are hs e r x =
     let m = ids-mem hs e r x in
     let h = history-is (e .from) hs (r .inv) (e .enq .anchor) (r .next) x in
     ((λ k. h .0 (m .0 k)), λ k. m .1 (h .1 k))
+
+-- an id of the store fits its bytes
+pub fits-named : (hs : List Id) (e : Event) → Right hs e → (q : ℕ) → e .from .pt q .named ≡ true → Fits (idAt (e .from) q)
+fits-named hs e r q n = (omega (arith, r .inv .wf .kept q n, r .inv .wf .high), omega (arith, author-small (e .from) (idAt (e .from) q) (r .inv .wf .peer q n)), r .inv .wide q n)
 
 module _ (s : Store) (hs : List Id) (e : Event) (r : Right hs e) (f : Frame s (e .from)) where
   -- what a path reaches down to the limit is resolved
@@ -142,16 +147,14 @@ module _ (s : Store) (hs : List Id) (e : Event) (r : Right hs e) (f : Frame s (e
   -- its record can be read back
   pub event-readable : Readable e
   event-readable = record {
-    anchor = fit (e .enq .anchor) (r .next .there);
-    points = λ x m. let (q, h, i) = history-elim (e .from) (r .inv .wf) (e .enq .anchor) (r .next .there) x (ids-mem hs e r x .0 m) in subst Fits i (fit q (history-named (e .from) (r .inv .wf) (e .enq .anchor) (r .next .there) q h));
-    few = small;
+    anchor = fits-named hs e r (e .enq .anchor) (r .next .there);
+    points = λ x m. let (q, h, i) = history-elim (e .from) (r .inv .wf) (e .enq .anchor) (r .next .there) x (ids-mem hs e r x .0 m) in subst Fits i (fits-named hs e r q (history-named (e .from) (r .inv .wf) (e .enq .anchor) (r .next .there) q h));
+    few = omega (arith, order-length (e .from) (r .inv .wf) (e .enq .anchor) (r .next .there) (e .list) (r .listed), history-few (e .from) (r .inv .wf) (e .enq .anchor));
   }
-    where
-      fit : (q : ℕ) → e .from .pt q .named ≡ true → Fits (idAt (e .from) q)
-      fit q n = (omega (arith, r .inv .wf .kept q n, r .inv .wf .high), omega (arith, author-small (e .from) (idAt (e .from) q) (r .inv .wf .peer q n)), r .inv .wide q n)
 
-      small : length (ids e) < 256 ^ 4
-      small = omega (arith, order-length (e .from) (r .inv .wf) (e .enq .anchor) (r .next .there) (e .list) (r .listed), history-few (e .from) (r .inv .wf) (e .enq .anchor))
+-- the places of a finished anchor's history, in the order of its record
+abbrev pub placesOf : Event → List ℕ
+placesOf e = drawn (e .from) (e .enq .anchor) (roundsOf (e .from) (e .enq .anchor)) (e .list)
 
 -- ---- the sums of one record
 
@@ -165,9 +168,11 @@ paid-first f (h ∷ hs) L g m one =
     (λ u. rw (u, paid) (⊎-elim (λ e. absurd (clash (subst (λ (z : Given). sameId (z .who) (g .who) ≡ true) e (id-same (g .who))) u)) (λ k. paid-first f hs L g k (λ z n. one z (List·Memᴰ·tail n))) (List·Memᴰ·cases-cons m)))
 
 -- the points of a history were resolved by then, and each once: later resolutions change no sum
-event-summed : (s : Store) (hs : List Id) (e : Event) → Right hs e → (G L : List Given) → Log (e .from) G → Summed (G ++ L) (readAs s (e .from) (e .list) (e .enq))
-unfolding tailBytes
-event-summed s hs e r G L g = sym (ap₂ (λ (m n : ℕ). be 8 m ++ be 8 n) (sum (λ t. t .payloadLen) (λ x. x .payloadLen) (gave-it (λ x. x .payloadLen))) (sum (λ t. t .payloadBytes) (λ x. x .payloadBytes) (gave-it (λ x. x .payloadBytes))))
+event-summed : (s : Store) (hs : List Id) (e : Event) → Right hs e → (G L : List Given) → Log (e .from) G → New G L → Summed (G ++ L) (readAs s (e .from) (e .list) (e .enq))
+unfolding tailBytes sumBytes
+event-summed s hs e r G L g new =
+    drop-at (joined (linkBytes (e .from) (e .enq .anchor)) (placesOf e)) _ _ (links-length (e .from) (e .enq .anchor) (placesOf e) ∙ ap (λ n. n * 45) (sym (drawn-ids (e .from) (e .list) (e .enq .anchor))))
+    ∙ sym (ap₂ (λ (m n : ℕ). be 8 m ++ be 8 n) (sum (λ t. t .payloadLen) (λ x. x .payloadLen) (gave-it (λ x. x .payloadLen))) (sum (λ t. t .payloadBytes) (λ x. x .payloadBytes) (gave-it (λ x. x .payloadBytes))))
   where
     sum : (f : Resolution → ℕ) (p : Given → ℕ) → ((q : ℕ) → inHistory (e .from) (e .enq .anchor) q ≡ true → paid p (G ++ L) (idAt (e .from) q) ≡ f (e .from .pt q .resolution)) → weigh (paid p (G ++ L)) (ids e) ≡ summed f (e .from) (e .enq .anchor)
     sum f p = order-sum (e .from) (r .inv .wf) (e .enq .anchor) (r .next .there) (e .list) (r .listed) f (paid p (G ++ L))
@@ -371,6 +376,12 @@ join-exact : (s : Store) (G : List Given) (hs : List Id) (es : List Event) (fs :
 join-exact s G hs [] fs a b = subst (λ h. AllExact G h fs) (append-nil hs) b
 join-exact s G hs (e ∷ es) fs (x, a) b = (x, join-exact s G (hs ++ ids e) es fs a (subst (λ h. AllExact G h fs) (sym (append-assoc hs (ids e) (allIds es))) b))
 
+-- a call and those after it resolve nothing that was resolved
+all-new : (s : Store) (c : Call) (cs : List Call) (hs : List Id) (G : List Given) → Inv s hs → Log s G → InList c → AllInList cs → New G (gave c (perform s c .answer) ++ resolutions (perform s c .store) cs)
+all-new s c cs hs G v l a rest g h m n e =
+    ⊎-elim (λ x. gave-new s c G (v .wf) l g h x n e) (λ x. later-new (perform s c .store) cs _ _ (call-keeps s c hs v a .inv) (call-log s c G (v .wf) a l) rest g h x (Memᴰ·append-left (gave c (perform s c .answer)) n) e)
+    (List·Memᴰ·append-cases (gave c (perform s c .answer)) m)
+
 run-exact : (s : Store) (cs : List Call) (hs : List Id) (G : List Given) → Inv s hs → Log s G → AllInList cs → AllExact (G ++ resolutions s cs) hs (histories s cs)
 unfolding histories resolutions
 run-exact s [] hs G v l a = tt
@@ -385,12 +396,9 @@ run-exact s (c ∷ cs) hs G v l (a, rest) = go (call s c) (call-perform s (v .wf
     L : List Given
     L = resolutions (perform s c .store) cs
 
-    new : New G (gave c (perform s c .answer) ++ resolutions (perform s c .store) cs)
-    new g h m n e = ⊎-elim (λ x. gave-new s c G (v .wf) l g h x n e) (λ x. later-new (perform s c .store) cs _ _ (k .inv) (call-log s c G (v .wf) a l) rest g h x (Memᴰ·append-left M n) e) (List·Memᴰ·append-cases M m)
-
     here-exact : AllExact (G ++ (M ++ L)) hs (wrote s c (perform s c))
     here-exact = subst (AllExact (G ++ (M ++ L)) hs) (sym (wrote-is s c hs (k .right)))
-        (all-exact s hs G (M ++ L) (eventsOf s c) new (k .right) (λ e m. (events-from (λ u. Log u G) (λ u x. mark-log G u x) s c l e m, events-from (Frame s) (frame-mark s) s c (refl, refl, refl) e m)))
+        (all-exact s hs G (M ++ L) (eventsOf s c) (all-new s c cs hs G v l a rest) (k .right) (λ e m. (events-from (λ u. Log u G) (λ u x. mark-log G u x) s c l e m, events-from (Frame s) (frame-mark s) s c (refl, refl, refl) e m)))
 
     on : AllExact ((G ++ M) ++ L) (hs ++ allIds (eventsOf s c)) (histories (perform s c .store) cs) → AllExact (G ++ (M ++ L)) hs (wrote s c (perform s c) ++ histories (perform s c .store) cs)
     on r = subst (λ w. AllExact (G ++ (M ++ L)) hs (w ++ histories (perform s c .store) cs)) (sym (wrote-is s c hs (k .right)))
@@ -401,30 +409,31 @@ run-exact s (c ∷ cs) hs G v l (a, rest) = go (call s c) (call-perform s (v .wf
         → AllExact (G ++ (gave c (o .answer) ++ resolutions (o .store) cs)) hs (wrote s c o ++ histories (o .store) cs)
     go o d r = subst (λ (y : Outcome). AllExact (G ++ (gave c (y .answer) ++ resolutions (y .store) cs)) hs (wrote s c y ++ histories (y .store) cs)) (sym d) (on r)
 
--- every record's sums
-run-summed : (s : Store) (cs : List Call) (hs : List Id) (G : List Given) → Inv s hs → Log s G → AllInList cs → (h : History) → List·Memᴰ h (histories s cs) → Summed (G ++ resolutions s cs) h
-unfolding histories resolutions
-run-summed s [] hs G v l a h m = absurd (List·Memᴰ·not-nil m)
-run-summed s (c ∷ cs) hs G v l (a, rest) h m = go (call s c) (call-perform s (v .wf) c) m (run-summed (perform s c .store) cs _ _ (k .inv) (call-log s c G (v .wf) a l) rest h)
-  where
-    k : Keeps hs s c
-    k = call-keeps s c hs v a
+-- what holds of each record by the resolutions before it and others after it, as New has them, holds of every record of a list
+module _ (P : List Given → History → Type 0) (one : (s : Store) (hs : List Id) (e : Event) → Right hs e → (G L : List Given) → Log (e .from) G → New G L → P (G ++ L) (readAs s (e .from) (e .list) (e .enq))) where
+  run-each : (s : Store) (cs : List Call) (hs : List Id) (G : List Given) → Inv s hs → Log s G → AllInList cs → (h : History) → List·Memᴰ h (histories s cs) → P (G ++ resolutions s cs) h
+  unfolding histories resolutions
+  run-each s [] hs G v l a h m = absurd (List·Memᴰ·not-nil m)
+  run-each s (c ∷ cs) hs G v l (a, rest) h m = go (call s c) (call-perform s (v .wf) c) m (run-each (perform s c .store) cs _ _ (k .inv) (call-log s c G (v .wf) a l) rest h)
+    where
+      k : Keeps hs s c
+      k = call-keeps s c hs v a
 
-    M : List Given
-    M = gave c (perform s c .answer)
+      M : List Given
+      M = gave c (perform s c .answer)
 
-    L : List Given
-    L = resolutions (perform s c .store) cs
+      L : List Given
+      L = resolutions (perform s c .store) cs
 
-    here-summed : List·Memᴰ h (wrote s c (perform s c)) → Summed (G ++ (M ++ L)) h
-    here-summed n =
-        let (e, i, x) = mem-map (λ (e : Event). readAs s (e .from) (e .list) (e .enq)) (eventsOf s c) h (subst (List·Memᴰ h) (wrote-is s c hs (k .right)) n) in
-        let (hs′, r) = right-in hs _ (k .right) e i in
-        subst (Summed (G ++ (M ++ L))) x (event-summed s hs′ e r G (M ++ L) (events-from (λ u. Log u G) (λ u x. mark-log G u x) s c l e i))
+      here-each : List·Memᴰ h (wrote s c (perform s c)) → P (G ++ (M ++ L)) h
+      here-each n =
+          let (e, i, x) = mem-map (λ (e : Event). readAs s (e .from) (e .list) (e .enq)) (eventsOf s c) h (subst (List·Memᴰ h) (wrote-is s c hs (k .right)) n) in
+          let (hs′, r) = right-in hs _ (k .right) e i in
+          subst (P (G ++ (M ++ L))) x (one s hs′ e r G (M ++ L) (events-from (λ u. Log u G) (λ u x. mark-log G u x) s c l e i) (all-new s c cs hs G v l a rest))
 
-    go : (o : Outcome) → o ≡ perform s c → List·Memᴰ h (wrote s c o ++ histories (o .store) cs) → (List·Memᴰ h (histories (perform s c .store) cs) → Summed ((G ++ M) ++ L) h) → Summed (G ++ (gave c (o .answer) ++ resolutions (o .store) cs)) h
-    go o d n i = subst (λ (y : Outcome). Summed (G ++ (gave c (y .answer) ++ resolutions (y .store) cs)) h) (sym d)
-        (⊎-elim here-summed (λ x. subst (λ g. Summed g h) (append-assoc G M L) (i x)) (List·Memᴰ·append-cases (wrote s c (perform s c)) (subst (λ (y : Outcome). List·Memᴰ h (wrote s c y ++ histories (y .store) cs)) d n)))
+      go : (o : Outcome) → o ≡ perform s c → List·Memᴰ h (wrote s c o ++ histories (o .store) cs) → (List·Memᴰ h (histories (perform s c .store) cs) → P ((G ++ M) ++ L) h) → P (G ++ (gave c (o .answer) ++ resolutions (o .store) cs)) h
+      go o d n i = subst (λ (y : Outcome). P (G ++ (gave c (y .answer) ++ resolutions (y .store) cs)) h) (sym d)
+          (⊎-elim here-each (λ x. subst (λ g. P g h) (append-assoc G M L) (i x)) (List·Memᴰ·append-cases (wrote s c (perform s c)) (subst (λ (y : Outcome). List·Memᴰ h (wrote s c y ++ histories (y .store) cs)) d n)))
 
 -- no id stands twice in a history of the list
 abbrev AllOnce : List History → Type 0
@@ -517,8 +526,14 @@ first-half s b cs h a = let (ok, e) = start-begun s b h in
 pub demand-3 : Demand3
 demand-3 = (first-half, second-half)
 
+-- so it is of every record after a start
+pub after-start : (P : List Given → History → Type 0) → ((s : Store) (hs : List Id) (e : Event) → Right hs e → (G L : List Given) → Log (e .from) G → New G L → P (G ++ L) (readAs s (e .from) (e .list) (e .enq)))
+    → (s : Store) (b : StartArgs) (cs : List Call) → call s (start b) .answer ≡ done → AllInList cs
+    → let t = call s (start b) .store in (h : History) → List·Memᴰ h (histories t cs) → P (resolutions t cs) h
+after-start P one s b cs h a =
+    let (ok, e) = start-begun s b h in
+    subst (λ t. (x : History) → List·Memᴰ x (histories t cs) → P (resolutions t cs) x) (sym e) (run-each P one _ cs [] [] (begun-inv (s .places) (memoryKept s) b ok) (begun-log (s .places) (memoryKept s) b) a)
+
 -- 02, N2: "Sums follow from the ids in the record and from what was resolved."
 pub sums-follow : SumsFollow
-sums-follow s b cs h a =
-    let (ok, e) = start-begun s b h in
-    subst (λ t. (x : History) → List·Memᴰ x (histories t cs) → Summed (resolutions t cs) x) (sym e) (run-summed _ cs [] [] (begun-inv (s .places) (memoryKept s) b ok) (begun-log (s .places) (memoryKept s) b) a)
+sums-follow = after-start Summed event-summed

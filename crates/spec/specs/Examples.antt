@@ -1,5 +1,5 @@
 -- Small lists of calls and what they give: each refusal, the order of the tests, chains of several anchors, place lists, outlooks, picks,
--- payload sums, the look-up's answers, remove's bytes.
+-- payload sums, the links behind points, the look-up's answers, remove's bytes.
 use Prim.Native.Nat.{ℕ, suc, _+_, _*_}
 use mathlib.Core.Path.{_≡_, refl}
 use mathlib.Core.List.{List, [], _∷_, _++_, map}
@@ -202,21 +202,21 @@ bytes o is = map (λ i. getD (o .buffer) i 99) is
 abbrev commits : List Row
 commits =
     -- both records: executable, previous anchor, number of points
-    row 1 (ended (fire (onTwo 1) 346)) (3 ∷ 2 ∷ 16 ∷ 15 ∷ [])
-    ∷ row 2 (bytes (fire (onTwo 1) 347) (74 ∷ 78 ∷ 82 ∷ 210 ∷ 214 ∷ 218 ∷ 346 ∷ [])) (1 ∷ 0 ∷ 1 ∷ 1 ∷ 13 ∷ 3 ∷ 0 ∷ [])
+    row 1 (ended (fire (onTwo 1) 526)) (3 ∷ 2 ∷ 16 ∷ 15 ∷ [])
+    ∷ row 2 (bytes (fire (onTwo 1) 527) (74 ∷ 78 ∷ 82 ∷ 255 ∷ 259 ∷ 263 ∷ 526 ∷ [])) (1 ∷ 0 ∷ 1 ∷ 1 ∷ 13 ∷ 3 ∷ 0 ∷ [])
     -- rounds of the points: 13; 14, 14, 15, in a round as the lists say
-    ∷ row 3 (bytes (fire (onTwo 1) 346) (86 ∷ 222 ∷ 255 ∷ 259 ∷ 292 ∷ 296 ∷ [])) (13 ∷ 14 ∷ 140 ∷ 14 ∷ 141 ∷ 15 ∷ [])
+    ∷ row 3 (bytes (fire (onTwo 1) 526) (86 ∷ 267 ∷ 300 ∷ 304 ∷ 337 ∷ 341 ∷ [])) (13 ∷ 14 ∷ 140 ∷ 14 ∷ 141 ∷ 15 ∷ [])
     -- 21 against the bytes left; the first anchor keeps its record and marks
-    ∷ row 4 (ended (fire (onTwo 1) 345)) (4 ∷ 21 ∷ 1 ∷ 14 ∷ 13 ∷ [])
-    ∷ row 5 (ended (fire (onTwo 1) 135)) (4 ∷ 21 ∷ 0 ∷ 0 ∷ 0 ∷ [])
+    ∷ row 4 (ended (fire (onTwo 1) 525)) (4 ∷ 21 ∷ 1 ∷ 14 ∷ 13 ∷ [])
+    ∷ row 5 (ended (fire (onTwo 1) 180)) (4 ∷ 21 ∷ 0 ∷ 0 ∷ 0 ∷ [])
     -- 13 at the later anchor
-    ∷ row 6 (ended (fire (onTwo 3) 400)) (4 ∷ 13 ∷ 1 ∷ 14 ∷ 13 ∷ [])
-    ∷ row 7 (bytes (fire (onTwo 3) 400) (82 ∷ 139 ∷ [])) (1 ∷ 0 ∷ [])
+    ∷ row 6 (ended (fire (onTwo 3) 600)) (4 ∷ 13 ∷ 1 ∷ 14 ∷ 13 ∷ [])
+    ∷ row 7 (bytes (fire (onTwo 3) 600) (82 ∷ 184 ∷ [])) (1 ∷ 0 ∷ [])
     -- a trans-invalid point is usable unless proved
-    ∷ row 8 (ended (fire (onTwo 2) 400)) (3 ∷ 2 ∷ 16 ∷ 15 ∷ [])
-    ∷ row 9 (ended (fire (after (onTwo 2) (certify (id 14 1 141) ∷ [])) 400)) (4 ∷ 13 ∷ 1 ∷ 14 ∷ 13 ∷ [])
+    ∷ row 8 (ended (fire (onTwo 2) 600)) (3 ∷ 2 ∷ 16 ∷ 15 ∷ [])
+    ∷ row 9 (ended (fire (after (onTwo 2) (certify (id 14 1 141) ∷ [])) 600)) (4 ∷ 13 ∷ 1 ∷ 14 ∷ 13 ∷ [])
     -- once the trigger is used up
-    ∷ row 10 (ended (fire (fire (onTwo 1) 346 .store) 0)) (3 ∷ 0 ∷ 16 ∷ 15 ∷ [])
+    ∷ row 10 (ended (fire (fire (onTwo 1) 526 .store) 0)) (3 ∷ 0 ∷ 16 ∷ 15 ∷ [])
     ∷ []
 
 committed : agree commits ≡ true
@@ -229,7 +229,7 @@ roundOf a = elim a [ done ↦ 0 | flag b ↦ 0 | anchors n ↦ 0 | refused r n �
 
 -- with the trigger told so, not certified; and certified
 abbrev told17 : Resolution → List Call → List ℕ
-told17 t cs = numbers (fire (after (blank 6) (two false (some 0) (side 1) t ++ (certs ++ cs))) 400 .answer)
+told17 t cs = numbers (fire (after (blank 6) (two false (some 0) (side 1) t ++ (certs ++ cs))) 600 .answer)
 
 abbrev trigger : ℕ → List ℕ
 trigger x = told17 (point x false true (id 16 0 160) (ref 0 160 ∷ [])) []
@@ -240,18 +240,18 @@ certified17 x = told17 (point x false true (id 16 0 160) (ref 0 160 ∷ [])) (ce
 -- under a certified point of round 18: certified and not proved
 abbrev under18 : ℕ → List ℕ
 under18 x =
-    numbers (fire (after (blank 7) (two false (some 0) (side 1) (point x false true (id 16 0 160) (ref 0 160 ∷ [])) ++ (certs ++ (round 18 3 ∷ (both (id 18 0 180) (gave 1 (ref 0 170 ∷ []) []) ++ (certify (id 18 0 180) ∷ [])))))) 400 .answer)
+    numbers (fire (after (blank 7) (two false (some 0) (side 1) (point x false true (id 16 0 160) (ref 0 160 ∷ [])) ++ (certs ++ (round 18 3 ∷ (both (id 18 0 180) (gave 1 (ref 0 170 ∷ []) []) ++ (certify (id 18 0 180) ∷ [])))))) 600 .answer)
 
 abbrev triggers : List Row
 triggers =
     -- 14 unresolved, 15, and 18 after them, at the later anchor
-    row 1 (ended (fire (after (blank 6) (two false (some 0) (name (id 14 1 141) ∷ []) firing ++ certs)) 400)) (4 ∷ 14 ∷ 1 ∷ 14 ∷ 13 ∷ [])
-    ∷ row 2 (ended (fire (after (blank 6) (two false (some 0) (side 3) firing ++ (certify (id 13 0 130) ∷ []))) 400)) (4 ∷ 15 ∷ 1 ∷ 14 ∷ 13 ∷ [])
-    ∷ row 3 (ended (fire (after (blank 6) (two false (some 0) (side 1) firing ++ (certify (id 13 0 130) ∷ []))) 400)) (4 ∷ 18 ∷ 1 ∷ 14 ∷ 13 ∷ [])
-    ∷ row 4 (roundOf (fire (onTwo 3) 400 .answer) ∷ []) (14 ∷ [])
+    row 1 (ended (fire (after (blank 6) (two false (some 0) (name (id 14 1 141) ∷ []) firing ++ certs)) 600)) (4 ∷ 14 ∷ 1 ∷ 14 ∷ 13 ∷ [])
+    ∷ row 2 (ended (fire (after (blank 6) (two false (some 0) (side 3) firing ++ (certify (id 13 0 130) ∷ []))) 600)) (4 ∷ 15 ∷ 1 ∷ 14 ∷ 13 ∷ [])
+    ∷ row 3 (ended (fire (after (blank 6) (two false (some 0) (side 1) firing ++ (certify (id 13 0 130) ∷ []))) 600)) (4 ∷ 18 ∷ 1 ∷ 14 ∷ 13 ∷ [])
+    ∷ row 4 (roundOf (fire (onTwo 3) 600 .answer) ∷ []) (14 ∷ [])
     -- 20, before 21; after the question the first executable anchor has no previous one and uses the flag up
     ∷ row 5 (ended (fire (after (blank 6) (two true (some 0) (side 1) firing ++ certs)) 0)) (4 ∷ 20 ∷ 0 ∷ 0 ∷ 0 ∷ [])
-    ∷ row 6 (bytes (fire (after (blank 6) (two true (some 0) (side 1) firing ++ (gapQuestion ∷ certs))) 346) (74 ∷ 210 ∷ 214 ∷ [])) (0 ∷ 1 ∷ 0 ∷ [])
+    ∷ row 6 (bytes (fire (after (blank 6) (two true (some 0) (side 1) firing ++ (gapQuestion ∷ certs))) 526) (74 ∷ 255 ∷ 259 ∷ [])) (0 ∷ 1 ∷ 0 ∷ [])
     -- the trigger: 15, 13, no anchors where `filter` turns it away
     ∷ row 7 (trigger 1) (3 ∷ 2 ∷ [])
     ∷ row 8 (trigger 2) (4 ∷ 15 ∷ 0 ∷ [])
@@ -317,9 +317,9 @@ others =
     ∷ row 9 (numbers (call (onTwo 1) (commit (id 17 2 170) [] []) .answer)) (stop 5)
     ∷ row 10 (numbers (call (onTwo 1) (commit (id 17 1 170) [] []) .answer)) (stop 9)
     -- 16: a used mark of another author; a used mark ends the walk; 19 where it stands above the lowest round
-    ∷ row 11 (numbers (fire (after (blank 6) (two false (some 1) (side 1) firing ++ certs)) 400 .answer)) (stop 16)
-    ∷ row 12 (numbers (fire (withUsed (onTwo 1) 14 0) 400 .answer)) (stop 19)
-    ∷ row 13 (numbers (fire (withUsed (onTwo 1) 16 0) 400 .answer)) (3 ∷ 0 ∷ [])
+    ∷ row 11 (numbers (fire (after (blank 6) (two false (some 1) (side 1) firing ++ certs)) 600 .answer)) (stop 16)
+    ∷ row 12 (numbers (fire (withUsed (onTwo 1) 14 0) 600 .answer)) (stop 19)
+    ∷ row 13 (numbers (fire (withUsed (onTwo 1) 16 0) 600 .answer)) (3 ∷ 0 ∷ [])
     -- 22; 17 before 18 and 20, at its bound; 18 before 20
     ∷ row 14 (numbers (call (after (blank 6) genesis) (commit (id 12 0 120) [] []) .answer)) (stop 22)
     ∷ row 15 (numbers (call (after (blank 6) (missing 10)) (commit (id 23 0 230) [] []) .answer)) (stop 17)
@@ -381,7 +381,7 @@ three = id 11 0 3 ∷ id 11 1 1 ∷ id 11 2 2 ∷ []
 
 -- all of them included
 abbrev triple : List ℕ → Outcome
-triple l = call (under12 three (ref 0 3 ∷ ref 1 1 ∷ ref 2 2 ∷ [])) (commit (id 14 0 140) l (replicate 247 0))
+triple l = call (under12 three (ref 0 3 ∷ ref 1 1 ∷ ref 2 2 ∷ [])) (commit (id 14 0 140) l (replicate 427 0))
 
 -- two anchors 12.0.120 and 14.0.140 in one line of includes from 16.0.160 down to 11.0.110, then these calls; p is done to each resolution
 abbrev ladderOn : Call → List Call → (Resolution → Resolution) → List Call
@@ -407,7 +407,7 @@ abbrev ladder : Store
 ladder = ladderAs (λ t. t)
 
 abbrev climb : Store → List ℕ → Outcome
-climb s l = call s (commit (id 16 0 160) l (replicate 346 0))
+climb s l = call s (commit (id 16 0 160) l (replicate 526 0))
 
 abbrev glance : Store → ℕ → Outcome
 glance s n = call s (outlook (id 16 0 160) (replicate n 0))
@@ -432,16 +432,16 @@ shallow = after (blank 6) (
 abbrev lists : List Row
 lists =
     -- the points of 12 in the reverse of their list; further bytes are unread; 21 against right lists
-    row 1 (four (layered (0 ∷ 0 ∷ 1 ∷ 0 ∷ []) 247)) (3 ∷ 1 ∷ 110 ∷ 121 ∷ 120 ∷ 130 ∷ [])
-    ∷ row 2 (four (layered (0 ∷ 1 ∷ 0 ∷ 0 ∷ []) 247)) (3 ∷ 1 ∷ 110 ∷ 120 ∷ 121 ∷ 130 ∷ [])
-    ∷ row 3 (four (layered (0 ∷ 1 ∷ 0 ∷ 0 ∷ 255 ∷ 255 ∷ []) 247)) (3 ∷ 1 ∷ 110 ∷ 120 ∷ 121 ∷ 130 ∷ [])
-    ∷ row 4 (numbers (layered (0 ∷ 1 ∷ 0 ∷ 0 ∷ []) 246 .answer) ++ bytes (layered (0 ∷ 1 ∷ 0 ∷ 0 ∷ []) 246) (3 ∷ 82 ∷ 119 ∷ [])) (4 ∷ 21 ∷ 0 ∷ 0 ∷ 0 ∷ 0 ∷ [])
+    row 1 (four (layered (0 ∷ 0 ∷ 1 ∷ 0 ∷ []) 427)) (3 ∷ 1 ∷ 110 ∷ 121 ∷ 120 ∷ 130 ∷ [])
+    ∷ row 2 (four (layered (0 ∷ 1 ∷ 0 ∷ 0 ∷ []) 427)) (3 ∷ 1 ∷ 110 ∷ 120 ∷ 121 ∷ 130 ∷ [])
+    ∷ row 3 (four (layered (0 ∷ 1 ∷ 0 ∷ 0 ∷ 255 ∷ 255 ∷ []) 427)) (3 ∷ 1 ∷ 110 ∷ 120 ∷ 121 ∷ 130 ∷ [])
+    ∷ row 4 (numbers (layered (0 ∷ 1 ∷ 0 ∷ 0 ∷ []) 426 .answer) ++ bytes (layered (0 ∷ 1 ∷ 0 ∷ 0 ∷ []) 426) (3 ∷ 82 ∷ 119 ∷ [])) (4 ∷ 21 ∷ 0 ∷ 0 ∷ 0 ∷ 0 ∷ [])
     -- 24: a place twice, one not below the count, another's list, too few, none; before 21, with nothing written
-    ∷ row 5 (four (layered (0 ∷ 0 ∷ 0 ∷ 0 ∷ []) 247)) (4 ∷ 24 ∷ 0 ∷ 0 ∷ 0 ∷ 0 ∷ 0 ∷ [])
-    ∷ row 6 (numbers (layered (0 ∷ 2 ∷ 0 ∷ 0 ∷ []) 247 .answer)) (stop 24)
-    ∷ row 7 (numbers (layered (1 ∷ 1 ∷ 0 ∷ 0 ∷ []) 247 .answer)) (stop 24)
-    ∷ row 8 (numbers (layered (0 ∷ 0 ∷ 1 ∷ []) 247 .answer)) (stop 24)
-    ∷ row 9 (ended (layered [] 247)) (4 ∷ 24 ∷ 0 ∷ 0 ∷ 0 ∷ [])
+    ∷ row 5 (four (layered (0 ∷ 0 ∷ 0 ∷ 0 ∷ []) 427)) (4 ∷ 24 ∷ 0 ∷ 0 ∷ 0 ∷ 0 ∷ 0 ∷ [])
+    ∷ row 6 (numbers (layered (0 ∷ 2 ∷ 0 ∷ 0 ∷ []) 427 .answer)) (stop 24)
+    ∷ row 7 (numbers (layered (1 ∷ 1 ∷ 0 ∷ 0 ∷ []) 427 .answer)) (stop 24)
+    ∷ row 8 (numbers (layered (0 ∷ 0 ∷ 1 ∷ []) 427 .answer)) (stop 24)
+    ∷ row 9 (ended (layered [] 427)) (4 ∷ 24 ∷ 0 ∷ 0 ∷ 0 ∷ [])
     ∷ row 10 (numbers (layered [] 0 .answer)) (stop 24)
     ∷ row 11 (numbers (layered (0 ∷ 0 ∷ 1 ∷ 0 ∷ []) 0 .answer)) (stop 21)
     -- the outlook: 4 points, then the counts of 13, 12, 11; a byte short
@@ -458,7 +458,7 @@ lists =
     ∷ row 19 (numbers (glance ladder 102 .answer) ++ bytes (glance ladder 102) (3 ∷ 40 ∷ 44 ∷ 48 ∷ 52 ∷ 89 ∷ 93 ∷ 97 ∷ 101 ∷ [])) (3 ∷ 2 ∷ 12 ∷ 2 ∷ 1 ∷ 1 ∷ 14 ∷ 2 ∷ 1 ∷ 1 ∷ 1 ∷ [])
     ∷ row 20 (numbers (glance ladder 101 .answer)) (stop 21)
     -- the point of 12 is needed again, and committed by then: not handed out twice
-    ∷ row 21 (numbers (climb ladder (replicate 5 0) .answer) ++ (digests (climb ladder (replicate 5 0)) 0 (0 ∷ 1 ∷ []) ++ digests (climb ladder (replicate 5 0)) 173 (0 ∷ 1 ∷ []))) (3 ∷ 2 ∷ 110 ∷ 120 ∷ 130 ∷ 140 ∷ [])
+    ∷ row 21 (numbers (climb ladder (replicate 5 0) .answer) ++ (digests (climb ladder (replicate 5 0)) 0 (0 ∷ 1 ∷ []) ++ digests (climb ladder (replicate 5 0)) 263 (0 ∷ 1 ∷ []))) (3 ∷ 2 ∷ 110 ∷ 120 ∷ 130 ∷ 140 ∷ [])
     -- lists of the first anchor only: 24 with 1 finished; then its outlook, and the second one's lists
     ∷ row 22 (ended (climb ladder (0 ∷ 0 ∷ []))) (4 ∷ 24 ∷ 1 ∷ 13 ∷ 12 ∷ [])
     ∷ row 23 (bytes (glance (climb ladder (0 ∷ 0 ∷ []) .store) 53) (3 ∷ 40 ∷ 44 ∷ 48 ∷ 52 ∷ [])) (14 ∷ 2 ∷ 1 ∷ 1 ∷ 1 ∷ [])
@@ -466,10 +466,10 @@ lists =
     ∷ row 25 (ended (climb ladder (0 ∷ 0 ∷ 1 ∷ 0 ∷ 0 ∷ []))) (4 ∷ 24 ∷ 1 ∷ 13 ∷ 12 ∷ [])
     -- a round without needed points has no byte; the lowest round is the bottom where that is above the limit
     ∷ row 26 (bytes (call passing (outlook (id 15 0 150) (replicate 53 9))) (40 ∷ 44 ∷ 48 ∷ 52 ∷ [])) (2 ∷ 1 ∷ 0 ∷ 1 ∷ [])
-    ∷ row 27 (numbers (call passing (commit (id 15 0 150) (0 ∷ 0 ∷ []) (replicate 173 0)) .answer)) (3 ∷ 1 ∷ [])
-    ∷ row 28 (numbers (call passing (commit (id 15 0 150) (0 ∷ []) (replicate 173 0)) .answer)) (stop 24)
+    ∷ row 27 (numbers (call passing (commit (id 15 0 150) (0 ∷ 0 ∷ []) (replicate 263 0)) .answer)) (3 ∷ 1 ∷ [])
+    ∷ row 28 (numbers (call passing (commit (id 15 0 150) (0 ∷ []) (replicate 263 0)) .answer)) (stop 24)
     ∷ row 29 (bytes (call shallow (outlook (id 18 0 180) (replicate 50 9))) (40 ∷ 44 ∷ 48 ∷ 49 ∷ [])) (1 ∷ 1 ∷ 0 ∷ 9 ∷ [])
-    ∷ row 30 (numbers (call shallow (commit (id 18 0 180) (0 ∷ []) (replicate 136 0)) .answer)) (3 ∷ 1 ∷ [])
+    ∷ row 30 (numbers (call shallow (commit (id 18 0 180) (0 ∷ []) (replicate 181 0)) .answer)) (3 ∷ 1 ∷ [])
     ∷ []
 
 listed : agree lists ≡ true
@@ -513,14 +513,14 @@ outlooks =
     ∷ row 2 (numbers (glance (deep false []) 105 .answer) ++ bytes (glance (deep false []) 105) (3 ∷ 40 ∷ 89 ∷ [])) (4 ∷ 21 ∷ 0 ∷ 0 ∷ 0 ∷ 0 ∷ [])
     ∷ row 3 (numbers (glance (deep false []) 48 .answer) ++ bytes (glance (deep false []) 48) (3 ∷ 40 ∷ [])) (4 ∷ 21 ∷ 0 ∷ 0 ∷ 0 ∷ [])
     -- the commit, with lists of just these lengths, and no anchors after it
-    ∷ row 4 (handedOut (climb (deep false []) (replicate 5 0)) 173) (3 ∷ 2 ∷ 2 ∷ 2 ∷ [])
+    ∷ row 4 (handedOut (climb (deep false []) (replicate 5 0)) 263) (3 ∷ 2 ∷ 2 ∷ 2 ∷ [])
     ∷ row 5 (numbers (climb (deep false []) (replicate 4 0) .answer)) (4 ∷ 24 ∷ 1 ∷ [])
     ∷ row 6 (numbers (glance (climb (deep false []) (replicate 5 0) .store) 106 .answer)) (3 ∷ 0 ∷ [])
     -- after a gap the same numbers, before the question, which the commit asks for, and after it
     ∷ row 7 (numbersOf (deep true []) 106) (numbersOf (deep false []) 106)
     ∷ row 8 (numbers (climb (deep true []) (replicate 5 0) .answer)) (stop 20)
     ∷ row 9 (numbersOf (deep true (gapQuestion ∷ [])) 106) (numbersOf (deep false []) 106)
-    ∷ row 10 (handedOut (climb (deep true (gapQuestion ∷ [])) (replicate 5 0)) 173) (3 ∷ 2 ∷ 2 ∷ 2 ∷ [])
+    ∷ row 10 (handedOut (climb (deep true (gapQuestion ∷ [])) (replicate 5 0)) 263) (3 ∷ 2 ∷ 2 ∷ 2 ∷ [])
     -- the younger anchor is refused: 18, with nothing written of the older; the commit has finished that
     ∷ row 11 (numbers (glance (ladderOf 4 false (certify (id 12 0 120) ∷ [])) 106 .answer) ++ bytes (glance (ladderOf 4 false (certify (id 12 0 120) ∷ [])) 106) (3 ∷ 40 ∷ [])) (4 ∷ 18 ∷ 0 ∷ 0 ∷ 0 ∷ [])
     ∷ row 12 (numbers (climb (ladderOf 4 false (certify (id 12 0 120) ∷ [])) (replicate 5 0) .answer)) (4 ∷ 18 ∷ 1 ∷ [])
@@ -613,22 +613,22 @@ spoilt = resolve (id 14 1 141) (carrying 7 7 (gave 4 [] []))
 
 abbrev payloads : List Row
 payloads =
-    -- 10 and 43,210 are the last 16 of 247 bytes; with 246: 21
-    row 1 (numbers (reversed loads 247 .answer) ++ drop 231 (reversed loads 247 .buffer))
+    -- 10 and 43,210 are the last 16 of 427 bytes; with 426: 21
+    row 1 (numbers (reversed loads 427 .answer) ++ drop 411 (reversed loads 427 .buffer))
     (3 ∷ 1 ∷ 0 ∷ 0 ∷ 0 ∷ 0 ∷ 0 ∷ 0 ∷ 0 ∷ 10 ∷ 0 ∷ 0 ∷ 0 ∷ 0 ∷ 0 ∷ 0 ∷ 168 ∷ 202 ∷ [])
-    ∷ row 2 (numbers (reversed loads 246 .answer)) (stop 21)
+    ∷ row 2 (numbers (reversed loads 426 .answer)) (stop 21)
     -- another order, the same sums
-    ∷ row 3 (four (reversed loads 247) ++ sums (reversed loads 247) 231) (3 ∷ 1 ∷ 110 ∷ 121 ∷ 120 ∷ 130 ∷ 10 ∷ 43210 ∷ [])
-    ∷ row 4 (four (commitOn loads (0 ∷ 1 ∷ 0 ∷ 0 ∷ []) 247) ++ sums (commitOn loads (0 ∷ 1 ∷ 0 ∷ 0 ∷ []) 247) 231) (3 ∷ 1 ∷ 110 ∷ 120 ∷ 121 ∷ 130 ∷ 10 ∷ 43210 ∷ [])
+    ∷ row 3 (four (reversed loads 427) ++ sums (reversed loads 427) 411) (3 ∷ 1 ∷ 110 ∷ 121 ∷ 120 ∷ 130 ∷ 10 ∷ 43210 ∷ [])
+    ∷ row 4 (four (commitOn loads (0 ∷ 1 ∷ 0 ∷ 0 ∷ []) 427) ++ sums (commitOn loads (0 ∷ 1 ∷ 0 ∷ 0 ∷ []) 427) 411) (3 ∷ 1 ∷ 110 ∷ 120 ∷ 121 ∷ 130 ∷ 10 ∷ 43210 ∷ [])
     -- the largest and the least numbers
-    ∷ row 5 (sums (reversed (alike 4294967295) 247) 231) (17179869180 ∷ 17179869180 ∷ [])
-    ∷ row 6 (sums (reversed (alike 0) 247) 231) (0 ∷ 0 ∷ [])
+    ∷ row 5 (sums (reversed (alike 4294967295) 427) 411) (17179869180 ∷ 17179869180 ∷ [])
+    ∷ row 6 (sums (reversed (alike 0) 427) 411) (0 ∷ 0 ∷ [])
     -- the point of 12 is needed again, and committed by then: it isn't in the second sums
-    ∷ row 7 (sums (climb (ladderAs (carrying 1 3)) (replicate 5 0)) 157 ++ sums (climb (ladderAs (carrying 1 3)) (replicate 5 0)) 330) (2 ∷ 6 ∷ 2 ∷ 6 ∷ [])
+    ∷ row 7 (sums (climb (ladderAs (carrying 1 3)) (replicate 5 0)) 247 ++ sums (climb (ladderAs (carrying 1 3)) (replicate 5 0)) 510) (2 ∷ 6 ∷ 2 ∷ 6 ∷ [])
     -- a second resolution is refused by 10, and the first one's numbers stay
-    ∷ row 8 (answer 7 loads again ++ sums (reversed (loads ++ (again ∷ [])) 247) 231) (4 ∷ 10 ∷ 0 ∷ 10 ∷ 43210 ∷ [])
+    ∷ row 8 (answer 7 loads again ++ sums (reversed (loads ++ (again ∷ [])) 427) 411) (4 ∷ 10 ∷ 0 ∷ 10 ∷ 43210 ∷ [])
     -- status 4 with payloads: taken, in no sum
-    ∷ row 9 (answer 7 (loads ++ (name (id 14 1 141) ∷ [])) spoilt ++ sums (reversed (loads ++ (name (id 14 1 141) ∷ spoilt ∷ [])) 247) 231) (0 ∷ 10 ∷ 43210 ∷ [])
+    ∷ row 9 (answer 7 (loads ++ (name (id 14 1 141) ∷ [])) spoilt ++ sums (reversed (loads ++ (name (id 14 1 141) ∷ spoilt ∷ [])) 427) 411) (0 ∷ 10 ∷ 43210 ∷ [])
     -- the outlook has none: 53 bytes as before
     ∷ row 10 (bytes (call (after (blank 6) loads) (outlook (id 15 0 150) (replicate 54 9))) (3 ∷ 40 ∷ 44 ∷ 48 ∷ 52 ∷ 53 ∷ [])) (13 ∷ 4 ∷ 1 ∷ 2 ∷ 1 ∷ 9 ∷ [])
     ∷ []
@@ -636,6 +636,63 @@ payloads =
 summed-up : agree payloads ≡ true
 unfolding computed numbers same agree Lists.all
 summed-up = refl
+
+-- ---- the link behind each point (02: N7)
+
+-- H 4, the points of 11 under both of 12, and the anchor 13.0.131 over these, with this witness
+abbrev webOn : List Ref → List Ref → ℕ → List Call → Store
+webOn is ws x more = after (blank 8) (
+    (from 4 10 false (some 0) ∷ rounds 11 5)
+    ++ (both (id 11 0 111) (gave 1 [] [])
+    ++ (both (id 11 1 112) (gave 1 [] [])
+    ++ (both (id 12 0 121) (gave 1 (ref 0 111 ∷ ref 1 112 ∷ []) [])
+    ++ (both (id 12 1 122) (gave x (ref 0 111 ∷ ref 1 112 ∷ []) [])
+    ++ (both (id 13 0 131) (gave 1 is ws)
+    ++ (both (id 14 0 140) (point 1 true false (id 10 0 0) (ref 0 131 ∷ []))
+    ++ (both (id 15 0 150) (point 1 false true (id 10 0 0) (ref 0 140 ∷ [])) ++ (certify (id 13 0 131) ∷ more)))))))))
+
+abbrev web : Store
+web = webOn (ref 0 121 ∷ ref 1 122 ∷ []) (ref 1 112 ∷ []) 1 []
+
+abbrev weave : Store → List ℕ → ℕ → Outcome
+weave s l n = call s (commit (id 15 0 150) l (replicate n 0))
+
+-- of the entry at byte b: the told point's round, the last byte of its digest, the first letter of the word
+abbrev entry : Outcome → ℕ → List ℕ
+entry o b = bytes o ((b + 3) ∷ (b + 36) ∷ (b + 37) ∷ [])
+
+-- of a record of n points that begins at byte `at`: the first k entries
+abbrev entries : Outcome → ℕ → ℕ → List ℕ → List ℕ
+entries o at n ks = Lists.joined (λ k. entry o (at + 83 + n * 37 + k * 45)) ks
+
+abbrev links : List Row
+links =
+    -- 11.0.111 by 12.0.121, of the lower digest; 11.1.112 by the witness of 13; 12.0.121 and 12.1.122 by 13; the anchor
+    row 1 (numbers (weave web (0 ∷ 1 ∷ 0 ∷ 1 ∷ 0 ∷ []) 509 .answer) ++ entries (weave web (0 ∷ 1 ∷ 0 ∷ 1 ∷ 0 ∷ []) 509) 0 5 (0 ∷ 1 ∷ 2 ∷ 3 ∷ 4 ∷ []))
+    (3 ∷ 1 ∷ 12 ∷ 121 ∷ 105 ∷ 13 ∷ 131 ∷ 119 ∷ 13 ∷ 131 ∷ 105 ∷ 13 ∷ 131 ∷ 105 ∷ 13 ∷ 131 ∷ 97 ∷ [])
+    -- the words, whole: of the first entry, of the second, of the last
+    ∷ row 2 (take 8 (drop 305 (weave web (0 ∷ 1 ∷ 0 ∷ 1 ∷ 0 ∷ []) 509 .buffer))) (105 ∷ 110 ∷ 99 ∷ 108 ∷ 117 ∷ 100 ∷ 101 ∷ 115 ∷ [])
+    ∷ row 3 (take 8 (drop 350 (weave web (0 ∷ 1 ∷ 0 ∷ 1 ∷ 0 ∷ []) 509 .buffer))) (119 ∷ 105 ∷ 116 ∷ 110 ∷ 101 ∷ 115 ∷ 115 ∷ 0 ∷ [])
+    ∷ row 4 (take 8 (drop 485 (weave web (0 ∷ 1 ∷ 0 ∷ 1 ∷ 0 ∷ []) 509 .buffer))) (97 ∷ 110 ∷ 99 ∷ 104 ∷ 111 ∷ 114 ∷ 0 ∷ 0 ∷ [])
+    -- without the witness 11.1.112 too by 12.0.121
+    ∷ row 5 (entries (weave (webOn (ref 0 121 ∷ ref 1 122 ∷ []) [] 1 []) (0 ∷ 1 ∷ 0 ∷ 1 ∷ 0 ∷ []) 509) 0 5 (1 ∷ [])) (12 ∷ 121 ∷ 105 ∷ [])
+    -- in the lists' order: 11.1.112 first, 12.1.122 before 12.0.121
+    ∷ row 6 (entries (weave web (0 ∷ 0 ∷ 1 ∷ 0 ∷ 1 ∷ []) 509) 0 5 (0 ∷ 1 ∷ 4 ∷ [])) (13 ∷ 131 ∷ 119 ∷ 12 ∷ 121 ∷ 105 ∷ 13 ∷ 131 ∷ 97 ∷ [])
+    -- a byte short: 21, nothing written
+    ∷ row 7 (numbers (weave web (0 ∷ 1 ∷ 0 ∷ 1 ∷ 0 ∷ []) 508 .answer) ++ bytes (weave web (0 ∷ 1 ∷ 0 ∷ 1 ∷ 0 ∷ []) 508) (3 ∷ 82 ∷ [])) (4 ∷ 21 ∷ 0 ∷ 0 ∷ 0 ∷ [])
+    -- only 12.1.122 included: four points, 11.0.111 by it
+    ∷ row 8 (entries (weave (webOn (ref 1 122 ∷ []) (ref 1 112 ∷ []) 1 []) (0 ∷ 0 ∷ 1 ∷ 0 ∷ []) 427) 0 4 (0 ∷ 1 ∷ 2 ∷ [])) (12 ∷ 122 ∷ 105 ∷ 13 ∷ 131 ∷ 119 ∷ 13 ∷ 131 ∷ 105 ∷ [])
+    -- a trans-invalid point is told like the others
+    ∷ row 9 (entries (weave (webOn (ref 1 122 ∷ []) (ref 1 112 ∷ []) 2 []) (0 ∷ 0 ∷ 1 ∷ 0 ∷ []) 427) 0 4 (0 ∷ [])) (12 ∷ 122 ∷ 105 ∷ [])
+    -- two records of two points: a point of the first, to which one of the second links, stands in the first only
+    ∷ row 10 (entries (climb (deep false []) (replicate 5 0)) 0 2 (0 ∷ 1 ∷ []) ++ entries (climb (deep false []) (replicate 5 0)) 263 2 (0 ∷ 1 ∷ [])) (12 ∷ 120 ∷ 105 ∷ 12 ∷ 120 ∷ 97 ∷ 14 ∷ 140 ∷ 105 ∷ 14 ∷ 140 ∷ 97 ∷ [])
+    -- a link over two rounds, nothing between
+    ∷ row 11 (entries (call passing (commit (id 15 0 150) (0 ∷ 0 ∷ []) (replicate 263 0))) 0 2 (0 ∷ 1 ∷ [])) (13 ∷ 130 ∷ 119 ∷ 13 ∷ 130 ∷ 97 ∷ [])
+    ∷ []
+
+linked-up : agree links ≡ true
+unfolding computed numbers same agree Lists.all
+linked-up = refl
 
 -- ---- the look-up (02: N3)
 
@@ -686,7 +743,7 @@ without k cs = take k cs ++ drop (suc k) cs
 
 -- the answers of the outlook and of the commit
 abbrev both-say : List Call → List ℕ
-both-say cs = numbers (call (after (blank 7) cs) (outlook (id 15 0 150) (replicate 53 0)) .answer) ++ numbers (commitOn cs (0 ∷ 0 ∷ 1 ∷ 0 ∷ []) 247 .answer)
+both-say cs = numbers (call (after (blank 7) cs) (outlook (id 15 0 150) (replicate 53 0)) .answer) ++ numbers (commitOn cs (0 ∷ 0 ∷ 1 ∷ 0 ∷ []) 427 .answer)
 
 abbrev twice : ℕ → List ℕ
 twice n = stop n ++ stop n
@@ -753,7 +810,7 @@ certificates =
     -- a second certificate changes nothing
     ∷ row 3 (words (after (blank 3) (witnessed ++ (certify (id 14 0 140) ∷ []))) (0 ∷ 1 ∷ 2 ∷ [])) (0x6000 ∷ 0 ∷ 0x8003 ∷ [])
     -- a committed point has its bit
-    ∷ row 4 (words (fire (onTwo 1) 346 .store) (0 ∷ 2 ∷ 3 ∷ 4 ∷ [])) (0xf003 ∷ 0x7002 ∷ 0xf003 ∷ 0x6000 ∷ [])
+    ∷ row 4 (words (fire (onTwo 1) 526 .store) (0 ∷ 2 ∷ 3 ∷ 4 ∷ [])) (0xf003 ∷ 0x7002 ∷ 0xf003 ∷ 0x6000 ∷ [])
     ∷ []
 
 certs-agree : agree certificates ≡ true
@@ -773,11 +830,11 @@ withLast s r = withProgress s (record {
 })
 
 abbrev paid : Store
-paid = fire (onTwo 1) 346 .store
+paid = fire (onTwo 1) 526 .store
 
 -- with a seventh place and further calls before the commit
 abbrev paidWith : List Call → Store
-paidWith more = fire (after (blank 7) (two false (some 0) (side 1) firing ++ (certs ++ more))) 346 .store
+paidWith more = fire (after (blank 7) (two false (some 0) (side 1) firing ++ (certs ++ more))) 526 .store
 
 abbrev wipe : Store → ℕ → Option ℕ → ℕ → Outcome
 wipe s r since n = call s (remove r since (replicate n 99))

@@ -3,7 +3,7 @@ use Prim.Native.Nat.{ℕ, zero, suc, _+_, _-_, _≤_, _<_}
 use mathlib.Core.Path.{_≡_, refl, sym, _∙_, subst, subst₂, ap, ap₂}
 use mathlib.Core.Logic.{_⊎_, inl, inr}
 use mathlib.Core.Bool.{Bool, true, false, not, _&&_, _||_, cond}
-use mathlib.Core.List.{List, [], _∷_, _++_, map, reverse, List·Memᴰ, Memᴰ·cast}
+use mathlib.Core.List.{List, [], _∷_, _++_, map, reverse, List·Memᴰ, List·Memᴰ·head, Memᴰ·cast}
 use mathlib.Core.Option.{none, some}
 use lib.Dec.{eqb, leb, ltb}
 use lib.ListN.{length, getD, take, drop}
@@ -11,20 +11,21 @@ use borrow.Author.Tests.{eqb-true, lt-ltb, le-ltb}
 use native.Mathlib.Omega.{arith}
 use Rattle.laws.specs.Test.{byTest, both, and-no-r, and-l, and-r, or-l, or-r, or-cases, same-test}
 use Rattle.laws.specs.Scan.{lowest-finds, those, those-elim, those-same}
-use Rattle.laws.specs.Lists.{map-same, keep-same, mem-map, getD-in, joined, weigh, weigh-by}
+use Rattle.laws.specs.Lists.{map-same, keep-same, mem-map, getD-in, joined, joined-same, weigh, weigh-by}
 use Rattle.laws.specs.Sort.{sort, sort-same}
 use Rattle.laws.specs.Bytes.{be, written}
-use Rattle.spec.specs.Ids.{Id, sameId, idBytes, prev}
-use Rattle.spec.specs.Store.{Resolution, Point, Round, Conf, Store, idAt, roundAt, statusAt, resolved, links, isNamed, find, previous}
+use Rattle.spec.specs.Ids.{Id, sameId, idBytes, falls, prev}
+use Rattle.spec.specs.Store.{Resolution, Point, Round, Conf, Store, idAt, roundAt, statusAt, resolved, links, linksTo, isNamed, find, previous}
 use Rattle.spec.specs.Paths.{Path, here, LinkedTo, Top, heightFrom, height, certified, proved}
 use Rattle.spec.specs.Chain.{Out, bad, good, isCommittable, EnqueuedAnchor, Onward, enqueue, walk}
-use Rattle.spec.specs.History.{limit, lowest, Need, anchor, hand, needed, inHistory, roundsMissing, isExecutable, gapAsked, isFirstExecutable, prevAnchor, summed, tailBytes, recordBytes, setCommitted, gapAfter, useProof, dequeued, gapPending, linkedIn, roundsOf, countsIn, linkedCounts, eachOnce, listsOk, roundOut, drawn, inOrder, afterLists, testAnchor, Finished, commitAll}
+use Rattle.spec.specs.History.{limit, lowest, Need, anchor, hand, needed, inHistory, roundsMissing, isExecutable, gapAsked, isFirstExecutable, prevAnchor, summed, sumBytes, linksBy, linkers, behind, includesWord, witnessWord, anchorWord, wordFor, linkBytes, tailBytes, recordBytes, setCommitted, gapAfter, useProof, dequeued, gapPending, linkedIn, roundsOf, countsIn, linkedCounts, eachOnce, listsOk, roundOut, drawn, inOrder, afterLists, testAnchor, Finished, commitAll}
 use Rattle.spec.specs.Graph.{carry}
 use Rattle.spec.specs.Links.{linked, link-made, Linked, fits-elim, resolved-named, down}
 use Rattle.spec.specs.HeightEquations.{inside, height-is, Sized}
 use Rattle.spec.specs.Sweep.{needed-is}
 use Rattle.spec.specs.WellFormed.{Wf, Leads}
 use Rattle.spec.specs.Order.{need-named, history-needed}
+use Rattle.spec.specs.Behind.{linkers-in}
 use Rattle.spec.specs.OrderInRound.{each-below, lists-head, linked-elim, drawn-elim}
 use Rattle.spec.specs.Preservation.{mark-kept, rising-mark}
 use Rattle.spec.specs.Walk.{refuse-back, Found, id-same, find-some, Valid, Visited, over, used-up, ends, goes, visit-good, visit-back, Anchored, Rising, Tested, tested-back, test-good}
@@ -413,9 +414,60 @@ module _ (s t : Store) (ws : Wf s) (wt : Wf t) (la : Late s t) (e : EnqueuedAnch
       ∙ weigh-by (λ q. f (t .pt q .resolution)) (λ q. f (s .pt q .resolution)) (those (s .places) (inHistory s (e .anchor))) (λ q m.
       ap (λ (z : Point). f (z .resolution)) (same-at q (history-needed s (e .anchor) q (those-elim _ _ q m .1)) .is)))
 
-  tail-late : tailBytes t (e .anchor) ≡ tailBytes s (e .anchor)
+  sums-late : sumBytes t (e .anchor) ≡ sumBytes s (e .anchor)
+  unfolding sumBytes
+  sums-late = ap₂ (λ (m n : ℕ). be 8 m ++ be 8 n) (summed-late (λ z. z .payloadLen)) (summed-late (λ z. z .payloadBytes))
+
+  link-same : (p q : ℕ) → needed s (e .anchor) p ≡ true → needed s (e .anchor) q ≡ true → linksTo (t .pt p) (t .pt q) ≡ linksTo (s .pt p) (s .pt q)
+  unfolding linksTo resolved
+  link-same p q m n = ap₂ linksTo (same-at p m .is) (same-at q n .is)
+
+  -- the same points link to a needed one ..
+  linkers-late : (q : ℕ) → needed s (e .anchor) q ≡ true → linkers t (e .anchor) q ≡ linkers s (e .anchor) q
+  unfolding linkers
+  linkers-late q n =
+      ap (sort (λ p r. falls (idAt t p) (idAt t r))) (ap (λ k. those k (there t)) (la .places) ∙ those-same (s .places) (there t) (there s) (λ p l. same p))
+      ∙ sort-same (λ p r. falls (idAt t p) (idAt t r)) (λ p r. falls (idAt s p) (idAt s r)) (those (s .places) (there s)) (λ p r m k i. falls (id-of p m i) (id-of r k i))
+    where
+      there : Store → ℕ → Bool
+      there u p = inHistory u (e .anchor) p && linksTo (u .pt p) (u .pt q)
+
+      same : (p : ℕ) → there t p ≡ there s p
+      same p = ap (λ b. b && linksTo (t .pt p) (t .pt q)) (history-is-same p) ∙ byTest (inHistory s (e .anchor) p) (λ h. ap (λ b. inHistory s (e .anchor) p && b) (link-same p q (history-needed s (e .anchor) p h) n)) (λ f. rw f refl)
+
+      id-of : (p : ℕ) → List·Memᴰ p (those (s .places) (there s)) → idAt t p ≡ idAt s p
+      id-of p m = ap (λ (z : Point). z .id) (same-at p (history-needed s (e .anchor) p (and-l _ _ (those-elim (s .places) (there s) p m .1))) .is)
+
+  -- .. so the same one is told, and it is needed
+  behind-late : (q : ℕ) → needed s (e .anchor) q ≡ true → behind t (e .anchor) q ≡ behind s (e .anchor) q
+  unfolding behind
+  behind-late q n = ap (λ l. cond (eqb q (e .anchor)) (e .anchor) (getD l 0 q)) (linkers-late q n)
+
+  behind-needed : (q : ℕ) → needed s (e .anchor) q ≡ true → needed s (e .anchor) (behind s (e .anchor) q) ≡ true
+  unfolding behind
+  behind-needed q n = byTest (eqb q (e .anchor)) (λ k. rw k (subst (λ p. needed s (e .anchor) p ≡ true) (eqb-true q (e .anchor) k) n)) (λ f. rw f (go (linkers s (e .anchor) q) (λ p m. history-needed s (e .anchor) p (linkers-in s (ws .sized) (e .anchor) q p .0 m .0))))
+    where
+      go : (l : List ℕ) → ((p : ℕ) → List·Memᴰ p l → needed s (e .anchor) p ≡ true) → needed s (e .anchor) (getD l 0 q) ≡ true
+      go [] f = n
+      go (p ∷ ps) f = f p (List·Memᴰ·head refl)
+
+  link-late : (q : ℕ) → needed s (e .anchor) q ≡ true → linkBytes t (e .anchor) q ≡ linkBytes s (e .anchor) q
+  unfolding linkBytes wordFor linksBy
+  link-late q n = ap₂ _++_
+      (ap (λ p. idBytes (idAt t p)) (behind-late q n) ∙ ap (λ (z : Point). idBytes (z .id)) (same-at (behind s (e .anchor) q) (behind-needed q n) .is))
+      (ap (λ p. cond (eqb q (e .anchor)) anchorWord (cond (linksBy 1 (t .pt p) (t .pt q)) includesWord witnessWord)) (behind-late q n)
+      ∙ ap₂ (λ (x y : Point). cond (eqb q (e .anchor)) anchorWord (cond (linksBy 1 x y) includesWord witnessWord)) (same-at (behind s (e .anchor) q) (behind-needed q n) .is) (same-at q n .is))
+
+  links-late : (ls : List ℕ) → listsOk (linkedCounts s (e .anchor)) ls ≡ true
+      → joined (linkBytes t (e .anchor)) (drawn t (e .anchor) (roundsOf t (e .anchor)) ls) ≡ joined (linkBytes s (e .anchor)) (drawn s (e .anchor) (roundsOf s (e .anchor)) ls)
+  links-late ls ok =
+      ap (λ rs. joined (linkBytes t (e .anchor)) (drawn t (e .anchor) rs ls)) rounds-late
+      ∙ (ap (joined (linkBytes t (e .anchor))) (drawn-late (roundsOf s (e .anchor)) ls ok)
+      ∙ joined-same (linkBytes t (e .anchor)) (linkBytes s (e .anchor)) (drawn s (e .anchor) (roundsOf s (e .anchor)) ls) (λ q m. link-late q (history-needed s (e .anchor) q (drawn-elim s (e .anchor) (roundsOf s (e .anchor)) ls ok q m .1))))
+
+  tail-late : (ls : List ℕ) → listsOk (linkedCounts s (e .anchor)) ls ≡ true → tailBytes t ls (e .anchor) ≡ tailBytes s ls (e .anchor)
   unfolding tailBytes
-  tail-late = ap₂ (λ (m n : ℕ). be 8 m ++ be 8 n) (summed-late (λ z. z .payloadLen)) (summed-late (λ z. z .payloadBytes))
+  tail-late ls ok = ap₂ _++_ (links-late ls ok) sums-late
 
   executable-late : isExecutable t (e .anchor) ≡ isExecutable s (e .anchor)
   unfolding isExecutable
@@ -434,7 +486,7 @@ module _ (s t : Store) (ws : Wf s) (wt : Wf t) (la : Late s t) (e : EnqueuedAnch
   unfolding recordBytes
   record-late ls ok = λ i.
       idBytes (anchor-is .is i .id) ++ (idBytes (la .same (e .proof) (x .proof-done) .is i .id) ++ (be 1 (cond (executable-late i) 1 0) ++ (be 4 (prev-late i)
-      ++ (be 4 (length (order-late ls ok i)) ++ (joined idBytes (order-late ls ok i) ++ tail-late i)))))
+      ++ (be 4 (length (order-late ls ok i)) ++ (joined idBytes (order-late ls ok i) ++ tail-late ls ok i)))))
 
   -- its commit is as late as the tables were
   pub mark-late : Late (dequeued s e) (dequeued t e)

@@ -7,11 +7,11 @@ use mathlib.Core.Option.{Option, none, some}
 use lib.Dec.{eqb, leb, ltb}
 use lib.ListN.{length, getD, take, drop}
 use Rattle.laws.specs.Scan.{any, every, those}
-use Rattle.laws.specs.Lists.{keep, count, joined, weigh}
+use Rattle.laws.specs.Lists.{has, keep, count, joined, weigh}
 use Rattle.laws.specs.Sort.{sort}
 use Rattle.laws.specs.Bytes.{be, written}
-use Rattle.spec.specs.Ids.{Id, idBytes, rises, falls, prev}
-use Rattle.spec.specs.Store.{Resolution, Point, Store, Conf, Round, idAt, roundAt, linksTo}
+use Rattle.spec.specs.Ids.{Id, Link, idBytes, rises, falls, fits, prev}
+use Rattle.spec.specs.Store.{Resolution, Point, Store, Conf, Round, idAt, roundAt, links, linksTo}
 use Rattle.spec.specs.Paths.{LinkedTo, height}
 use Rattle.spec.specs.Chain.{Refusal, Out, bad, good, then, refuse, checked, isCommittable, EnqueuedAnchor}
 
@@ -163,16 +163,53 @@ prevAnchor s e = cond (ltb (s .conf .genesis) (prev (e .prevProofRound)) && not 
 unfoldable pub summed : (Resolution → ℕ) → Store → ℕ → ℕ
 summed f s a = weigh (λ q. f (s .pt q .resolution)) (those (s .places) (inHistory s a))
 
--- what follows the ids; 02, N2: "an anchor record ends with their two 64-bit sums over its history", lengths first
-unfoldable pub tailBytes : Store → ℕ → List ℕ
-tailBytes s a = be 8 (summed (λ t. t .payloadLen) s a) ++ be 8 (summed (λ t. t .payloadBytes) s a)
+-- "an anchor record ends with their two 64-bit sums over its history", lengths first
+unfoldable pub sumBytes : Store → ℕ → List ℕ
+sumBytes s a = be 8 (summed (λ t. t .payloadLen) s a) ++ be 8 (summed (λ t. t .payloadBytes) s a)
+
+-- ---- the link behind each point (02: N7)
+
+-- a link of this distance leads from p to q: 1 for an include, 2 for a witness
+unfoldable pub linksBy : ℕ → Point → Point → Bool
+linksBy d p q = has (λ (l : Link). eqb (l .dist) d && fits (p .id .round) (q .id) l) (links p)
+
+-- "a point of the same history that links to it .. Among several it is the one in the highest round, then with the lowest digest": the places
+-- of those that link to the point at q, the one that is told first
+unfoldable pub linkers : Store → ℕ → ℕ → List ℕ
+linkers s a q = sort (λ p r. falls (idAt s p) (idAt s r)) (those (s .places) (λ p. inHistory s a p && linksTo (s .pt p) (s .pt q)))
+
+-- the place of the point that is told for the one at q: "The anchor stands with itself"; "Any other point without such a link is in no
+-- history" (theorem: Behind.behind-is)
+unfoldable pub behind : Store → ℕ → ℕ → ℕ
+behind s a q = cond (eqb q a) a (getD (linkers s a q) 0 q)
+
+-- "the word `includes` or `witness`, words filled with zero bytes to 8"; "the word `anchor`"
+abbrev pub includesWord : List ℕ
+includesWord = 105 ∷ 110 ∷ 99 ∷ 108 ∷ 117 ∷ 100 ∷ 101 ∷ 115 ∷ []
+
+abbrev pub witnessWord : List ℕ
+witnessWord = 119 ∷ 105 ∷ 116 ∷ 110 ∷ 101 ∷ 115 ∷ 115 ∷ 0 ∷ []
+
+abbrev pub anchorWord : List ℕ
+anchorWord = 97 ∷ 110 ∷ 99 ∷ 104 ∷ 111 ∷ 114 ∷ 0 ∷ 0 ∷ []
+
+unfoldable pub wordFor : Store → ℕ → ℕ → List ℕ
+wordFor s a q = cond (eqb q a) anchorWord (cond (linksBy 1 (s .pt (behind s a q)) (s .pt q)) includesWord witnessWord)
+
+-- what is told of the point at q: an id and a word, 45 bytes
+unfoldable pub linkBytes : Store → ℕ → ℕ → List ℕ
+linkBytes s a q = idBytes (idAt s (behind s a q)) ++ wordFor s a q
+
+-- what follows the ids: "After each history's ids, before N2's sums, comes, for each point in the same order, the id .. and the word"
+unfoldable pub tailBytes : Store → List ℕ → ℕ → List ℕ
+tailBytes s l a = joined (linkBytes s a) (drawn s a (roundsOf s a) l) ++ sumBytes s a
 
 -- "Anchor record: anchor id, proof id, executable (1 byte), previous anchor round (4; 0 for none), number of points (4), their ids."
 -- l: the lists from this anchor's on
 unfoldable pub recordBytes : Store → List ℕ → EnqueuedAnchor → List ℕ
 recordBytes s l e =
     idBytes (idAt s (e .anchor)) ++ (idBytes (idAt s (e .proof)) ++ (be 1 (cond (isExecutable s (e .anchor)) 1 0) ++ (be 4 (prevAnchor s e)
-    ++ (be 4 (length (inOrder s (e .anchor) l)) ++ (joined idBytes (inOrder s (e .anchor) l) ++ tailBytes s (e .anchor))))))
+    ++ (be 4 (length (inOrder s (e .anchor) l)) ++ (joined idBytes (inOrder s (e .anchor) l) ++ tailBytes s l (e .anchor))))))
 
 -- ---- one anchor's commit
 

@@ -14,6 +14,7 @@ pub mod Sweep
 pub mod Changes
 pub mod WellFormed
 pub mod Order
+pub mod Behind
 pub mod Walk
 pub mod Accepted
 pub mod Refusals
@@ -32,6 +33,7 @@ pub mod Demand3First
 pub mod Demand3Paths
 pub mod Demand3Calls
 pub mod Demand3
+pub mod LinksFollow
 pub mod Named
 pub mod Scenarios
 pub mod Cases

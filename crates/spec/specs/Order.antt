@@ -76,6 +76,10 @@ rises-trans : (x y z : Id) → rises x y ≡ true → rises y z ≡ true → ris
 unfolding rises
 rises-trans = by-trans ltb less-chain less-total
 
+pub falls-elim : (x y : Id) → falls x y ≡ true → (y .round < x .round) ⊎ ((x .round ≡ y .round) × (x .digest ≤ y .digest))
+unfolding falls
+falls-elim x y h = ⊎-elim (λ l. inl (ltb-true _ _ l)) inr (by-elim (λ m n. ltb n m) (λ a b c h k. less-chain c b a k h) more-total x y h)
+
 pub falls-total : (x y : Id) → falls x y ≡ false → falls y x ≡ true
 unfolding falls
 falls-total = by-total (λ m n. ltb n m) (λ a b c h k. less-chain c b a k h) more-total

@@ -4,16 +4,18 @@ use mathlib.Core.Path.{_≡_, refl, sym, _∙_, subst, ap, ap₂}
 use mathlib.Core.Option.{none, some}
 use mathlib.Core.Bool.{true, cond}
 use mathlib.Core.List.{List, [], _∷_, _++_, map, append-assoc, append-nil, List·Memᴰ, List·Memᴰ·head, List·Memᴰ·tail}
-use lib.ListN.{length, take, drop, length-append, take-append-drop}
+use lib.ListN.{length, take, drop, length-append, length-map, take-append-drop}
+use lib.Dec.{eqb}
 use lib.Seq.{take-at, drop-at, drop-drop, take-append-add, length-take-le}
 use native.Mathlib.Omega.{arith}
 use native.Mathlib.Nat.{add-zero}
+use Rattle.laws.specs.Test.{byTest}
 use Rattle.laws.specs.Lists.{map-same, joined}
 use Rattle.laws.specs.Bytes.{be, be-length, value, value-be-fits, written, written-length, written-is}
 use Rattle.spec.specs.Ids.{Id, idBytes}
 use Rattle.spec.specs.Store.{Store, idAt}
 use Rattle.spec.specs.Chain.{Refusal, Out, bad, good, EnqueuedAnchor}
-use Rattle.spec.specs.History.{history, linkedCounts, listsOk, isExecutable, prevAnchor, inOrder, afterLists, summed, tailBytes, recordBytes, testAnchor, dequeued, Finished, commitAll}
+use Rattle.spec.specs.History.{history, linkedCounts, listsOk, isExecutable, prevAnchor, roundsOf, drawn, inOrder, afterLists, summed, sumBytes, linksBy, behind, wordFor, linkBytes, tailBytes, recordBytes, testAnchor, dequeued, Finished, commitAll}
 use Rattle.spec.specs.Demand.{readId, readIds, History, tailSize, readRecords}
 use Rattle.spec.specs.WellFormed.{Wf}
 use Rattle.spec.specs.OrderInRound.{order-length}
@@ -103,12 +105,12 @@ five-parts : (a b c d e : List ℕ) → a ++ (b ++ (c ++ (d ++ e))) ≡ (a ++ (b
 five-parts a b c d e =
     ap (λ (l : List ℕ). a ++ (b ++ l)) (sym (append-assoc c d e)) ∙ (ap (λ (l : List ℕ). a ++ l) (sym (append-assoc b (c ++ d) e)) ∙ sym (append-assoc a (b ++ (c ++ d)) e))
 
-record-shape : (s : Store) (ls : List ℕ) (e : EnqueuedAnchor) (rest : List ℕ) → recordBytes s ls e ++ rest ≡ headBytes s e ++ (be 4 (length (inOrder s (e .anchor) ls)) ++ (joined idBytes (inOrder s (e .anchor) ls) ++ (tailBytes s (e .anchor) ++ rest)))
+record-shape : (s : Store) (ls : List ℕ) (e : EnqueuedAnchor) (rest : List ℕ) → recordBytes s ls e ++ rest ≡ headBytes s e ++ (be 4 (length (inOrder s (e .anchor) ls)) ++ (joined idBytes (inOrder s (e .anchor) ls) ++ (tailBytes s ls (e .anchor) ++ rest)))
 unfolding recordBytes headBytes
 record-shape s ls e rest =
-    ap (λ (l : List ℕ). l ++ rest) (five-parts (idBytes (idAt s (e .anchor))) (idBytes (idAt s (e .proof))) (be 1 (cond (isExecutable s (e .anchor)) 1 0)) (be 4 (prevAnchor s e)) (number ++ (points ++ tailBytes s (e .anchor))))
-    ∙ (append-assoc (headBytes s e) (number ++ (points ++ tailBytes s (e .anchor))) rest
-    ∙ ap (λ (l : List ℕ). headBytes s e ++ l) (append-assoc number (points ++ tailBytes s (e .anchor)) rest ∙ ap (λ (l : List ℕ). number ++ l) (append-assoc points (tailBytes s (e .anchor)) rest)))
+    ap (λ (l : List ℕ). l ++ rest) (five-parts (idBytes (idAt s (e .anchor))) (idBytes (idAt s (e .proof))) (be 1 (cond (isExecutable s (e .anchor)) 1 0)) (be 4 (prevAnchor s e)) (number ++ (points ++ tailBytes s ls (e .anchor))))
+    ∙ (append-assoc (headBytes s e) (number ++ (points ++ tailBytes s ls (e .anchor))) rest
+    ∙ ap (λ (l : List ℕ). headBytes s e ++ l) (append-assoc number (points ++ tailBytes s ls (e .anchor)) rest ∙ ap (λ (l : List ℕ). number ++ l) (append-assoc points (tailBytes s ls (e .anchor)) rest)))
   where
     number : List ℕ
     number = be 4 (length (inOrder s (e .anchor) ls))
@@ -116,10 +118,39 @@ record-shape s ls e rest =
     points : List ℕ
     points = joined idBytes (inOrder s (e .anchor) ls)
 
+-- what is told of each point: 45 bytes
+pub word-length : (s : Store) (a q : ℕ) → length (wordFor s a q) ≡ 8
+unfolding wordFor
+word-length s a q = byTest (eqb q a) (λ t. rw t refl) (λ f. byTest (linksBy 1 (s .pt (behind s a q)) (s .pt q)) (λ t. rw (f, t) refl) (λ g. rw (f, g) refl))
+
+pub link-length : (s : Store) (a q : ℕ) → length (linkBytes s a q) ≡ 45
+unfolding linkBytes
+link-length s a q = length-append (idBytes (idAt s (behind s a q))) (wordFor s a q) ∙ ap₂ _+_ (id-length (idAt s (behind s a q))) (word-length s a q)
+
+-- the id, then the word
+pub link-shape : (s : Store) (a q : ℕ) (rest : List ℕ) → linkBytes s a q ++ rest ≡ idBytes (idAt s (behind s a q)) ++ (wordFor s a q ++ rest)
+unfolding linkBytes
+link-shape s a q rest = append-assoc (idBytes (idAt s (behind s a q))) (wordFor s a q) rest
+
+pub links-length : (s : Store) (a : ℕ) (ps : List ℕ) → length (joined (linkBytes s a) ps) ≡ length ps * 45
+unfolding joined
+links-length s a [] = refl
+links-length s a (p ∷ ps) = length-append (linkBytes s a p) (joined (linkBytes s a) ps) ∙ (ap₂ _+_ (link-length s a p) (links-length s a ps) ∙ more (length ps))
+  where
+    more : (n : ℕ) → 45 + n * 45 ≡ suc n * 45
+    more n = omega arith
+
+-- as many as ids
+pub drawn-ids : (s : Store) (ls : List ℕ) (a : ℕ) → length (inOrder s a ls) ≡ length (drawn s a (roundsOf s a) ls)
+unfolding inOrder
+drawn-ids s ls a = length-map (drawn s a (roundsOf s a) ls) (idAt s)
+
 -- what follows the ids of a record, in bytes
-pub tail-length : (s : Store) (ls : List ℕ) (a : ℕ) → length (tailBytes s a) ≡ tailSize (length (inOrder s a ls))
-unfolding tailBytes
-tail-length s ls a = length-append (be 8 (summed (λ t. t .payloadLen) s a)) _ ∙ ap₂ _+_ (be-length 8 _) (be-length 8 _)
+pub tail-length : (s : Store) (ls : List ℕ) (a : ℕ) → length (tailBytes s ls a) ≡ tailSize (length (inOrder s a ls))
+unfolding tailBytes sumBytes
+tail-length s ls a =
+    length-append (joined (linkBytes s a) (drawn s a (roundsOf s a) ls)) _
+    ∙ ap₂ _+_ (links-length s a (drawn s a (roundsOf s a) ls) ∙ ap (λ n. n * 45) (sym (drawn-ids s ls a))) (length-append (be 8 (summed (λ t. t .payloadLen) s a)) _ ∙ ap₂ _+_ (be-length 8 _) (be-length 8 _))
 
 -- its length: 83 bytes, 37 for each point, and what follows
 pub record-size : (s : Store) (ls : List ℕ) (e : EnqueuedAnchor) → length (recordBytes s ls e) ≡ 83 + length (inOrder s (e .anchor) ls) * 37 + tailSize (length (inOrder s (e .anchor) ls))
@@ -127,7 +158,7 @@ record-size s ls e =
     ap length (sym (append-nil (recordBytes s ls e)) ∙ record-shape s ls e [])
     ∙ (length-append (headBytes s e) _ ∙ (ap₂ _+_ (head-length s e) (length-append (be 4 _) _
     ∙ ap₂ _+_ (be-length 4 _) (length-append (joined idBytes (inOrder s (e .anchor) ls)) _
-    ∙ ap₂ _+_ (ids-length (inOrder s (e .anchor) ls)) (ap length (append-nil (tailBytes s (e .anchor))) ∙ tail-length s ls (e .anchor)))) ∙ add-up (length (inOrder s (e .anchor) ls) * 37) (tailSize (length (inOrder s (e .anchor) ls)))))
+    ∙ ap₂ _+_ (ids-length (inOrder s (e .anchor) ls)) (ap length (append-nil (tailBytes s ls (e .anchor))) ∙ tail-length s ls (e .anchor)))) ∙ add-up (length (inOrder s (e .anchor) ls) * 37) (tailSize (length (inOrder s (e .anchor) ls)))))
   where
     add-up : (n m : ℕ) → 79 + (4 + (n + m)) ≡ 83 + n + m
     add-up n m = omega arith
@@ -142,16 +173,16 @@ unfolding recordBytes
 record-anchor s ls e rest = (_, append-assoc (idBytes (idAt s (e .anchor))) _ rest)
 
 -- the number of points stands at byte 79
-pub number-at : (s : Store) (ls : List ℕ) (e : EnqueuedAnchor) (rest : List ℕ) → drop 79 (recordBytes s ls e ++ rest) ≡ be 4 (length (inOrder s (e .anchor) ls)) ++ (joined idBytes (inOrder s (e .anchor) ls) ++ (tailBytes s (e .anchor) ++ rest))
+pub number-at : (s : Store) (ls : List ℕ) (e : EnqueuedAnchor) (rest : List ℕ) → drop 79 (recordBytes s ls e ++ rest) ≡ be 4 (length (inOrder s (e .anchor) ls)) ++ (joined idBytes (inOrder s (e .anchor) ls) ++ (tailBytes s ls (e .anchor) ++ rest))
 number-at s ls e rest = ap (drop 79) (record-shape s ls e rest) ∙ drop-at (headBytes s e) _ 79 (head-length s e)
 
 -- what is read back: the anchor, the history and what follows it
 abbrev pub readAs : Store → Store → List ℕ → EnqueuedAnchor → History
-readAs at s ls e = record { at = at; anchor = idAt s (e .anchor); ids = inOrder s (e .anchor) ls; tail = tailBytes s (e .anchor) }
+readAs at s ls e = record { at = at; anchor = idAt s (e .anchor); ids = inOrder s (e .anchor) ls; tail = tailBytes s ls (e .anchor) }
 
 -- as the bytes say it
 abbrev pub readBytes : Store → Store → List ℕ → EnqueuedAnchor → History
-readBytes at s ls e = record { at = at; anchor = asRead (idAt s (e .anchor)); ids = map asRead (inOrder s (e .anchor) ls); tail = tailBytes s (e .anchor) }
+readBytes at s ls e = record { at = at; anchor = asRead (idAt s (e .anchor)); ids = map asRead (inOrder s (e .anchor) ls); tail = tailBytes s ls (e .anchor) }
 
 pub read-record : (at s : Store) (ls : List ℕ) (e : EnqueuedAnchor) (n : ℕ) (rest : List ℕ) → length (inOrder s (e .anchor) ls) < 256 ^ 4
     → readRecords at (suc n) (recordBytes s ls e ++ rest) ≡ readBytes at s ls e ∷ readRecords at n rest
@@ -161,31 +192,28 @@ read-record at s ls e n rest few = λ i. record { at = at; anchor = who i; ids =
     who : readId (recordBytes s ls e ++ rest) ≡ asRead (idAt s (e .anchor))
     who = let (l, k) = record-anchor s ls e rest in ap readId k ∙ read-id (idAt s (e .anchor)) l
 
-    at79 : drop 79 (recordBytes s ls e ++ rest) ≡ be 4 (length (inOrder s (e .anchor) ls)) ++ (joined idBytes (inOrder s (e .anchor) ls) ++ (tailBytes s (e .anchor) ++ rest))
-    at79 = ap (drop 79) (record-shape s ls e rest) ∙ drop-at (headBytes s e) _ 79 (head-length s e)
-
-    at83 : drop 83 (recordBytes s ls e ++ rest) ≡ joined idBytes (inOrder s (e .anchor) ls) ++ (tailBytes s (e .anchor) ++ rest)
+    at83 : drop 83 (recordBytes s ls e ++ rest) ≡ joined idBytes (inOrder s (e .anchor) ls) ++ (tailBytes s ls (e .anchor) ++ rest)
     at83 = skip 79 4 (headBytes s e) (be 4 (length (inOrder s (e .anchor) ls))) _ _ (head-length s e) (be-length 4 (length (inOrder s (e .anchor) ls))) (record-shape s ls e rest)
 
     points : value 0 (take 4 (drop 79 (recordBytes s ls e ++ rest))) ≡ length (inOrder s (e .anchor) ls)
-    points = ap (λ (l : List ℕ). value 0 (take 4 l)) at79 ∙ (ap (value 0) (take-at (be 4 (length (inOrder s (e .anchor) ls))) _ 4 (be-length 4 (length (inOrder s (e .anchor) ls)))) ∙ value-be-fits 4 _ few)
+    points = ap (λ (l : List ℕ). value 0 (take 4 l)) (number-at s ls e rest) ∙ (ap (value 0) (take-at (be 4 (length (inOrder s (e .anchor) ls))) _ 4 (be-length 4 (length (inOrder s (e .anchor) ls)))) ∙ value-be-fits 4 _ few)
 
     ids : readIds (value 0 (take 4 (drop 79 (recordBytes s ls e ++ rest)))) (drop 83 (recordBytes s ls e ++ rest)) ≡ map asRead (inOrder s (e .anchor) ls)
-    ids = ap₂ readIds points at83 ∙ read-ids (inOrder s (e .anchor) ls) (tailBytes s (e .anchor) ++ rest)
+    ids = ap₂ readIds points at83 ∙ read-ids (inOrder s (e .anchor) ls) (tailBytes s ls (e .anchor) ++ rest)
 
-    ended : drop (83 + value 0 (take 4 (drop 79 (recordBytes s ls e ++ rest))) * 37) (recordBytes s ls e ++ rest) ≡ tailBytes s (e .anchor) ++ rest
+    ended : drop (83 + value 0 (take 4 (drop 79 (recordBytes s ls e ++ rest))) * 37) (recordBytes s ls e ++ rest) ≡ tailBytes s ls (e .anchor) ++ rest
     ended =
         ap (λ (k : ℕ). drop (83 + k * 37) (recordBytes s ls e ++ rest)) points
         ∙ (sym (drop-drop (length (inOrder s (e .anchor) ls) * 37) 83 (recordBytes s ls e ++ rest))
         ∙ (ap (drop (length (inOrder s (e .anchor) ls) * 37)) at83 ∙ drop-at (joined idBytes (inOrder s (e .anchor) ls)) _ _ (ids-length (inOrder s (e .anchor) ls))))
 
-    tail : take (tailSize (value 0 (take 4 (drop 79 (recordBytes s ls e ++ rest))))) (drop (83 + value 0 (take 4 (drop 79 (recordBytes s ls e ++ rest))) * 37) (recordBytes s ls e ++ rest)) ≡ tailBytes s (e .anchor)
-    tail = ap₂ (λ (k : ℕ) (l : List ℕ). take (tailSize k) l) points ended ∙ take-at (tailBytes s (e .anchor)) rest _ (tail-length s ls (e .anchor))
+    tail : take (tailSize (value 0 (take 4 (drop 79 (recordBytes s ls e ++ rest))))) (drop (83 + value 0 (take 4 (drop 79 (recordBytes s ls e ++ rest))) * 37) (recordBytes s ls e ++ rest)) ≡ tailBytes s ls (e .anchor)
+    tail = ap₂ (λ (k : ℕ) (l : List ℕ). take (tailSize k) l) points ended ∙ take-at (tailBytes s ls (e .anchor)) rest _ (tail-length s ls (e .anchor))
 
     after : drop (83 + value 0 (take 4 (drop 79 (recordBytes s ls e ++ rest))) * 37 + tailSize (value 0 (take 4 (drop 79 (recordBytes s ls e ++ rest))))) (recordBytes s ls e ++ rest) ≡ rest
     after =
         sym (drop-drop (tailSize (value 0 (take 4 (drop 79 (recordBytes s ls e ++ rest))))) (83 + value 0 (take 4 (drop 79 (recordBytes s ls e ++ rest))) * 37) (recordBytes s ls e ++ rest))
-        ∙ (ap₂ (λ (k : ℕ) (l : List ℕ). drop (tailSize k) l) points ended ∙ drop-at (tailBytes s (e .anchor)) rest _ (tail-length s ls (e .anchor)))
+        ∙ (ap₂ (λ (k : ℕ) (l : List ℕ). drop (tailSize k) l) points ended ∙ drop-at (tailBytes s ls (e .anchor)) rest _ (tail-length s ls (e .anchor)))
 
 -- ---- the anchors that a commit finishes
 
@@ -310,4 +338,4 @@ pub read-all : (at : Store) (evs : List Event) (rest : List ℕ) → ((e : Event
     → readRecords at (length evs) (joined bytesOf evs ++ rest) ≡ map (λ (e : Event). readAs at (e .from) (e .list) (e .enq)) evs
 read-all at evs rest f =
     read-bytes at evs rest (λ e m. f e m .few)
-    ∙ map-same _ _ evs (λ e m i. record { at = at; anchor = as-read (idAt (e .from) (e .enq .anchor)) (f e m .anchor) i; ids = as-reads (inOrder (e .from) (e .enq .anchor) (e .list)) (f e m .points) i; tail = tailBytes (e .from) (e .enq .anchor) })
+    ∙ map-same _ _ evs (λ e m i. record { at = at; anchor = as-read (idAt (e .from) (e .enq .anchor)) (f e m .anchor) i; ids = as-reads (inOrder (e .from) (e .enq .anchor) (e .list)) (f e m .points) i; tail = tailBytes (e .from) (e .list) (e .enq .anchor) })

@@ -79,7 +79,7 @@ rounds r (suc n) = round r 3 ∷ rounds (suc r) n
 
 -- the tables are computed: `unfolding computed` opens every definition that they read
 unfoldable pub computed : ℕ
-unfolding Ids.idBytes Ids.sameId Ids.byRound Ids.rises Ids.falls Ids.linksOf Ids.fits Store.resolved Store.linksTo Store.isNamed Store.find Store.lookAt Store.look Store.under Store.word Store.withPoints Store.withNumbers Paths.reach Paths.heightVia Paths.height Paths.certified Paths.proved Rules.isPeer Rules.sameDigest Rules.version Rules.peersAscend Rules.refsOk Rules.wellFormed Rules.dangling Rules.usedOk Rules.confOk Rules.placesOk Rules.roundsOk Rules.idOk Rules.linksOk Rules.certOk Rules.placeOk Rules.isStarted Rules.isReset Rules.countsAsStarted Rules.wasReset Chain.refuse Chain.usableInWalk Chain.isCommittable Chain.checkedAs Chain.checkedBy Chain.checked Chain.readyValidPoint Chain.enqueue Chain.toAnchor Chain.toPrevious Chain.atProof Chain.atUsed Chain.visit Chain.walk Chain.orZero Chain.unlinked Chain.checkOldest Chain.chainFrom Chain.chain Chain.triggerConflict Chain.filtered Chain.placeOf Chain.anchorsOf History.limit History.hands History.pass History.sweep History.marks History.needed History.inHistory History.history History.linkedIn History.downFrom History.eachOnce History.listsOk History.roundOut History.drawn History.inOrder History.afterLists History.firstFault History.faults History.roundsMissing History.anyUncertified History.tested History.gapPending History.testAnchor History.isExecutable History.gapAsked History.isFirstExecutable History.prevAnchor History.summed History.tailBytes History.recordBytes History.setCommitted History.gapAfter History.useProof History.dequeued History.commitAll History.outlookBytes History.outlookAll Picks.isLeft Picks.isLeast Picks.pick Picks.picks Inspect.placesIn Inspect.isFound Inspect.isValid Inspect.isProved Inspect.isTransInvalid Inspect.isInvalid Inspect.isIllFormed Inspect.isTrusted Inspect.refersTo Inspect.includedBy Inspect.witnessedBy Inspect.mustReference Inspect.entryOf Inspect.roundData Inspect.holds Inspect.larger Inspect.greatest Inspect.due Inspect.reported Inspect.proofs Inspect.authoredThen Inspect.authoredNow Inspect.isNil Inspect.notReferenced Inspect.counted Inspect.add Inspect.merge Inspect.upFrom Inspect.lastNonExecutable Inspect.inspected Inspect.inspectedRounds Inspect.memoryAfter Inspect.shown Inspect.since Inspect.total Inspect.statsOf Inspect.band Inspect.weight Inspect.counterList Inspect.scoreFrom Inspect.score Inspect.onlyIf Inspect.singles Inspect.equivocations Inspect.noInclusions Inspect.over Inspect.events Inspect.statsBytes Inspect.eventBytes Inspect.isSome Inspect.removeBytes Calls.numberOf Calls.conflictRound Calls.finish Calls.startOk Calls.fullBottomAt Calls.begun Calls.memoryKept Calls.doStart Calls.cleared Calls.addRound Calls.doRound Calls.atId Calls.newPoint Calls.nameAt Calls.intoFree Calls.doName Calls.withPathHeights Calls.resolvedAs Calls.resolveAt Calls.resolving Calls.doResolve Calls.setTop Calls.certifyAt Calls.doCertify Calls.doGapQuestion Calls.commitEnd Calls.doCommit Calls.doOutlook Calls.drained Calls.newBottom Calls.beyond Calls.removing Calls.doRemove Calls.doDrop Calls.bufferOf Calls.perform Calls.isStart Calls.call Scan.any Scan.every Scan.firstFrom Scan.first Scan.lowest Scan.those Scan.best Lists.has Lists.keep Lists.count Lists.joined Lists.weigh Lists.upTo Sort.insert Sort.sort Bytes.be Bytes.number Bytes.value Bytes.written Peers.member after
+unfolding Ids.idBytes Ids.sameId Ids.byRound Ids.rises Ids.falls Ids.linksOf Ids.fits Store.resolved Store.linksTo Store.isNamed Store.find Store.lookAt Store.look Store.under Store.word Store.withPoints Store.withNumbers Paths.reach Paths.heightVia Paths.height Paths.certified Paths.proved Rules.isPeer Rules.sameDigest Rules.version Rules.peersAscend Rules.refsOk Rules.wellFormed Rules.dangling Rules.usedOk Rules.confOk Rules.placesOk Rules.roundsOk Rules.idOk Rules.linksOk Rules.certOk Rules.placeOk Rules.isStarted Rules.isReset Rules.countsAsStarted Rules.wasReset Chain.refuse Chain.usableInWalk Chain.isCommittable Chain.checkedAs Chain.checkedBy Chain.checked Chain.readyValidPoint Chain.enqueue Chain.toAnchor Chain.toPrevious Chain.atProof Chain.atUsed Chain.visit Chain.walk Chain.orZero Chain.unlinked Chain.checkOldest Chain.chainFrom Chain.chain Chain.triggerConflict Chain.filtered Chain.placeOf Chain.anchorsOf History.limit History.hands History.pass History.sweep History.marks History.needed History.inHistory History.history History.linkedIn History.downFrom History.eachOnce History.listsOk History.roundOut History.drawn History.inOrder History.afterLists History.firstFault History.faults History.roundsMissing History.anyUncertified History.tested History.gapPending History.testAnchor History.isExecutable History.gapAsked History.isFirstExecutable History.prevAnchor History.summed History.sumBytes History.linksBy History.linkers History.behind History.wordFor History.linkBytes History.tailBytes History.recordBytes History.setCommitted History.gapAfter History.useProof History.dequeued History.commitAll History.outlookBytes History.outlookAll Picks.isLeft Picks.isLeast Picks.pick Picks.picks Inspect.placesIn Inspect.isFound Inspect.isValid Inspect.isProved Inspect.isTransInvalid Inspect.isInvalid Inspect.isIllFormed Inspect.isTrusted Inspect.refersTo Inspect.includedBy Inspect.witnessedBy Inspect.mustReference Inspect.entryOf Inspect.roundData Inspect.holds Inspect.larger Inspect.greatest Inspect.due Inspect.reported Inspect.proofs Inspect.authoredThen Inspect.authoredNow Inspect.isNil Inspect.notReferenced Inspect.counted Inspect.add Inspect.merge Inspect.upFrom Inspect.lastNonExecutable Inspect.inspected Inspect.inspectedRounds Inspect.memoryAfter Inspect.shown Inspect.since Inspect.total Inspect.statsOf Inspect.band Inspect.weight Inspect.counterList Inspect.scoreFrom Inspect.score Inspect.onlyIf Inspect.singles Inspect.equivocations Inspect.noInclusions Inspect.over Inspect.events Inspect.statsBytes Inspect.eventBytes Inspect.isSome Inspect.removeBytes Calls.numberOf Calls.conflictRound Calls.finish Calls.startOk Calls.fullBottomAt Calls.begun Calls.memoryKept Calls.doStart Calls.cleared Calls.addRound Calls.doRound Calls.atId Calls.newPoint Calls.nameAt Calls.intoFree Calls.doName Calls.withPathHeights Calls.resolvedAs Calls.resolveAt Calls.resolving Calls.doResolve Calls.setTop Calls.certifyAt Calls.doCertify Calls.doGapQuestion Calls.commitEnd Calls.doCommit Calls.doOutlook Calls.drained Calls.newBottom Calls.beyond Calls.removing Calls.doRemove Calls.doDrop Calls.bufferOf Calls.perform Calls.isStart Calls.call Scan.any Scan.every Scan.firstFrom Scan.first Scan.lowest Scan.those Scan.best Lists.has Lists.keep Lists.count Lists.joined Lists.weigh Lists.upTo Sort.insert Sort.sort Bytes.be Bytes.number Bytes.value Bytes.written Peers.member after
 computed = 0
 
 -- an answer as numbers: 0 done, 1 yes, 2 no, 3 with the anchors, 4 with the refusal's number and the finished anchors

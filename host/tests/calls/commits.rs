@@ -2,10 +2,14 @@
 
 use std::cmp::Reverse;
 
-use committer::{Anchor, Answer, Call, Committer, PointId, PointInfo, Refusal, Refused, Start, anchors};
+use committer::{
+    Anchor, Answer, BrokenAnchor, Call, Committer, PointId, PointInfo, Refusal, Refused, Start, Word, anchors,
+};
 
+use crate::behind::behind;
 use crate::common::{
-    assert_outlook, assert_unchanged, beginning, buffer, link, lists, paid, point, refuses, started, valid, version,
+    assert_outlook, assert_unchanged, beginning, buffer, handed, id_bytes, link, lists, paid, point, refuses, started,
+    valid, version,
 };
 
 const LARGE: usize = committer::COMMIT_BYTES_MAX;
@@ -34,7 +38,7 @@ fn commit(committer: &mut Committer, id: &PointId) -> Result<Vec<Anchor>, (Refus
     let mut bytes = buffer(LARGE);
     let given = committer.commit(id, &lists(committer, id), &mut bytes);
     let count = given.unwrap_or_else(|why| why.finished);
-    let records = anchors(&bytes, count);
+    let records = handed(committer, &bytes, count);
     assert_eq!(records.len(), count as usize);
     let end = records.iter().map(Anchor::bytes).sum();
     assert!(bytes[end..].iter().all(|byte| *byte == 0xa5), "bytes beyond the records were touched");
@@ -73,6 +77,12 @@ fn k13() {
             executable: true,
             previous: 0,
             points: points.clone(),
+            links: vec![
+                behind(left, Word::Includes),
+                behind(a, Word::Includes),
+                behind(a, Word::Includes),
+                behind(a, Word::Anchor)
+            ],
             payload_len: 0,
             payload_bytes: 0
         }]
@@ -145,12 +155,13 @@ fn list_a_and_its_bytes() {
     let (a, p) = (point(11, 0), point(12, 0));
     let mut bytes = buffer(200);
     assert_eq!(list.committer.commit(&list.trigger, &[0], &mut bytes), Ok(1));
-    let id = |id: &PointId| [&id.round.to_be_bytes()[..], &[id.author as u8], &id.digest].concat();
     let sums = [0, 0, 0, 0, 1, 2, 3, 4, 0, 0, 0, 0, 255, 255, 255, 255];
-    let record = [&id(&a)[..], &id(&p), &[1], &[0; 4], &[0, 0, 0, 1], &id(&a), &sums].concat();
-    assert_eq!(record.len(), 136);
-    assert_eq!(bytes[..136], record);
-    assert!(bytes[136..].iter().all(|byte| *byte == 0xa5));
+    let (anchor, proof) = (id_bytes(&a), id_bytes(&p));
+    let link = [&anchor[..], b"anchor\0\0"].concat();
+    let record = [&anchor[..], &proof, &[1], &[0; 4], &[0, 0, 0, 1], &anchor, &link, &sums].concat();
+    assert_eq!(record.len(), 181);
+    assert_eq!(bytes[..181], record);
+    assert!(bytes[181..].iter().all(|byte| *byte == 0xa5));
     // entry 3: only a reset forgets the last proof
     assert_eq!(list.committer.drop_upto(13), Ok(true));
     assert_eq!(list.committer.summary().unwrap().last_committed_proof, Some(12));
@@ -188,7 +199,7 @@ fn anchor_by_anchor() {
             let mut bytes = buffer(LARGE);
             let due = if n + 1 == looks.len() { Ok(1) } else { Err(refused(24, 0, 1)) };
             assert_eq!(list.committer.commit(&list.trigger, &look.lists_in_order(), &mut bytes), due);
-            records.extend(anchors(&bytes, 1));
+            records.extend(handed(&list.committer, &bytes, 1));
         }
         assert_eq!(records, expected);
         assert_unchanged(&list.committer, &whole);
@@ -203,7 +214,7 @@ fn each_byte_of_the_lists() {
     let mut whole = list.committer.clone();
     let mut large = buffer(LARGE);
     assert_eq!(whole.commit(&list.trigger, &[0; 5], &mut large), Ok(3));
-    let records = anchors(&large, 3);
+    let records = handed(&whole, &large, 3);
     // the second and the third anchor have a point below them in their lists
     for (at, finished) in [0, 1, 1, 2, 2].into_iter().enumerate() {
         let mut wrong = [0; 5];
@@ -217,7 +228,7 @@ fn each_byte_of_the_lists() {
             assert!(bytes[end..].iter().all(|byte| *byte == 0xa5));
             let rest = &[0; 5][[0, 1, 3][finished]..];
             assert_eq!(committer.commit(&list.trigger, rest, &mut bytes), Ok(3 - finished as u32));
-            assert_eq!(anchors(&bytes, 3 - finished as u32), records[finished..]);
+            assert_eq!(handed(&committer, &bytes, 3 - finished as u32), records[finished..]);
             assert_unchanged(&committer, &whole);
         }
     }
@@ -230,7 +241,7 @@ fn buffers_of_every_length() {
     let mut whole = list.committer.clone();
     let mut large = buffer(LARGE);
     assert_eq!(whole.commit(&list.trigger, &[0; 3], &mut large), Ok(2));
-    let (one, two) = (136, 136 + 99 + 2 * 37);
+    let (one, two) = (181, 181 + 99 + 2 * 82);
     for length in 0..=two + 3 {
         let mut committer = list.committer.clone();
         let mut bytes = buffer(length);
@@ -510,17 +521,21 @@ fn the_largest_history() {
     assert_eq!(records[0].points.iter().map(|id| id.round).min(), Some(11));
 }
 
+/// They are read as far as the one that isn't whole, which is told by its place.
 #[test]
 fn records_that_are_cut_short() {
     let mut list = certified(chain(3, &short(), as_it_is));
     let mut bytes = buffer(LARGE);
     assert_eq!(list.committer.commit(&list.trigger, &[0; 5], &mut bytes), Ok(3));
-    let whole = anchors(&bytes, 3);
-    assert_eq!(anchors(&bytes, 2), whole[..2]);
-    assert_eq!(anchors(&bytes[..136 + 172], 3), whole[..1]);
-    // in the second sum, in the first, before both
-    for length in [135, 127, 120, 119] {
-        assert_eq!(anchors(&bytes[..length], 3), []);
+    let whole = handed(&list.committer, &bytes, 3);
+    assert_eq!(anchors(&bytes, 2).as_deref(), Ok(&whole[..2]));
+    for (n, (begin, end)) in [(0, 181), (181, 444), (444, 707)].into_iter().enumerate() {
+        assert_eq!(anchors(&bytes[..end], n as u32 + 1).as_deref(), Ok(&whole[..=n]));
+        for length in begin..end {
+            assert_eq!(anchors(&bytes[..length], 3), Err(BrokenAnchor::Cut { at: begin }), "{length} bytes");
+        }
     }
-    assert_eq!(anchors(&[], 1), []);
+    assert_eq!(anchors(&[], 0), Ok(vec![]));
+    assert_eq!(anchors(&[], 1), Err(BrokenAnchor::Cut { at: 0 }));
+    assert_eq!(BrokenAnchor::Cut { at: 181 }.to_string(), "the anchor record at byte 181 is cut short");
 }

@@ -59,6 +59,11 @@ pub fn id(round: u32, author: u32, letter: char) -> PointId {
     PointId { round, author, digest: digest(letter) }
 }
 
+/// As it stands in a record.
+pub fn id_bytes(id: &PointId) -> Vec<u8> {
+    [&id.round.to_be_bytes()[..], &[id.author as u8], &id.digest].concat()
+}
+
 pub fn link(to: &PointId) -> Link {
     Link { peer: to.author, digest: to.digest }
 }
@@ -119,6 +124,17 @@ pub fn buffer(length: usize) -> Vec<u8> {
     vec![0xa5; length]
 }
 
+/// So many records that a commit on this committer wrote, from the first byte on. What they tell of links is compared with
+/// the links that their points were resolved with.
+pub fn handed(committer: &Committer, bytes: &[u8], count: u32) -> Vec<Anchor> {
+    let records = anchors(bytes, count).expect("whole records");
+    let model = Model::of(committer);
+    for record in &records {
+        assert_eq!(record.links, model.links_behind(record));
+    }
+    records
+}
+
 /// Right lists for all anchors that a commit of this trigger finishes: those that leave each round by rising digest.
 pub fn lists(committer: &Committer, trigger: &PointId) -> Vec<u8> {
     lists_in_order(&Model::of(committer).looks(trigger))
@@ -143,7 +159,7 @@ pub fn assert_outlook(committer: &Committer, trigger: &PointId) {
     match copy.commit(trigger, &lists, &mut records) {
         Ok(count) => {
             assert_eq!(told, Ok(count));
-            let (looks, anchors) = (looks(&bytes, count, committer.parts().1), anchors(&records, count));
+            let (looks, anchors) = (looks(&bytes, count, committer.parts().1), handed(&copy, &records, count));
             assert_eq!(due, Answer::Handed(anchors.clone()));
             assert_eq!(looks, expected);
             assert_told(&looks, &anchors);
@@ -152,7 +168,7 @@ pub fn assert_outlook(committer: &Committer, trigger: &PointId) {
         }
         Err(why) => {
             assert_eq!(told, Err(Refused { finished: 0, ..why }));
-            assert_eq!(due, Answer::Refused(why, anchors(&records, why.finished)));
+            assert_eq!(due, Answer::Refused(why, handed(&copy, &records, why.finished)));
             assert_eq!(bytes, buffer(OUTLOOK_BYTES_MAX));
         }
     }
@@ -175,7 +191,7 @@ pub fn assert_sizes(committer: &Committer, trigger: &PointId, looks: &[Look], li
     assert_eq!(lists.len(), sizes.lists);
     assert_eq!(copy.commit(trigger, lists, &mut whole), Ok(looks.len() as u32));
     assert_unchanged(&copy, after);
-    let anchors = anchors(&whole, looks.len() as u32);
+    let anchors = handed(&copy, &whole, looks.len() as u32);
     assert_told(looks, &anchors);
     assert_eq!(anchors.iter().map(|anchor| anchor.points.len()).sum::<usize>(), sizes.points);
     let Some((last, before)) = anchors.split_last() else {

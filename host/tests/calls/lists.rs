@@ -1,10 +1,12 @@
 //! Place lists (document 02, N1): the order inside a round, which lists are refused with 24 and when, lists that an
 //! outlook tells the lengths of.
 
-use committer::{Anchor, Committer, Look, PointId, PointInfo, RECORD_BYTES, Refusal, Refused, Start, anchors, looks};
+use committer::{
+    Anchor, Committer, Look, POINT_BYTES, PointId, PointInfo, RECORD_BYTES, Refusal, Refused, Start, looks,
+};
 
 use crate::commits::{anchor, proof, put, trigger, used};
-use crate::common::{assert_outlook, assert_unchanged, buffer, id, point, refuses, started, valid, version};
+use crate::common::{assert_outlook, assert_unchanged, buffer, handed, id, point, refuses, started, valid, version};
 use crate::outlooks::{look, trigger_of_two, two_anchors};
 
 const BAD_LISTS: Refused = Refused { refusal: Refusal::BadLists, finished: 0 };
@@ -46,9 +48,9 @@ fn k13(after_gap: bool) -> (Committer, PointId) {
     (committer, points[5].0)
 }
 
-/// The letters of each record's points, in their order.
-fn letters(bytes: &[u8], count: u32) -> Vec<String> {
-    anchors(bytes, count).iter().map(letters_of).collect()
+/// The letters of each record's points, in their order; this committer wrote them.
+pub fn letters(committer: &Committer, bytes: &[u8], count: u32) -> Vec<String> {
+    handed(committer, bytes, count).iter().map(letters_of).collect()
 }
 
 /// The letters of a record's points, in their order.
@@ -59,9 +61,9 @@ pub fn letters_of(anchor: &Anchor) -> String {
 /// The commit hands out records with these letters, in a buffer of just as many bytes.
 pub fn hands_out(committer: &Committer, trigger: &PointId, lists: &[u8], expected: &[&str]) -> Committer {
     let mut copy = committer.clone();
-    let mut bytes = buffer(expected.iter().map(|points| RECORD_BYTES + 37 * points.len()).sum());
+    let mut bytes = buffer(expected.iter().map(|points| RECORD_BYTES + POINT_BYTES * points.len()).sum());
     assert_eq!(copy.commit(trigger, lists, &mut bytes), Ok(expected.len() as u32), "{lists:?}");
-    assert_eq!(letters(&bytes, expected.len() as u32), expected);
+    assert_eq!(letters(&copy, &bytes, expected.len() as u32), expected);
     copy
 }
 
@@ -92,9 +94,9 @@ fn k13_in_both_orders() {
     // marks and state don't depend on the order
     assert_unchanged(&one, &other);
     assert_unchanged(&one, &more);
-    let mut bytes = buffer(246);
+    let mut bytes = buffer(426);
     refuses(&mut committer.clone(), 21, |c| c.commit(&trigger, &[0, 1, 0, 0], &mut bytes));
-    assert_eq!(bytes, buffer(246));
+    assert_eq!(bytes, buffer(426));
 }
 
 #[test]
@@ -119,9 +121,9 @@ fn k13_with_any_lists() {
                 Some([0, 0, 1, 0]) => drop(hands_out(&committer, &trigger, &lists, &["acbd"])),
                 Some([0, 1, 0, 0]) => drop(hands_out(&committer, &trigger, &lists, &["abcd"])),
                 _ => {
-                    let mut bytes = buffer(300);
+                    let mut bytes = buffer(500);
                     refuses(&mut committer.clone(), 24, |c| c.commit(&trigger, &lists, &mut bytes));
-                    assert_eq!(bytes, buffer(300));
+                    assert_eq!(bytes, buffer(500));
                     continue;
                 }
             }
@@ -202,7 +204,7 @@ fn wrong_lists_of_the_second_anchor() {
     let (committer, trigger) = (two_anchors(false), trigger_of_two());
     let mut first: Option<Committer> = None;
     for lists in [&[0, 0][..], &[0, 0, 0], &[0, 0, 0, 0], &[0, 0, 1, 0, 0], &[0, 0, 0, 1, 0], &[0, 0, 0, 0, 255]] {
-        for length in [173, 174, 1000] {
+        for length in [263, 264, 1000] {
             let mut copy = committer.clone();
             let mut bytes = buffer(length);
             assert_eq!(
@@ -210,8 +212,8 @@ fn wrong_lists_of_the_second_anchor() {
                 Err(Refused { finished: 1, ..BAD_LISTS }),
                 "{lists:?}"
             );
-            assert_eq!(letters(&bytes, 1), ["ab"]);
-            assert!(bytes[173..].iter().all(|byte| *byte == 0xa5), "bytes beyond the records were touched");
+            assert_eq!(letters(&copy, &bytes, 1), ["ab"]);
+            assert!(bytes[263..].iter().all(|byte| *byte == 0xa5), "bytes beyond the records were touched");
             assert_unchanged(first.get_or_insert(copy.clone()), &copy);
         }
     }
@@ -280,11 +282,11 @@ fn the_widest_round() {
     assert_eq!(told(&committer, &trigger), [look(d, 133, &[1, 4, 128])]);
     let list: Vec<u8> = (0..128u32).map(|k| (k * 77 + 5) as u8 % 128).collect();
     let right = [&[0, 3, 2, 1, 0], &list[..]].concat();
-    let mut bytes = buffer(RECORD_BYTES + 133 * 37);
+    let mut bytes = buffer(RECORD_BYTES + 133 * POINT_BYTES);
     assert_eq!(committer.clone().commit(&trigger, &right, &mut bytes), Ok(1));
     let expected: Vec<PointId> =
         list.iter().rev().map(|place| row[usize::from(*place)]).chain(above_widest()).chain([d]).collect();
-    assert_eq!(anchors(&bytes, 1)[0].points, expected);
+    assert_eq!(handed(&committer, &bytes, 1)[0].points, expected);
     for (at, byte) in [(5, 128), (6, 255), (132, right[131]), (132, 133), (4, 128), (1, 4)] {
         let mut wrong = right.clone();
         wrong[at] = byte;

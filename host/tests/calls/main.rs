@@ -1,5 +1,6 @@
 //! The calls through the static library, as document 01 defines them.
 
+mod behind;
 mod cases;
 mod commits;
 mod common;

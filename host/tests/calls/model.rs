@@ -4,9 +4,9 @@ use std::cmp::Reverse;
 use std::collections::{BTreeMap, BTreeSet};
 
 use committer::{
-    Anchor, Answer, Call, Committer, Entry, JournalDagEvent, LINK_WORDS, Link, Look, Memory, MempoolPeerCounters,
-    MempoolPeerStats, Point, PointId, PointInfo, ROUND_MAX, Refusal, Refused, Removal, RetainedRound, Start, Status,
-    Summary, digest_bytes,
+    Anchor, Answer, Call, Committer, Entry, JournalDagEvent, LINK_WORDS, Link, LinkBehind, Look, Memory,
+    MempoolPeerCounters, MempoolPeerStats, Point, PointId, PointInfo, ROUND_MAX, Refusal, Refused, Removal,
+    RetainedRound, Start, Status, Summary, Word, digest_bytes,
 };
 
 pub struct Model {
@@ -140,6 +140,12 @@ impl Model {
     /// of the place lists that a commit of this trigger reads.
     pub fn looks(&self, trigger: &PointId) -> Vec<Look> {
         self.store.as_ref().map_or(Vec::new(), |store| store.looks(trigger).0)
+    }
+
+    /// The link behind each point of a record.
+    pub fn links_behind(&self, record: &Anchor) -> Vec<LinkBehind> {
+        let store = self.store.as_ref().expect("a record is of a started committer");
+        store.links_behind(&record.anchor, &record.points)
     }
 
     /// The ids of the points, each with whether it is resolved.
@@ -555,7 +561,34 @@ impl Store {
             self.gap = None;
         }
         let (payload_len, payload_bytes) = self.sums(&points);
-        Ok(Anchor { anchor: e.anchor, proof: e.proof, executable, previous, points, payload_len, payload_bytes })
+        let links = self.links_behind(&e.anchor, &points);
+        Ok(Anchor { anchor: e.anchor, proof: e.proof, executable, previous, points, links, payload_len, payload_bytes })
+    }
+
+    /// The link behind each point of an anchor's record, sought among these points alone.
+    fn links_behind(&self, anchor: &PointId, points: &[PointId]) -> Vec<LinkBehind> {
+        points.iter().map(|id| self.link_behind(id, anchor, points)).collect()
+    }
+
+    fn link_behind(&self, id: &PointId, anchor: &PointId, points: &[PointId]) -> LinkBehind {
+        if id == anchor {
+            return LinkBehind { by: *anchor, word: Word::Anchor };
+        }
+        (points.iter())
+            .filter_map(|by| Some(LinkBehind { by: *by, word: self.kind_of_link(by, id)? }))
+            .max_by_key(|behind| (behind.by.round, Reverse(behind.by.digest)))
+            .expect("a point of a history is the anchor, or one of its points links to it")
+    }
+
+    /// How a point links to another, if it does. A kind of links leads to one round, so there is one kind at most.
+    fn kind_of_link(&self, by: &PointId, to: &PointId) -> Option<Word> {
+        let info = self.points[&(by.round, by.digest)].info.as_ref()?;
+        let (links, kind) = match by.round.checked_sub(to.round)? {
+            1 => (&info.includes, Word::Includes),
+            2 => (&info.witness, Word::Witness),
+            _ => return None,
+        };
+        links.contains(&Link { peer: to.author, digest: to.digest }).then_some(kind)
     }
 
     /// Of both payload numbers over these points.

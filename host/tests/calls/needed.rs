@@ -1,10 +1,10 @@
 //! Needed points (document 02, N3): one that is named and not resolved is 14, one that was never named 25. K13 with other
 //! starts, top proofs and points left out.
 
-use committer::{Committer, PointId, PointInfo, Refusal, Start, anchors};
+use committer::{Committer, PointId, PointInfo, Refusal, Start};
 
 use crate::commits::{anchor, proof, put, used};
-use crate::common::{assert_outlook, beginning, buffer, id, link, refuses, started, valid};
+use crate::common::{assert_outlook, beginning, buffer, handed, id, link, refuses, started, valid};
 use crate::lists::k13_points;
 
 const LISTS: [u8; 4] = [0, 0, 1, 0];
@@ -16,17 +16,17 @@ fn trigger() -> PointId {
 /// Commit and outlook are refused, no anchor is finished, and no byte is written.
 fn refused(committer: &mut Committer, number: u32) {
     assert_outlook(committer, &trigger());
-    let mut bytes = buffer(247);
+    let mut bytes = buffer(427);
     refuses(committer, number, |c| c.commit(&trigger(), &LISTS, &mut bytes));
     refuses(committer, number, |c| c.outlook(&trigger(), &mut bytes));
-    assert_eq!(bytes, buffer(247));
+    assert_eq!(bytes, buffer(427));
 }
 
 /// The anchor d is handed out.
 fn hands_out(committer: &mut Committer) {
-    let mut bytes = buffer(247);
+    let mut bytes = buffer(427);
     assert_eq!(committer.commit(&trigger(), &LISTS, &mut bytes), Ok(1));
-    assert_eq!(anchors(&bytes, 1)[0].anchor, id(13, 0, 'd'));
+    assert_eq!(handed(committer, &bytes, 1)[0].anchor, id(13, 0, 'd'));
 }
 
 /// The points of K13, but for these, which are only named; the anchor has this top proof.
@@ -108,8 +108,9 @@ fn a_top_proof_below_the_bottom() {
     refused(&mut committer, 14);
     committer.drop_upto(12).unwrap();
     committer.gap_question().unwrap();
-    let mut bytes = buffer(300);
+    let mut bytes = buffer(345);
     assert_eq!(committer.commit(&trigger(), &LISTS[..3], &mut bytes), Ok(1));
+    assert_eq!(handed(&committer, &bytes, 1)[0].points.len(), 3);
     refuses(&mut committer, 6, |c| c.name(&id(11, 0, 'q')));
     // in the new bottom itself
     let mut committer = k13(&beginning(), id(12, 0, 'q'));
@@ -136,11 +137,11 @@ fn a_reset_forgets_names() {
 fn other_numbers_stay() {
     let mut committer = k13(&used(), id(11, 0, 'q'));
     let (t, q) = (id(15, 1, 'q'), id(12, 1, 'q'));
-    refuses(&mut committer, 9, |c| c.commit(&t, &LISTS, &mut buffer(247)));
-    refuses(&mut committer, 9, |c| c.outlook(&t, &mut buffer(247)));
+    refuses(&mut committer, 9, |c| c.commit(&t, &LISTS, &mut buffer(427)));
+    refuses(&mut committer, 9, |c| c.outlook(&t, &mut buffer(427)));
     committer.name(&t).unwrap();
-    refuses(&mut committer, 9, |c| c.commit(&t, &LISTS, &mut buffer(247)));
-    refuses(&mut committer, 9, |c| c.outlook(&t, &mut buffer(247)));
+    refuses(&mut committer, 9, |c| c.commit(&t, &LISTS, &mut buffer(427)));
+    refuses(&mut committer, 9, |c| c.outlook(&t, &mut buffer(427)));
     refuses(&mut committer, 9, |c| c.certify(&q));
     refuses(&mut committer, 9, |c| c.resolve(&q, &valid(&[], &[])));
     committer.name(&id(13, 1, 'r')).unwrap();

@@ -3,13 +3,14 @@
 
 use committer::{
     Answer, COMMIT_BYTES_MAX, Call, CommitSizes, Committer, Look, OUTLOOK_BYTES_MAX, PointId, PointInfo, Refusal,
-    Refused, Start, anchors, lists_in_order, looks,
+    Refused, Start, lists_in_order, looks,
 };
 
 use crate::common::{
-    Noise, assert_sizes, assert_told, assert_unchanged, beginning, buffer, id, paid, point, refuses, started, valid,
+    Noise, assert_sizes, assert_told, assert_unchanged, beginning, buffer, handed, id, id_bytes, paid, point, refuses,
+    started, valid,
 };
-use crate::lists::{hands_out, letters_of, refused_at_first, told};
+use crate::lists::{hands_out, letters, refused_at_first, told};
 
 const NO_ROOM: Refused = Refused { refusal: Refusal::NoRoom, finished: 0 };
 
@@ -20,7 +21,7 @@ fn put(committer: &mut Committer, id: PointId, below: &[PointId], change: impl F
 }
 
 /// List A without its commit: anchor 11, trigger 13.
-fn list_a() -> Committer {
+pub fn list_a() -> Committer {
     let mut committer = started(8, &Start { commit_history_rounds: 1, used: Some(0), ..beginning() }, 13);
     let [a, b, c] = [point(11, 0), point(12, 0), point(13, 0)];
     put(&mut committer, a, &[], |info| PointInfo { top_proof: point(10, 0), ..info });
@@ -80,13 +81,12 @@ fn list_a_and_its_bytes() {
     let (a, trigger) = (point(11, 0), point(13, 0));
     let mut bytes = buffer(45);
     assert_eq!(committer.outlook(&trigger, &mut bytes), Ok(1));
-    let id = [&a.round.to_be_bytes()[..], &[a.author as u8], &a.digest].concat();
-    assert_eq!(bytes, [&id[..], &[0, 0, 0, 1], &[0, 0, 0, 1]].concat());
+    assert_eq!(bytes, [&id_bytes(&a)[..], &[0, 0, 0, 1], &[0, 0, 0, 1]].concat());
     every_length(&committer, &trigger, &[look(a, 1, &[1])]);
     let Answer::Looked(told) = committer.call(&Call::Outlook(trigger)) else { panic!("an outlook") };
     assert_eq!(told[0].to_string(), format!("outlook {} 1 linked 1", a.text(" ")));
     // nothing is left after the commit
-    assert_eq!(committer.commit(&trigger, &[0], &mut buffer(136)), Ok(1));
+    assert_eq!(committer.commit(&trigger, &[0], &mut buffer(181)), Ok(1));
     every_length(&committer, &trigger, &[]);
 }
 
@@ -103,8 +103,8 @@ fn two_anchors_and_the_gap_question() {
             assert_eq!(committer.commit(&trigger, &[], &mut buffer(500)), Err(asked));
             committer.gap_question().unwrap();
         }
-        // the first record has 173 bytes: the second anchor is left, with 12 committed
-        assert_eq!(committer.commit(&trigger, &[0; 5], &mut buffer(173)), Err(Refused { finished: 1, ..NO_ROOM }));
+        // the first record has 263 bytes: the second anchor is left, with 12 committed
+        assert_eq!(committer.commit(&trigger, &[0; 5], &mut buffer(263)), Err(Refused { finished: 1, ..NO_ROOM }));
         every_length(&committer, &trigger, &[look(d, 2, &[1, 1, 1])]);
     }
 }
@@ -125,13 +125,13 @@ fn bytes_that_are_cut_short() {
 // ---- histories that overlap
 
 /// Genesis 10, H 4, used by 0, peers 0 and 1.
-fn b4_start() -> Start {
+pub fn b4_start() -> Start {
     Start { commit_history_rounds: 4, deduplicate_rounds: 5, peers: 3, used: Some(0), ..beginning() }
 }
 
 /// What the second anchor of B4 includes beside the proof of the first.
 #[derive(Clone, Copy, PartialEq, Eq)]
-enum Below {
+pub enum Below {
     Proof,
     /// 13.1.g too, which includes 12.1.h and the first anchor; h includes 11.0.a
     Broad,
@@ -139,7 +139,7 @@ enum Below {
 
 /// B4: one point a round by peer 0, from a in 11 on; anchors 12.0.b and 14.0.d with the proofs c and e, the trigger f in
 /// 16. With H 4 the second history reaches down to a. These points are certified.
-fn b4(with: Start, below: Below, certified: &[PointId]) -> Committer {
+pub fn b4(with: Start, below: Below, certified: &[PointId]) -> Committer {
     let mut committer = Committer::new(20);
     committer.start(&with).unwrap();
     (11..=16).for_each(|round| committer.round(round, 3).unwrap());
@@ -164,16 +164,14 @@ fn first() -> PointId {
     id(12, 0, 'b')
 }
 
-fn second() -> PointId {
+pub fn second() -> PointId {
     id(14, 0, 'd')
 }
 
 /// The bytes of what is told of an anchor.
 fn bytes_of(look: &Look) -> Vec<u8> {
-    let PointId { round, author, digest } = look.anchor;
     let counts = std::iter::once(look.points).chain(look.linked.iter().copied());
-    let id = [&round.to_be_bytes()[..], &[author as u8], &digest].concat();
-    id.into_iter().chain(counts.flat_map(u32::to_be_bytes)).collect()
+    id_bytes(&look.anchor).into_iter().chain(counts.flat_map(u32::to_be_bytes)).collect()
 }
 
 /// The counts of B4: the second anchor hands out c and d, and links to b, which is committed then; a isn't linked any
@@ -210,8 +208,8 @@ fn a_point_below_two_anchors() {
     let mut bytes = buffer(1000);
     let due = Refused { refusal: Refusal::BadLists, finished: 1 };
     assert_eq!(copy.commit(&trigger, &[0; 4], &mut bytes), Err(due));
-    assert_eq!(anchors(&bytes, 1).iter().map(letters_of).collect::<Vec<_>>(), ["ab"]);
-    assert!(bytes[173..].iter().all(|byte| *byte == 0xa5), "bytes beyond the record were touched");
+    assert_eq!(letters(&copy, &bytes, 1), ["ab"]);
+    assert!(bytes[263..].iter().all(|byte| *byte == 0xa5), "bytes beyond the record were touched");
     tells(&copy, &b4_looks()[1..]);
     refused_at_first(&copy, &trigger, &[0; 2], 24);
     assert_unchanged(&hands_out(&copy, &trigger, &[0; 3], &["cd"]), &after);
@@ -221,8 +219,8 @@ fn a_point_below_two_anchors() {
 fn sizes_of_a_commit() {
     let looks = b4_looks();
     assert_eq!(looks.iter().map(Look::bytes).sum::<usize>(), 106);
-    assert_eq!(CommitSizes::of(&looks), CommitSizes { points: 4, lists: 5, records: 2 * (99 + 2 * 37) });
-    assert_eq!(CommitSizes::of(&looks[1..]), CommitSizes { points: 2, lists: 3, records: 99 + 2 * 37 });
+    assert_eq!(CommitSizes::of(&looks), CommitSizes { points: 4, lists: 5, records: 2 * (99 + 2 * 82) });
+    assert_eq!(CommitSizes::of(&looks[1..]), CommitSizes { points: 2, lists: 3, records: 99 + 2 * 82 });
     assert_eq!(CommitSizes::of(&[]), CommitSizes::default());
     assert_eq!(lists_in_order(&looks), [0; 5]);
     assert_eq!(lists_in_order(&[look(first(), 3, &[1, 2]), look(second(), 4, &[1, 0, 3])]), [0, 0, 1, 0, 0, 1, 2]);
@@ -253,8 +251,8 @@ fn an_outlook_refused_for_the_second_anchor() {
     let mut bytes = buffer(1000);
     let due = Refused { refusal: Refusal::NotCertified, finished: 1 };
     assert_eq!(committer.commit(&trigger, &[0; 5], &mut bytes), Err(due));
-    assert_eq!(anchors(&bytes, 1).iter().map(letters_of).collect::<Vec<_>>(), ["ab"]);
-    assert!(bytes[173..].iter().all(|byte| *byte == 0xa5), "bytes beyond the record were touched");
+    assert_eq!(letters(&committer, &bytes, 1), ["ab"]);
+    assert!(bytes[263..].iter().all(|byte| *byte == 0xa5), "bytes beyond the record were touched");
     refuses(&mut committer, 18, |c| c.outlook(&trigger, &mut bytes));
     refuses(&mut committer, 18, |c| c.commit(&trigger, &[], &mut []));
 }
@@ -332,7 +330,7 @@ fn sizes_of_random_chains() {
         let mut after = committer.clone();
         let mut bytes = buffer(COMMIT_BYTES_MAX);
         assert_eq!(after.commit(&trigger, &lists, &mut bytes), Ok(looks.len() as u32));
-        assert_told(&looks, &anchors(&bytes, looks.len() as u32));
+        assert_told(&looks, &handed(&after, &bytes, looks.len() as u32));
         assert_sizes(&committer, &trigger, &looks, &lists, &after);
         several += u32::from(looks.len() > 1);
         // what is linked and not handed out is an older anchor's

@@ -1,11 +1,11 @@
 //! Payload numbers (document 02, N2): what a resolution gives stands in the point, and a record ends with the sums over
 //! its history.
 
-use committer::{Anchor, Committer, LINK_WORDS, Point, PointId, PointInfo, Refusal, Refused, Start, Status, anchors};
+use committer::{Anchor, Committer, LINK_WORDS, Point, PointId, PointInfo, Refusal, Refused, Start, Status};
 
 use crate::commits::{anchor, proof, put, trigger, used};
 use crate::common::{
-    assert_outlook, assert_unchanged, buffer, id, link, paid, point, refuses, started, valid, version,
+    assert_outlook, assert_unchanged, buffer, handed, id, link, paid, point, refuses, started, valid, version,
 };
 use crate::lists::{k13_points, letters_of};
 use crate::outlooks::{trigger_of_two, two_anchors};
@@ -32,14 +32,14 @@ fn record_of(committer: &mut Committer, trigger: &PointId, lists: &[u8], length:
     assert_outlook(committer, trigger);
     let mut bytes = buffer(length);
     assert_eq!(committer.commit(trigger, lists, &mut bytes), Ok(1));
-    let [record] = <[Anchor; 1]>::try_from(anchors(&bytes, 1)).expect("one record");
+    let [record] = <[Anchor; 1]>::try_from(handed(committer, &bytes, 1)).expect("one record");
     assert_eq!(record.bytes(), length);
     (record, bytes)
 }
 
 /// The letters and sums of K13's record.
 fn k13_record(committer: &Committer, lists: &[u8]) -> (String, u64, u64) {
-    let (record, _) = record_of(&mut committer.clone(), &k13_trigger(), lists, 247);
+    let (record, _) = record_of(&mut committer.clone(), &k13_trigger(), lists, 427);
     (letters_of(&record), record.payload_len, record.payload_bytes)
 }
 
@@ -62,15 +62,15 @@ fn word(committer: &mut Committer, place: usize) -> &mut u64 {
 fn k13_sums() {
     let committer = k13(PAYLOADS);
     assert_eq!(k13_record(&committer, &LISTS), ("acbd".into(), 10, 43_210));
-    let mut bytes = buffer(246);
+    let mut bytes = buffer(426);
     refuses(&mut committer.clone(), 21, |c| c.commit(&k13_trigger(), &LISTS, &mut bytes));
-    assert_eq!(bytes, buffer(246));
-    let (record, bytes) = record_of(&mut committer.clone(), &k13_trigger(), &LISTS, 247);
-    assert_eq!(bytes[231..], [0, 0, 0, 0, 0, 0, 0, 10, 0, 0, 0, 0, 0, 0, 0xa8, 0xca]);
+    assert_eq!(bytes, buffer(426));
+    let (record, bytes) = record_of(&mut committer.clone(), &k13_trigger(), &LISTS, 427);
+    assert_eq!(bytes[411..], [0, 0, 0, 0, 0, 0, 0, 10, 0, 0, 0, 0, 0, 0, 0xa8, 0xca]);
     assert!(record.to_string().contains(" exec 1 prev 0 payload 10 43210 points 4: 11.0.61"), "{record}");
     // what is held stays as it is after the commit
     let mut after = committer.clone();
-    after.commit(&k13_trigger(), &LISTS, &mut buffer(247)).unwrap();
+    after.commit(&k13_trigger(), &LISTS, &mut buffer(427)).unwrap();
     for ((id, _), payload) in k13_points().iter().zip(PAYLOADS) {
         assert_eq!(payload_of(&after, id), payload);
     }
@@ -92,20 +92,21 @@ fn k13_in_another_order_and_with_other_numbers() {
 #[test]
 fn two_anchors_at_once() {
     let committer = two_anchors(false);
-    let mut bytes = buffer(2 * 173);
+    let mut bytes = buffer(2 * 263);
     assert_eq!(committer.clone().commit(&trigger_of_two(), &[0; 5], &mut bytes), Ok(2));
     let sums = |anchor: &Anchor| (letters_of(anchor), anchor.payload_len, anchor.payload_bytes);
-    let whole = anchors(&bytes, 2);
+    let whole = handed(&committer, &bytes, 2);
     assert_eq!(whole.iter().map(sums).collect::<Vec<_>>(), [("ab".into(), 2, 23), ("cd".into(), 2, 27)]);
     // the second record in every shorter buffer: 21 with the first one finished, and no byte beyond it
-    for length in 173..2 * 173 {
+    for length in 263..2 * 263 {
         let mut short = buffer(length);
         let due = Refused { refusal: Refusal::NoRoom, finished: 1 };
         assert_eq!(committer.clone().commit(&trigger_of_two(), &[0; 5], &mut short), Err(due), "{length} bytes");
-        assert_eq!(short[..173], bytes[..173]);
-        assert!(short[173..].iter().all(|byte| *byte == 0xa5));
+        assert_eq!(short[..263], bytes[..263]);
+        assert!(short[263..].iter().all(|byte| *byte == 0xa5));
     }
-    for length in [0, 83, 157, 172] {
+    // before and in the ids, the links, the sums
+    for length in [0, 83, 157, 173, 247, 262] {
         let mut short = buffer(length);
         refuses(&mut committer.clone(), 21, |c| c.commit(&trigger_of_two(), &[0; 5], &mut short));
         assert_eq!(short, buffer(length));
@@ -155,7 +156,7 @@ fn resolved_late_and_a_place_used_again() {
         committer.resolve(id, &paid(info.clone(), payload)).unwrap();
         assert_eq!(payload_of(&committer, id), payload);
     }
-    let (record, _) = record_of(&mut committer, &k13_trigger(), &LISTS, 247);
+    let (record, _) = record_of(&mut committer, &k13_trigger(), &LISTS, 427);
     assert_eq!((letters_of(&record).as_str(), record.payload_len, record.payload_bytes), ("acbd", 10, 43_210));
 
     // a to d go, e and f stay
@@ -173,7 +174,7 @@ fn resolved_late_and_a_place_used_again() {
     put(&mut committer, i, trigger(&[h]));
     committer.certify(&g).unwrap();
     assert_eq!(committer.gap_question(), Ok(true));
-    let (record, _) = record_of(&mut committer, &i, &[0, 1, 0, 0], 247);
+    let (record, _) = record_of(&mut committer, &i, &[0, 1, 0, 0], 427);
     assert_eq!((letters_of(&record).as_str(), record.payload_len, record.payload_bytes), ("efxg", 111, 19));
     assert_eq!([e, f, x, g, h, i].map(|id| payload_of(&committer, &id).0), [5, 6, 100, 0, 9, 0]);
 }
@@ -233,7 +234,7 @@ fn words_that_are_cleared() {
     let mut committer = k13(PAYLOADS);
     put(&mut committer, point(10, 1), paid(valid(&[], &[]), (8, 8)));
     let kept = words(&committer);
-    committer.commit(&k13_trigger(), &LISTS, &mut buffer(247)).unwrap();
+    committer.commit(&k13_trigger(), &LISTS, &mut buffer(427)).unwrap();
     let mut dropped = committer.clone();
     assert_eq!(dropped.drop_upto(12), Ok(true));
     assert_eq!(words(&dropped), [&[0], &kept[1..6], &[0; 6]].concat());

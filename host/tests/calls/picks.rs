@@ -1,10 +1,10 @@
 //! Picks (document 02, N4): "pick them by rising digest out of the round's places". Ranks count the needed points of one
 //! round, whatever else it holds, wherever its points stand, whoever wrote them.
 
-use committer::{Committer, PointId, PointInfo, RECORD_BYTES, Start, Status, anchors};
+use committer::{Committer, POINT_BYTES, PointId, PointInfo, RECORD_BYTES, Start, Status};
 
 use crate::commits::{anchor, proof, put, used};
-use crate::common::{Noise, assert_outlook, buffer, id, refuses, started, valid};
+use crate::common::{Noise, assert_outlook, buffer, handed, id, refuses, started, valid};
 use crate::lists::{above_widest, hands_out, proved, refused_at_first, told, widest, widest_row, yields};
 use crate::outlooks::look;
 
@@ -127,9 +127,9 @@ fn a_committed_point_between_new_ones() {
 /// The points of the widest round as a commit with this list hands them out.
 fn widest_order(committer: &Committer, trigger: &PointId, list: &[u8]) -> Vec<PointId> {
     let count = list.len() + 5;
-    let mut bytes = buffer(RECORD_BYTES + count * 37);
+    let mut bytes = buffer(RECORD_BYTES + count * POINT_BYTES);
     assert_eq!(committer.clone().commit(trigger, &[&[0, 3, 2, 1, 0], list].concat(), &mut bytes), Ok(1));
-    let mut points = anchors(&bytes, 1).remove(0).points;
+    let mut points = handed(committer, &bytes, 1).remove(0).points;
     let rest = points.split_off(list.len());
     assert_eq!(rest, [&above_widest()[..], &[id(13, 0, 'd')]].concat());
     points

@@ -1,9 +1,9 @@
 //! Traces played: the lines of `player`, and the recordings that the repository's programs are run on.
 
 use committer::record::{bench_calls, calls, decode};
-use committer::{Anchor, Answer, Call, Committer, Look, PointId, PointInfo, Refusal, Start, anchors};
+use committer::{Anchor, Answer, Call, Committer, Look, PointId, PointInfo, Refusal, Start};
 
-use crate::common::{beginning, id, valid};
+use crate::common::{beginning, handed, id, valid};
 use crate::records::{id_fields, record_of, written};
 
 // ---- `player`
@@ -19,7 +19,7 @@ fn brief(trace: &[u8]) -> Vec<String> {
                 let given = committer.commit(&trigger, &lists, &mut buffer);
                 let count = given.unwrap_or_else(|why| why.finished);
                 let line = |a: Anchor| format!("anchor {} {} {}", a.anchor.round, a.anchor.author, a.points.len());
-                lines.extend(anchors(&buffer, count).into_iter().map(line));
+                lines.extend(handed(&committer, &buffer, count).into_iter().map(line));
                 given.err().map(|why| why.number())
             }
             Ok(Call::Remove { round, since }) => {
@@ -177,14 +177,15 @@ fn lines_of(call: &Call, answer: Answer) -> Vec<String> {
         Call::Drop(_) => "drop ",
         _ => "",
     };
-    let shown = |anchors: &[Anchor]| anchors.iter().map(Anchor::to_string).collect::<Vec<_>>();
+    let in_lines = |text: String| text.lines().map(String::from).collect::<Vec<_>>();
+    let shown = |anchors: &[Anchor]| anchors.iter().map(Anchor::to_string).flat_map(in_lines).collect::<Vec<_>>();
     let (mut lines, last) = match answer {
         Answer::Done => (vec![], "ok".into()),
         Answer::Said(yes) => (vec![], format!("{question}{}", if yes { "yes" } else { "no" })),
         Answer::Handed(anchors) => (shown(&anchors), "ok".into()),
         Answer::Looked(looks) => (looks.iter().map(Look::to_string).collect(), "ok".into()),
         Answer::Refused(why, finished) => (shown(&finished), refused(why.refusal)),
-        Answer::Removed(told) => (told.to_string().lines().map(String::from).collect(), "ok".into()),
+        Answer::Removed(told) => (in_lines(told.to_string()), "ok".into()),
     };
     lines.push(last);
     lines

@@ -27,6 +27,8 @@ struct Run {
     mixed: u32,
     /// how many sums of records are beyond 32 bits, and how many are 0
     sums: [u32; 2],
+    /// how many links of records have each of the words
+    words: [u32; 3],
     /// how many commits were refused with 24 after an anchor
     stopped: u32,
     /// how many events of a kind, and stats of peers, removes reported
@@ -51,6 +53,7 @@ impl Run {
             anchors: [0; 2],
             mixed: 0,
             sums: [0; 2],
+            words: [0; 3],
             stopped: 0,
             events: [0; 6],
             peers: 0,
@@ -94,6 +97,9 @@ impl Run {
         for sum in anchors.iter().flat_map(|anchor| [anchor.payload_len, anchor.payload_bytes]) {
             self.sums[0] += u32::from(sum > u32::MAX.into());
             self.sums[1] += u32::from(sum == 0);
+        }
+        for link in anchors.iter().flat_map(|anchor| &anchor.links) {
+            self.words[link.word as usize] += 1;
         }
     }
 
@@ -455,7 +461,7 @@ fn small_boards() {
 fn boards_that_commit() {
     let mut answers = Answers::new();
     let mut anchors = [0; 2];
-    let (mut mixed, mut stopped, mut sums) = (0, 0, [0; 2]);
+    let (mut mixed, mut stopped, mut sums, mut words) = (0, 0, [0; 2], [0; 3]);
     for seed in 0..250 {
         let mut run = Run::new(seed, 130, 1 + seed as u32 % 3);
         let noise = &mut run.noise;
@@ -483,6 +489,7 @@ fn boards_that_commit() {
         mixed += run.mixed;
         stopped += run.stopped;
         sums = [sums[0] + run.sums[0], sums[1] + run.sums[1]];
+        (0..3).for_each(|word| words[word] += run.words[word]);
     }
     assert_met(&answers, 10, &[("commit", &[0, 13, 14, 16, 18, 20, 24, 25])]);
     assert_met(&answers, 10, &[("outlook", &[0, 13, 14, 15, 16, 17, 18, 25])]);
@@ -490,6 +497,7 @@ fn boards_that_commit() {
     assert!(!answers.contains_key(&("outlook", 20)) && !answers.contains_key(&("outlook", 24)));
     assert!(mixed >= 20 && stopped >= 10, "records of three in a round, 24 after an anchor: {mixed}, {stopped}");
     assert!(sums[0] >= 50 && sums[1] >= 5, "sums beyond 32 bits, sums of 0: {sums:?}");
+    assert!(words.iter().all(|count| *count >= 30), "links by word: {words:?}");
     assert!(anchors[0] >= 100 && anchors[1] >= 500, "handed out and told: {anchors:?}");
 }
 

@@ -8,6 +8,7 @@ use std::time::Instant;
 
 use committer::{Call, Committer, KEY_WORDS, LINK_WORDS, Link, PLACES_MAX, PointId, PointInfo, Start, Tables};
 use runs::compare::in_a_row;
+use runs::library::records;
 use runs::lists::{commit, digest};
 use runs::rust::Rust;
 use runs::view::{Answer, Told};
@@ -284,7 +285,7 @@ fn our_commit(points: u32, calls: &[Call], trigger: &PointId) -> [f64; 3] {
         let test = clock(|| work.gap_question().expect("started"));
         restore(&mut work, &before, points + 2);
         let ours = clock(|| assert_eq!(work.commit(trigger, &lists, &mut buffer), Ok(1)));
-        assert_eq!(committer::anchors(&buffer, 1)[0].points.len(), points as usize);
+        assert_eq!(records(&buffer, 1)[0].points.len(), points as usize);
         for (times, time) in times.iter_mut().zip([ours, test, ours - test]) {
             times.push(time);
         }
@@ -385,7 +386,7 @@ fn our_outlook(anchors: u32, calls: &[Call], trigger: &PointId) -> (usize, [f64;
         let outlook = clock(|| assert_eq!(work.outlook(trigger, &mut buffer), Ok(anchors)));
         restore(&mut work, &before, held);
         let commit = clock(|| assert_eq!(work.commit(trigger, &lists, &mut buffer), Ok(anchors)));
-        points = committer::anchors(&buffer, anchors).iter().map(|anchor| anchor.points.len()).sum();
+        points = records(&buffer, anchors).iter().map(|anchor| anchor.points.len()).sum();
         for (times, time) in times.iter_mut().zip([outlook, commit, test]) {
             times.push(time);
         }

@@ -38,6 +38,8 @@ const WIDE_SUMS_LEAST: u64 = 1_000;
 const THREE_LEAST: u64 = 5_000;
 /// Commits with a damaged place list.
 const DAMAGED_LISTS_LEAST: u64 = 5_000;
+/// Links behind points of each word, and points of each kind that has more than one linker, or one outside the record.
+const LINKS_LEAST: u64 = 20_000;
 /// Outlooks that tell anchors, and commits of two anchors or more that had the outlook's counts.
 const OUTLOOKS_LEAST: u64 = 5_000;
 const SEVERAL_LEAST: u64 = 5_000;
@@ -188,6 +190,12 @@ fn enough(counts: &Counts) -> ExitCode {
         println!("{three} records with three linked points were compared, not {THREE_LEAST}, or");
         println!("{lists} damaged place lists were tried, not {DAMAGED_LISTS_LEAST}");
         good = false;
+    }
+    for (what, times) in counts.links.named() {
+        if times < LINKS_LEAST {
+            println!("links behind points, {what}: {times} only were compared, not {LINKS_LEAST}");
+            good = false;
+        }
     }
     let outlooks = counts.outlooks_with_anchors();
     if outlooks < OUTLOOKS_LEAST {

@@ -1,8 +1,8 @@
 //! Writes the recorded runs of `crates/recorded` anew: parts 0 to 102 as they stand in CRATES/recorded/stdin, their commits with the Rust's place
-//! lists, the parts of remove, of place lists, of payloads, of needed points, of what a record's reader tests and leaves unread and of outlooks that
-//! add up, the sample that `record` wrote into SAMPLE, and the part that is cut short. Texts are what the library answers, but for the counts of
-//! outlooks, which are made from links and marks; those of the sample are the Rust's. What `crates/replay` plays, K13, is part 67 without its last
-//! commit.
+//! lists, the parts of remove, of place lists, of payloads, of needed points, of what a record's reader tests and leaves unread, of outlooks that
+//! add up and of links behind points, the sample that `record` wrote into SAMPLE, and the part that is cut short. Texts are what the library
+//! answers, but for the counts of outlooks, which are made from links and marks, and the links behind points, which are made from the links; those
+//! of the sample are the Rust's, but for the links behind points. What `crates/replay` plays, K13, is part 67 without its last commit.
 //!
 //!     cargo run --release --offline --bin parts -- CRATES SAMPLE
 
@@ -354,6 +354,47 @@ fn added_up() -> Vec<Vec<Call>> {
     ]
 }
 
+// ---- the link behind each point (02, N7)
+
+/// What differs from list C: the anchor 13.0.e without its witness 11.1.b, or over 12.1.d alone; the status of d.
+struct C {
+    witness: bool,
+    left: bool,
+    status: u32,
+}
+
+/// List C: 11.0.a and 11.1.b; 12.0.c and 12.1.d, which include both; the anchor 13.0.e over c and d with the witness b; 14.0.f, 15.0.g.
+fn list_c(of: &C) -> Vec<Call> {
+    let mut calls = rounds(&Start { deduplicate_rounds: 5, ..from_10(4, 3) }, 15);
+    let low = [(0, 'a'), (1, 'b')];
+    low.into_iter().for_each(|(peer, letter)| put(&mut calls, id(11, peer, letter), valid()));
+    put(&mut calls, id(12, 0, 'c'), includes(&low));
+    put(&mut calls, id(12, 1, 'd'), PointInfo { status: of.status, ..includes(&low) });
+    let over = under(if of.left { &[(0, 'c'), (1, 'd')] } else { &[(1, 'd')] });
+    let witness = links(if of.witness { &[(1, 'b')] } else { &[] });
+    chain(&mut calls, 13, ['e', 'f', 'g'], PointInfo { witness, ..over });
+    calls
+}
+fn told() -> Vec<Vec<Call>> {
+    let commit = |bytes: &[u8]| Call::Commit(id(15, 0, 'g'), bytes.to_vec());
+    let whole = || C { witness: true, left: true, status: 1 };
+    // 163: 13.1.h isn't reached, though it links to c, and to a as a witness
+    let mut beside = list_c(&whole());
+    put(&mut beside, id(13, 1, 'h'), PointInfo { witness: links(&[(0, 'a')]), ..includes(&[(0, 'c')]) });
+    vec![
+        // 158: the lowest digest of a round, and a witness before an include
+        with(list_c(&whole()), [commit(&[0, 1, 0, 1, 0])]),
+        // 159: without the witness
+        with(list_c(&C { witness: false, ..whole() }), [commit(&[0, 1, 0, 1, 0])]),
+        // 160: in the other order of the lists
+        with(list_c(&whole()), [commit(&[0, 0, 1, 0, 1])]),
+        // 161, 162: over 12.1.d alone, which is valid, and trans-invalid
+        with(list_c(&C { left: false, ..whole() }), [commit(&[0, 0, 1, 0])]),
+        with(list_c(&C { left: false, status: 2, ..whole() }), [commit(&[0, 0, 1, 0])]),
+        with(beside, [commit(&[0, 1, 0, 1, 0])]),
+    ]
+}
+
 /// Where the flag of a start, the marks of a resolution and the flag of a remove stand in their records.
 const FLAG_AT: usize = 26;
 const MARKS_AT: usize = 44;
@@ -423,7 +464,7 @@ fn parts() -> Vec<Vec<u8>> {
     parts.push([encoded(&[Call::Start(start(0b11))]), broken].concat());
     parts.extend(needed().iter().map(|calls| encoded(calls)));
     parts.extend(traced());
-    parts.extend(added_up().iter().map(|calls| encoded(calls)));
+    parts.extend(added_up().iter().chain(&told()).map(|calls| encoded(calls)));
     parts
 }
 

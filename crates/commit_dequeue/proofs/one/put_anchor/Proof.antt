@@ -10,14 +10,14 @@ put-record-requires : tie.Need-put-record-requires
 put-record-requires c κs =
     let a = c .before .before .before .before .before .before .before .before .before .before .before .before .args in
     let p = c .before .before .before .before .before .before .before .before .before .before .before .before .pre in
-    let (l, n) = draw-by (a .s) (a .keys .now) (a .certs .now) (a .order .now) (a .lists .now) (a .lists-end) (a .marks .now) (a .lowest .0) (enqueuedOf (a .e)) _ (c .before .before .before .before .round-at .ensures) _ (p .0) in
-    (l, (p .1 .0 .3, p .1 .0 .4, n, p .1 .1))
+    let (l, n) = draw-by (a .s) (a .keys .now) (a .certs .now) (a .order .now) (a .lists .now) (a .lists-end) (a .marks .now) (a .lowest .0) (enqueuedOf (a .e)) _ (c .before .before .before .before .round-at .ensures) _ (p .0 .0) in
+    ((l, p .0 .1), (p .1 .0 .3, p .1 .0 .4, n, p .1 .1))
 
 returns : tie.Need-returns
 returns c =
     let p = c .before .before .put-record .ensures in
     let a = c .before .before .before .before .before .before .before .before .before .before .before .before .before .before .before .args in
-    (p .0, p .1 ∙ ap (written (a .b .now) (a .at)) (record-by (a .s) (a .keys .now) (a .certs .now) (a .order .now) (a .lists .now) (a .lists-end) (a .marks .now) (a .lowest .0) (enqueuedOf (a .e)) _ (c .before .before .before .before .before .before .before .round-at .ensures) _ _ _ _ (c .before .before .before .before .before .before .executable .ensures) (c .before .before .before .before .previous-anchor .ensures)))
+    (p .0, p .1 ∙ ap (written (a .b .now) (a .at)) (record-by (a .s) (a .keys .now) (a .certs .now) (a .order .now) (a .lists .now) (a .lists-end) (a .marks .now) (a .lowest .0) (enqueuedOf (a .e)) _ (c .before .before .before .before .before .before .before .round-at .ensures) _ _ _ _ _ (c .before .before .before .before .before .before .executable .ensures) (c .before .before .before .before .previous-anchor .ensures)))
 
 pub put-anchor-spec : {M : Type 1} → statement M
 put-anchor-spec =
