@@ -59,19 +59,19 @@ extern "C" {
 /*
  * The number of the layout: types, parameters, the words of the tables, the bytes of what is lent and answered. It is raised if one of them
  * changes. The library has a function whose name ends with its layout's number, and every translation unit with this header refers to that
- * of this number. So a library of another layout doesn't link, and the linker says which function it doesn't have: committer_layout_1.
+ * of this number. So a library of another layout doesn't link, and the linker says which function it doesn't have: committer_layout_2.
  * A host that stores state and tables and goes on with them after an update stores this number too: words of another layout may pass the
  * tests of a call.
  *
  * A translation unit that takes no function of the library, as a program that only reads records, defines COMMITTER_TYPES_ONLY before it
  * includes this header. Functions of the library aren't declared then, and it links without the library.
  */
-#define COMMITTER_LAYOUT 1
+#define COMMITTER_LAYOUT 2
 
 /* ---- platform */
 
 /*
- * The library is one ELF object for x86-64 with the System V calling convention; `rt staticlib` writes no other. It has some 51 KB of
+ * The library is one ELF object for x86-64 with the System V calling convention; `rt staticlib` writes no other. It has some 53 KB of
  * position-independent code and constants, and no variables. It uses SSE2, which must be enabled, and nothing beyond it.
  *
  * It needs from outside: memcpy, memset.
@@ -623,7 +623,7 @@ static inline const char *committer_refusal_text(uint32_t number)
 /* The version of the library that is linked. A host may compare it with COMMITTER_VERSION_MAJOR and the other two. */
 committer_version committer_library_version(void);
 
-/* committer_layout_1, which answers COMMITTER_LAYOUT. Nobody needs to call it. */
+/* committer_layout_2, which answers COMMITTER_LAYOUT. Nobody needs to call it. */
 #define COMMITTER_LAYOUT_NAME COMMITTER_LAYOUT_NAMED(COMMITTER_LAYOUT)
 #define COMMITTER_LAYOUT_NAMED(number) COMMITTER_LAYOUT_JOINED(number)
 #define COMMITTER_LAYOUT_JOINED(number) committer_layout_##number

@@ -217,14 +217,14 @@ const _: () = assert!(size_of::<Counters>() == 18);
 
 // the reference to the layout's function that every program with this crate has
 #[used]
-static LAYOUT_NEEDED: extern "C" fn() -> u32 = committer_layout_1;
+static LAYOUT_NEEDED: extern "C" fn() -> u32 = committer_layout_2;
 
 // the version, the layout, the generator and the game, which are lent nothing
 unsafe extern "C" {
     pub safe fn committer_library_version() -> Version;
 
     /// Answers the number in its name. The library of another layout has no function of this name.
-    pub safe fn committer_layout_1() -> u32;
+    pub safe fn committer_layout_2() -> u32;
 
     pub safe fn committer_seed(digest: DigestWords) -> Pcg;
 

@@ -12,7 +12,7 @@ pub const VERSION: Version = Version {
 };
 
 /// The number of the layout of what crosses, and of the tables. A library of another layout isn't linked.
-pub const LAYOUT: u32 = 1;
+pub const LAYOUT: u32 = 2;
 
 /// The version of the library that is linked.
 pub fn library_version() -> Version {

@@ -7,10 +7,10 @@ use mathlib.Core.Logic.{_⊎_, inl, inr, ⊎-elim}
 use mathlib.Core.Bool.{Bool, true, false, _&&_, _||_, cond}
 use native.Mathlib.Omega.{arith}
 use lib.Dec.{eqb}
-use lib.ListN.{length, getD, set, replicate, length-set, length-replicate}
+use lib.ListN.{length, getD, length-set, length-replicate}
 use lib.Seq.{getD-set-same, getD-set-other}
 use borrow.Author.Tests.{eq-eqb, ne-eqb}
-use Rattle.laws.specs.Test.{byTest, clash, and-no, and-yes, sameOr, leOr}
+use Rattle.laws.specs.Test.{byTest, clash, sameOr, leOr}
 use Rattle.laws.specs.Scan.{any}
 use Rattle.models.specs.Tables.{roundAt, placeAt, targetAt}
 use Rattle.models.specs.Live.{reach}

@@ -166,7 +166,7 @@ module _ (n : ℕ) (ks : List ℕ) (q : ℕ) (fits : q * 8 + 8 ≤ n) where
       (λ l. subst (λ z. getD (set by i (noted ks (getD by i 0) q)) z 0 * 8 ≤ n) (sym e) (rw (getD-set-same by i (noted ks (getD by i 0) q) 0 l) (noted-fits (getD by i 0) (h i)))))
       (λ d. rw (getD-set-other by i x (noted ks (getD by i 0) q) 0 d) (h x))
 
-  pub note-sourced : (by : List ℕ) (t : ℕ) → Sourced n by → Sourced n (noteAt ks by q t)
+  note-sourced : (by : List ℕ) (t : ℕ) → Sourced n by → Sourced n (noteAt ks by q t)
   unfolding noteAt
   note-sourced by t h = byTest (eqb t 0) (λ y. rw y h) (λ f. rw f (byTest (leb t 4096) (λ y. rw y (one-sourced by (t - 1) h)) (λ z. rw z h)))
 

@@ -6,25 +6,22 @@ use mathlib.Core.Logic.{_⊎_, inl, inr, _≢_, ⊎-elim}
 use mathlib.Core.Bool.{Bool, true}
 use native.Mathlib.Omega.{arith}
 use lib.Dec.{eqb}
-use lib.ListN.{length, getD}
+use lib.ListN.{getD}
 use borrow.Author.Tests.{eqb-true, eq-eqb}
 use Rattle.laws.specs.Test.{clash, both, and-l, and-r, sameOr}
 use Rattle.laws.specs.Scan.{any-elim, any-intro}
-use Rattle.spec.specs.Ids.{Id}
 use Rattle.spec.specs.Store as store
 use Rattle.spec.specs.Store.{Store, idAt}
 use Rattle.spec.specs.Paths.{LinkedTo}
 use Rattle.spec.specs.WellFormed.{Wf}
 use Rattle.spec.specs.History.{lowest, inHistory, behind}
 use Rattle.spec.specs.Behind.{Rather, Behind, linkers-in, anchor-alone, behind-is, behind-one}
-use Rattle.spec.specs.Order.{Before}
 use Rattle.spec.specs.Extension.{fits-in}
 use Rattle.models.specs.Digest.{Fit}
 use Rattle.models.specs.Tables.{roundAt, placeAt, targetAt, Used}
 use Rattle.models.specs.Live.{reach}
 use Rattle.tables_heights.specs.Refines.{Leads}
 use Rattle.commit_state.specs.declared.state.State.{State}
-use Rattle.tables_test.specs.Model.{places-says}
 use Rattle.tables_test.specs.View.{view}
 use Rattle.tables_test.specs.Refines.{Started}
 use Rattle.dag_round_order.specs.Span.{below-le}

@@ -4,7 +4,7 @@
 // first round that links to a point is the highest, and the last of that round has the lowest digest.
 ghost use mathlib.Core.Path.{_≡_};
 ghost use Prim.Native.Nat.{_+_, _*_, _-_, _<_, _≤_};
-ghost use lib.ListN.{length, getD};
+ghost use lib.ListN.{length};
 ghost use Rattle.back_history.specs.Model.{Range};
 ghost use Rattle.back_behind.specs.Model.{goesBefore, noteAt, noteLinks, noteDown, sources, Sourced};
 use back_history::is_uncommitted;

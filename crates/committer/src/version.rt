@@ -23,8 +23,8 @@ pub extern "C" fn committer_library_version() -> Version
 
 // The layout's number. Its name ends with that number: a header of another layout refers to another name, and doesn't link.
 #[no_mangle]
-pub extern "C" fn committer_layout_1() -> u32
-    ensures { λ r. ⌜ r ≡ 1 ⌝ }
+pub extern "C" fn committer_layout_2() -> u32
+    ensures { λ r. ⌜ r ≡ 2 ⌝ }
 {
-    1
+    2
 }

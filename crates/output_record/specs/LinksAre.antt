@@ -1,22 +1,21 @@
 -- What is told of the points of a history is what document 02 says (N7).
-use Prim.Native.Nat.{ℕ, _+_, _-_, _<_}
-use mathlib.Core.Path.{_≡_, refl, sym, ap, ap₂, _∙_}
+use Prim.Native.Nat.{ℕ, _+_, _-_}
+use mathlib.Core.Path.{_≡_, sym, ap, ap₂, _∙_}
 use mathlib.Core.Logic.{_≢_}
-use mathlib.Core.Bool.{Bool, true, false, cond}
+use mathlib.Core.Bool.{true, false, cond}
 use mathlib.Core.List.{List, _++_}
 use native.Mathlib.Omega.{arith}
 use lib.Dec.{eqb}
-use lib.ListN.{length, getD}
+use lib.ListN.{getD}
 use borrow.Author.Tests.{eq-eqb, ne-eqb}
 use Rattle.laws.specs.Test.{sameOr}
 use Rattle.spec.specs.Ids.{idBytes}
-use Rattle.spec.specs.Store as store
 use Rattle.spec.specs.Store.{Point, Store, idAt}
-use Rattle.spec.specs.History.{lowest, inHistory, behind, includesWord, witnessWord, anchorWord, wordFor, linkBytes}
+use Rattle.spec.specs.History.{inHistory, behind, includesWord, witnessWord, wordFor, linkBytes}
 use Rattle.spec.specs.Behind.{Behind, behind-is, behind-own, word-own, word-round}
 use Rattle.spec.specs.Extension.{fits-in}
 use Rattle.models.specs.Digest.{Fit}
-use Rattle.models.specs.Tables.{roundAt, placeAt, Used}
+use Rattle.models.specs.Tables.{Used}
 use Rattle.commit_state.specs.View.{pointAt}
 use Rattle.commit_state.specs.declared.state.State.{State}
 use Rattle.tables_test.specs.View.{view}

@@ -19,7 +19,7 @@ fn one_version() {
 
 #[test]
 fn one_layout() {
-    assert_eq!([sys::committer_layout_1(), said("LAYOUT")], [LAYOUT; 2]);
+    assert_eq!([sys::committer_layout_2(), said("LAYOUT")], [LAYOUT; 2]);
 }
 
 /// `check.sh` compares what the C function says with the same file.

@@ -1,7 +1,6 @@
 use Rattle.back_behind.specs.Model.{goes-none, goes-some}
-use mathlib.Core.Path.{refl, ap, _∙_}
+use mathlib.Core.Path.{refl, _∙_}
 use lib.Dec.{eqb}
-use native.Mathlib.Omega.{arith}
 use borrow.Author.Needs.{needs}
 use Rattle.back_behind.proofs.goes_before.Statement.{statement}
 use Rattle.back_behind.proofs.goes_before.Tie as tie

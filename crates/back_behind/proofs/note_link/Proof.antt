@@ -1,4 +1,3 @@
-use native.Mathlib.Omega.{arith}
 use Rattle.back_behind.specs.Model.{note-none, note-out, note-yes, note-no}
 use borrow.Author.Needs.{needs}
 use Rattle.back_behind.proofs.note_link.Statement.{statement}
