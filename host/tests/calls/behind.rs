@@ -1,4 +1,4 @@
-//! The link behind each point (document 02, N7): the cases of its page with all bytes of their records, which of several links
+//! The link behind each point (document 02, N7): its cases with all bytes of their records, which of several links
 //! is told, links that aren't told, and bytes that no record has.
 
 use committer::{
