@@ -59,6 +59,15 @@ for f in SPECS:
         words |= set(re.findall(r"^\s+([^\s:]+)\s*:", m.group(1), re.M))
 
 
+# fields of records: where they are declared, after a dot, and before `=` in a value
+BLOCK = re.compile(r"^(?:pub )?record [^\n]* where\n((?:(?:[ ]+[^\n]*)?\n)+)", re.M)
+FIELD = re.compile(r"^ +(?:pub )?([^\s:(){}]+) :", re.M)
+fields = set()
+for f in SPECS:
+    for b in BLOCK.finditer(read[f]):
+        fields |= set(FIELD.findall(b.group(1)))
+
+
 def snake(part):
     if not part or not (part[0].islower() or part[0] == "_"):
         return part
@@ -114,6 +123,8 @@ def seen(f, p):
 for f in SPECS + PROOFS:
     outside(read[f], lambda p: seen(f, p), lambda p: p)
 
+# fields that are no name elsewhere
+FIELDS_ONLY = {w for w in fields if w not in words and w not in lemmas}
 ren = {}
 for w in tokens:
     if w not in LIBRARY and camel_free(w) != w:
@@ -127,6 +138,8 @@ for w in bare:
 # names that fall together
 taken = collections.defaultdict(set)
 for w in tokens:
+    if w in fields and w not in words and w not in lemmas and (w in FIELDS_ONLY):
+        continue
     taken[ren.get(w, w)].add(w)
 for n, olds in taken.items():
     if len(olds) > 1:
@@ -145,40 +158,49 @@ for w in sorted(ren):
 if DRY:
     sys.exit()
 
+FIELDS = {w: camel_free(w).replace("-", "_") for w in fields if "-" in w or camel_free(w) != w}
 CAMEL = {w: n for w, n in ren.items() if "-" not in w and camel_free(w) != w}
 
 
-def swap(text, use, fields):
-    def one(m):
-        w = m.group(0)
-        if w not in use:
-            return w
-        after_dot = text_here[m.start() - 1: m.start()] == "." and text_here[m.start() - 2: m.start() - 1] not in ("", " ", "{")
-        if after_dot and w not in fields:
-            return w
-        return use[w]
+def swap(text, use):
+    declared = [(b.start(1) + m.start(1), b.start(1) + m.end(1)) for b in BLOCK.finditer(text) for m in FIELD.finditer(b.group(1))]
+    declared = {a for a, _ in declared}
+    where = 0
 
-    def part(p):
-        nonlocal text_here
-        text_here = p
-        return NAME.sub(one, p)
+    def one(p, base):
+        def name(m):
+            w = m.group(0)
+            if w not in use and w not in FIELDS:
+                return w
+            dot = p[m.start() - 1: m.start()] == "." and p[m.start() - 2: m.start() - 1] not in ("", " ", "{")
+            before = text[:base + m.start()].rstrip()[-1:]
+            value = before in ("{", ";") and re.match(r"\s=\s", p[m.end():] + " ")
+            if w in FIELDS and (dot or value or base + m.start() in declared):
+                return FIELDS[w]
+            return w if dot and w not in CAMEL else use.get(w, w)
+        return NAME.sub(name, p)
 
-    def said(p):
-        return NAME.sub(lambda m: CAMEL.get(m.group(0), m.group(0)), p)
-
-    text_here = ""
-    return outside(text, part, said)
+    out = ""
+    for line in text.split("\n"):
+        code, dashes, said = re.match(r"(.*?)((?:(?<=\s)|^)(?:--|//)\s|$)(.*)$", line).groups()
+        at = where
+        for k, p in enumerate(re.split(r'("[^"\n]*")', code)):
+            out += p if k % 2 else one(p, at)
+            at += len(p)
+        out += dashes + NAME.sub(lambda m: CAMEL.get(m.group(0), m.group(0)), said) + "\n"
+        where += len(line) + 1
+    return out[:-1]
 
 
 for f, t in read.items():
     if f in SPECS:
-        new = swap(t, ren, set(CAMEL))
+        new = swap(t, ren)
     elif f in PROOFS:
         mine = {n for m, names in imports(t) if own_module(m) for n in names}
-        new = swap(t, {w: n for w, n in ren.items() if w in CAMEL or w in mine}, set(CAMEL))
+        new = swap(t, {w: n for w, n in ren.items() if w in CAMEL or w in mine})
     elif f in SRC:
-        new = swap(t, CAMEL, set(CAMEL))
+        new = swap(t, CAMEL)
     else:
-        new = swap(t, {w: n for w, n in ren.items() if w in CAMEL or w in lemmas}, set(CAMEL))
+        new = swap(t, {w: n for w, n in ren.items() if w in CAMEL or w in lemmas})
     if new != t:
         open(f, "w", encoding="utf-8").write(new)

@@ -134,20 +134,20 @@ module _ (s : State) (ks ls cs os : List ℕ) (t : Started s ks ls cs os) where
   round_most : (q : ℕ) → Used os s.count q → round_at ks q ≤ 4_000_000_000
   unfolding rounds_hold id_holds
   round_most q u =
-      let r = range_says _ _ _ (and_l _ _ t.rounds-ok) in
+      let r = range_says _ _ _ (and_l _ _ t.rounds_ok) in
       let h : round_at ks q ≤ s.top.0 = leb-true _ _ (and_l _ _ (and_r (leb s.bottom.0 (round_at ks q)) _ (t.facts.ids q u))) in
       omega (arith, h, r.1)
 
   -- the order can be searched
   ready : Ready s ks os
-  ready = let (a, b, c) = shape_says ks ls cs os t.shaped in (a, places_says _ t.places-ok, t.count-ok, t.facts.inside, t.facts.sorted)
+  ready = let (a, b, c) = shape_says ks ls cs os t.shaped in (a, places_says _ t.places_ok, t.count_ok, t.facts.inside, t.facts.sorted)
 
   -- genesis is a round of 01
   genesis-fits : s.genesis.0 ≤ 4_000_000_000
   unfolding rounds_hold range_holds
   genesis-fits =
-      let r = range_says s.genesis.0 s.bottom.0 s.top.0 (and_l _ _ t.rounds-ok) in
-      let h : s.genesis.0 ≤ s.bottom.0 = leb-true _ _ (and_l _ _ (and_l _ _ t.rounds-ok)) in
+      let r = range_says s.genesis.0 s.bottom.0 s.top.0 (and_l _ _ t.rounds_ok) in
+      let h : s.genesis.0 ≤ s.bottom.0 = leb-true _ _ (and_l _ _ (and_l _ _ t.rounds_ok)) in
       omega (arith, h, r.0, r.1)
 
   module _ (a : ℕ) (u : Used os s.count a) where
@@ -173,7 +173,7 @@ module _ (s : State) (ks ls cs os : List ℕ) (t : Started s ks ls cs os) where
         let (f, g, h) = shape_says ks ls cs os t.shaped in
         let k : below ks os s.count (round_at ks a + 1) ≤ s.count = below-le ks os s.count (round_at ks a + 1) in
         subst (λ (y : HistorySpan). Range cs os y.low y.high) (sym (e ∙ ap (history_span s ks os) o))
-        (low_high s ks ls cs os fk fl t a u, omega (arith, k, t.count-ok), places_says _ t.places-ok, h, λ i l. t.facts.inside i (omega (arith, k)))
+        (low_high s ks ls cs os fk fl t a u, omega (arith, k, t.count_ok), places_says _ t.places_ok, h, λ i l. t.facts.inside i (omega (arith, k)))
 
     -- what the sweep asks for
     pub span_ready : Fit ks → Fit ls → (r : ℕ) (x : HistorySpan) → r ≡ round_at ks a → x ≡ history_span s ks os r

@@ -29,7 +29,7 @@ module _ (s : State) (ks ls cs os : List ℕ) (r : ℕ) where
   unfolding view dropped_state calls.drained new_bottom do_drop with_numbers conf_of progress_of gap_of
   drop_view_lem fk fl h =
       let b : ℕ = drain_bottom s r in
-      drained-view s ks ls cs os fk fl h b (omega arith) (dropped_state s (min r s.top.0) b (s.count - below ks os s.count b)) refl refl (counted s ks ls cs os fk fl h).memory-ok refl refl refl refl
+      drained-view s ks ls cs os fk fl h b (omega arith) (dropped_state s (min r s.top.0) b (s.count - below ks os s.count b)) refl refl (counted s ks ls cs os fk fl h).memory_ok refl refl refl refl
 
   -- yes, if the whole range is dropped
   pub drop-answer : (do_drop (view s ks ls cs os) r).answer ≡ flag (eqb (min r s.top.0) r)

@@ -78,15 +78,15 @@ module _ (s : State) (ks ls cs os : List ℕ) (fk : Fit ks) (fl : Fit ls) (h : c
 
   -- a place that stays was used, of a round from b up
   stayed : (q : ℕ) → Used os2 (n - k) q → Used os n q × (b ≤ round_at ks q)
-  stayed q u = (used_kept ks os n b had.facts.sorted had.count-ok q).0 u
+  stayed q u = (used_kept ks os n b had.facts.sorted had.count_ok q).0 u
 
   -- its words are as they were
   kept : (t : List ℕ) (w q : ℕ) → Used os2 (n - k) q → Same t w q (emptied t w os k)
-  kept = words_kept ks os n b had.facts.sorted had.count-ok
+  kept = words_kept ks os n b had.facts.sorted had.count_ok
 
   -- as many places
   size : length os2 ≡ length os
-  size = drained-length os n k (below-le ks os n b) had.count-ok
+  size = drained-length os n k (below-le ks os n b) had.count_ok
 
   -- the tables still have room for the same number of places
   shaped2 : shape ks2 ls2 cs2 os2 ≡ true
@@ -99,13 +99,13 @@ module _ (s : State) (ks ls cs os : List ℕ) (fk : Fit ks) (fl : Fit ls) (h : c
 
   -- the order still holds places
   inside2 : Inside os2 (n - k) (length os2)
-  inside2 = subst (Inside os2 (n - k)) (sym size) (drained-inside os n k (length os) had.count-ok had.facts.inside)
+  inside2 = subst (Inside os2 (n - k)) (sym size) (drained-inside os n k (length os) had.count_ok had.facts.inside)
 
   -- it is still sorted
   sorted2 : Sorted ks2 os2 (n - k)
   sorted2 x y l m =
       rw (key-same ks2 ks (place_at os2 x) (place_at os2 x) (kept ks 8 (place_at os2 x) (x, omega arith, refl)), key-same ks2 ks (place_at os2 y) (place_at os2 y) (kept ks 8 (place_at os2 y) (y, m, refl)))
-      (drained-sorted ks os n k had.count-ok had.facts.sorted x y l m)
+      (drained-sorted ks os n k had.count_ok had.facts.sorted x y l m)
 
   -- a link that is live still was live, and leads to a place that stays
   links2 : Links b ks2 ls2 os2 (n - k)
@@ -117,7 +117,7 @@ module _ (s : State) (ks ls cs os : List ℕ) (fk : Fit ks) (fl : Fit ls) (h : c
       let a = same_target ls ls2 q hl j sm in
       let live : Live s.bottom.0 ks q j = (omega (arith, hq 6 (omega arith)), sm, omega arith, omega (arith, hq 6 (omega arith))) in
       let (p, up, e, m) = had.facts.right q j w live (omega arith) in
-      let u2 = (used_kept ks os n b had.facts.sorted had.count-ok p).1 (up, omega (arith, m.falls)) in
+      let u2 = (used_kept ks os n b had.facts.sorted had.count_ok p).1 (up, omega (arith, m.falls)) in
       (p, u2, a ∙ e, same_names ls ls2 q hl ks ks2 j p hq (kept ks 8 p u2) sm m)
 
   -- the words of a place that stays still are values of 01
@@ -129,8 +129,8 @@ module _ (s : State) (ks ls cs os : List ℕ) (fk : Fit ks) (fl : Fit ls) (h : c
     -- the tables can still be read as a store
     drained-regular : regular t ks2 ls2 cs2 os2 ≡ true
     drained-regular =
-        regular_intro t ks2 ls2 cs2 os2 (omega (arith, size, places_says _ had.places-ok)) (record {
-          room = omega (arith, had.count-ok, size, ec);
+        regular_intro t ks2 ls2 cs2 os2 (omega (arith, size, places_says _ had.places_ok)) (record {
+          room = omega (arith, had.count_ok, size, ec);
           memory = holds;
           inside = subst (λ m. Inside os2 m (length os2)) (sym ec) inside2;
           sorted = subst (Sorted ks2 os2) (sym ec) sorted2;
@@ -150,7 +150,7 @@ module _ (s : State) (ks ls cs os : List ℕ) (fk : Fit ks) (fl : Fit ls) (h : c
     reads : {A : Type 0} (q : ℕ) (y x f : A) → (Used os2 (n - k) q → y ≡ x) → cond (is_used os2 t.count q) y f ≡ cond (ltb (store.round_at v q) b) f (cond (is_used os n q) x f)
     unfolding view point_at
     reads q y x f d =
-        let z = is_used_kept ks os n b had.facts.sorted had.count-ok q in
+        let z = is_used_kept ks os n b had.facts.sorted had.count_ok q in
         (λ i. cond (is_used os2 (ec i) q) y f)
         ∙ (ap (λ c. cond c y f) z
         ∙ chosen (is_used os n q) b (round_at ks q) (store.round_at v q) y x f (λ u. ap (λ (p : Point). p.id.round) (seen_used ks ls cs os n q ((used_is os n q).0 u))) (λ u. d ((used_is os2 (n - k) q).0 (z ∙ u))))

@@ -122,7 +122,7 @@ module _ (s : State) (ks ls cs os : List ℕ) (fk : Fit ks) (fl : Fit ls) (t : S
 
   -- the tables keep the rules of 01
   pub well : Wf v
-  well = facts_wf s ks ls cs os fk fl t.shaped t.regulated t.begun t.places-ok t.conf-ok t.rounds-ok t.facts
+  well = facts_wf s ks ls cs os fk fl t.shaped t.regulated t.begun t.places_ok t.conf_ok t.rounds_ok t.facts
 
   -- ids rise with positions
   pub ids_rise : (i j : ℕ) → i < j → j < n → Before (id_at v (place_at os i)) (id_at v (place_at os j))

@@ -67,7 +67,7 @@ module _ (s : State) (ks ls cs os : List ℕ) (fk : Fit ks) (fl : Fit ls) (t : S
 
   -- at most 4,096 places
   small : length os ≤ 4096
-  small = places_says _ t.places-ok
+  small = places_says _ t.places_ok
 
   -- a place is read by its words, if it is used
   sees : (q : ℕ) → v.pt q ≡ seen_at ks ls cs os n q
@@ -189,7 +189,7 @@ module _ (s : State) (ks ls cs os : List ℕ) (fk : Fit ks) (fl : Fit ls) (t : S
         go q (hand p x k d e) =
             let up = go p k in
             let u = named_used p (need_named v a p (used_named a used) k) in
-            let w = named_used x (linked _ _ e).named-is in
+            let w = named_used x (linked _ _ e).named_is in
             omega (arith, down v p x e, used_round p u, used_round x w)
 
     -- the lowest round, as the code has it
@@ -200,7 +200,7 @@ module _ (s : State) (ks ls cs os : List ℕ) (fk : Fit ks) (fl : Fit ls) (t : S
     -- genesis is not above the bottom
     genesis_low : s.genesis.0 ≤ b
     unfolding rounds_hold range_holds
-    genesis_low = leb-true _ _ (and_l _ _ (and_l _ _ t.rounds-ok))
+    genesis_low = leb-true _ _ (and_l _ _ (and_l _ _ t.rounds_ok))
 
     -- the lowest round is at most one above the anchor
     low_enough : lowest v a ≤ suc (store.round_at v a)

@@ -272,7 +272,7 @@ module _ (s : State) (ks ls cs os : List ℕ) (fk : Fit ks) (fl : Fit ls) (h : c
     -- a round fits
     small : x < 2 ^ 64
     unfolding rounds_hold
-    small = let r = range_says _ _ _ (and_l _ _ t.rounds-ok) in omega (arith, top, r.1)
+    small = let r = range_says _ _ _ (and_l _ _ t.rounds_ok) in omega (arith, top, r.1)
 
     module _ (p : ℕ) (u : Used os n p) (valid : status_at ks p ≡ 1) where
       -- the anchor's id

@@ -56,11 +56,11 @@ module _ (s : State) (ks ls cs os : List ℕ) (fk : Fit ks) (fl : Fit ls) (h : c
 
   -- at most 4,096 places
   small : length os ≤ 4096
-  small = places_says _ t.places-ok
+  small = places_says _ t.places_ok
 
   -- a top's height fits
   most : H ≤ 255
-  most = conf_says _ _ t.conf-ok
+  most = conf_says _ _ t.conf_ok
 
   module _ (q : ℕ) (u : Used os s.count q) where
     -- its word lies in the table

@@ -31,7 +31,7 @@ use Rattle.cert_certify.specs.Word.{flags_same}
 free-height : (v : Store) → Sized v → (p : ℕ) → (v.pt p).named ≡ false → height v p ≡ 0
 free-height v z p e =
     height_unique (height_is v z p) (record {
-      bound = λ t to w. absurd (clash (along (λ x. (v.pt x).named ≡ true) (λ x y l n. (linked _ _ l).named-is) w (and_l _ _ to)) e);
+      bound = λ t to w. absurd (clash (along (λ x. (v.pt x).named ≡ true) (λ x y l n. (linked _ _ l).named_is) w (and_l _ _ to)) e);
       met = inl refl;
     })
 

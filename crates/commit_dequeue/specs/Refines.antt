@@ -86,10 +86,10 @@ module _ (s : State) (ks ls cs os : List ℕ) (fk : Fit ks) (fl : Fit ls) (h : c
 
   -- the anchor and its proof stand at used places
   pub anchor_used : Used os s.count e.anchor
-  anchor_used = named_used s ks ls cs os fk fl held e.anchor (resolved-named (v.pt e.anchor) x.anchor-done)
+  anchor_used = named_used s ks ls cs os fk fl held e.anchor (resolved-named (v.pt e.anchor) x.anchor_done)
 
   proof_used : Used os s.count e.proof
-  proof_used = named_used s ks ls cs os fk fl held e.proof (resolved-named (v.pt e.proof) x.proof-done)
+  proof_used = named_used s ks ls cs os fk fl held e.proof (resolved-named (v.pt e.proof) x.proof_done)
 
   -- what its tests give
   abbrev t : code.Tested
@@ -168,7 +168,7 @@ module _ (s : State) (ks ls cs os : List ℕ) (fk : Fit ks) (fl : Fit ls) (h : c
   ranking : Ranking ks os s.count cs
   ranking =
       let (k, l, c) = shape_says ks ls cs os held.shaped in
-      record { keys = k; used = held.count-ok; places = places_says _ held.places-ok; inside = held.facts.inside; sorted = held.facts.sorted; words = c }
+      record { keys = k; used = held.count_ok; places = places_says _ held.places_ok; inside = held.facts.inside; sorted = held.facts.sorted; words = c }
 
   -- for the test of its lists
   pub listing : Listing s ks os e
@@ -179,7 +179,7 @@ module _ (s : State) (ks ls cs os : List ℕ) (fk : Fit ks) (fl : Fit ls) (h : c
   unfolding tested_of tested_in gathered_of gathered_in history_span
   count_most =
       let a : length (those (t.high - t.low) (uncommitted_at cs os t.marks t.low)) ≤ t.high - t.low = those_most _ _ in
-      omega (arith, a, high_le, held.count-ok, places_says _ held.places-ok)
+      omega (arith, a, high_le, held.count_ok, places_says _ held.places_ok)
 
   -- the points of the history, from what the tests gave
   pub picked_ready : (r : code.Tested) → r ≡ t → (r.count ≤ 4096) × Pickable ks cs os r.low r.high × Small os cs r.high

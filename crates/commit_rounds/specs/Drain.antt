@@ -53,13 +53,13 @@ unfolding rounds_hold conf_holds
 given s ks ls cs os fk fl c e h =
     let t = counted s ks ls cs os fk fl (passed _ _ e h) in
     let (k, l, m) = shape_says ks ls cs os t.shaped in
-    let r = range_says s.genesis.0 s.bottom.0 s.top.0 (and_l _ _ t.rounds-ok) in
-    let u = and_r (ltb 0 s.commit_history_rounds) _ t.conf-ok in
+    let r = range_says s.genesis.0 s.bottom.0 s.top.0 (and_l _ _ t.rounds_ok) in
+    let u = and_r (ltb 0 s.commit_history_rounds) _ t.conf_ok in
     record {
       keys = k;
       links = l;
       certs = m;
-      room = t.count-ok;
+      room = t.count_ok;
       inside = t.facts.inside;
       sorted = t.facts.sorted;
       bottom = r.0;

@@ -194,7 +194,7 @@ module _ (s : State) (ks ls cs os : List ℕ) (i : PointId) (fk : Fit ks) (fl : 
   regular-after =
       regular_intro (named_state s) us ls ds ps (omega (arith, length_is, r.1)) (record {
         room = omega (arith, room.1, length_is);
-        memory = t.memory-ok;
+        memory = t.memory_ok;
         inside = inside-after;
         sorted = sorted_after;
         right = links-after;

@@ -38,7 +38,7 @@ module _ (s : State) (ks ls cs os : List ℕ) (fk : Fit ks) (fl : Fit ls) (h : c
   pub ready : Ready s ks os
   ready =
       let t = counted s ks ls cs os fk fl h in
-      ((shape_says ks ls cs os t.shaped).0, places_says _ t.places-ok, t.count-ok, t.facts.inside, t.facts.sorted)
+      ((shape_says ks ls cs os t.shaped).0, places_says _ t.places_ok, t.count_ok, t.facts.inside, t.facts.sorted)
 
 module _ (s : State) (ks ls cs os : List ℕ) (i : PointId) where
   -- the store

@@ -1,5 +1,6 @@
 // Origin: none.
 // Keepers and spoilers: who decides whether an anchor reaches a point.
+#![tactic(auto)]
 ghost use Rattle.std.specs.Prelude.{◌≤◌, ◌≡◌};
 ghost use Rattle.game.specs.Model.{game_of, refusal_of, forced_of, Answers};
 ghost use Rattle.spec.specs.Game.{game_ok, forced_by, within as inside};

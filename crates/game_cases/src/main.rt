@@ -1,5 +1,6 @@
 // Origin: none.
 // Solved games of keepers and spoilers, a line each, and games that are refused.
+#![tactic(auto)]
 use game::{Reach, reach_of};
 use models::tables::{PEER_LAST, PEER_SLOTS};
 

@@ -133,7 +133,7 @@ module _ (s : State) (ks ls cs os : List ℕ) (fk : Fit ks) (fl : Fit ls) (h : c
   t = counted s ks ls cs os fk fl h
 
   small : length os ≤ 4096
-  small = places_says _ t.places-ok
+  small = places_says _ t.places_ok
 
   sh : shape us zs ws os ≡ true
   sh = shape_resolution s ks ls cs os fk fl h q u info rs g tame1 tame2 range
@@ -150,7 +150,7 @@ module _ (s : State) (ks ls cs os : List ℕ) (fk : Fit ks) (fl : Fit ls) (h : c
   resolvable =
       let (a, b, c) = shape_says ks ls cs os t.shaped in
       let (j, l, e) = u in
-      ((ready s ks ls cs os fk fl h, b, c, omega (arith, t.facts.inside j l), cert_small ks ls cs q (t.fits q u), rounds_says s t.rounds-ok), g, resolve_placed)
+      ((ready s ks ls cs os fk fl h, b, c, omega (arith, t.facts.inside j l), cert_small ks ls cs q (t.fits q u), rounds_says s t.rounds_ok), g, resolve_placed)
 
   -- ---- rounds, heights and tops stay
 

@@ -346,8 +346,8 @@ module _ (s : State) (ks ls cs os : List ℕ) (fk : Fit ks) (fl : Fit ls) (h : c
       unfolding stored_links
       regular-after =
           regular_intro s us ts ds os rd.1 (record {
-            room = t.count-ok;
-            memory = t.memory-ok;
+            room = t.count_ok;
+            memory = t.memory_ok;
             inside = rd.3;
             sorted = sorted_after;
             right = links-after;

@@ -45,10 +45,10 @@ module _ (s : State) (ks ls cs os : List ℕ) (fk : Fit ks) (fl : Fit ls) (h : c
 
   -- its positions may be read
   pub tables_ready : (length ks ≡ length os * 8) × (s.count ≤ length os) × Inside os s.count (length os)
-  tables_ready = let (a, b, c) = shape_says ks ls cs os t.shaped in (a, t.count-ok, t.facts.inside)
+  tables_ready = let (a, b, c) = shape_says ks ls cs os t.shaped in (a, t.count_ok, t.facts.inside)
 
   pub order_ready : Sorted ks os s.count × (length os ≤ 4096) × (length cs ≡ length os)
-  order_ready = let (a, b, c) = shape_says ks ls cs os t.shaped in (t.facts.sorted, places_says _ t.places-ok, c)
+  order_ready = let (a, b, c) = shape_says ks ls cs os t.shaped in (t.facts.sorted, places_says _ t.places_ok, c)
 
   -- the rounds from `first` on, x of them
   module _ (first low x : ℕ) (e : first ≡ first_shown v) (d : x ≡ low - first) where

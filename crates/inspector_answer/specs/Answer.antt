@@ -151,7 +151,7 @@ module _ (s : State) (ks ls cs os : List ℕ) (fk : Fit ks) (fl : Fit ls) (h : c
 
   memory_few : length v.memory.entries ≤ 128
   unfolding view memory_of memory_holds
-  memory_few = let few = leb-true s.memory.count 128 (and_l _ _ t.memory-ok) in omega (arith, few, length-map (take s.memory.count s.memory.entries) entry_of, length-take s.memory.count s.memory.entries)
+  memory_few = let few = leb-true s.memory.count 128 (and_l _ _ t.memory_ok) in omega (arith, few, length-map (take s.memory.count s.memory.entries) entry_of, length-take s.memory.count s.memory.entries)
 
   all_short : Short event_bytes 167_182_848 228_928 (events v low)
   unfolding view

@@ -89,7 +89,7 @@ module _ (s : State) (ks ls cs os : List ℕ) (fk : Fit ks) (fl : Fit ls) (t : S
 
   -- what a scan of the round asks for
   pub round_ready : (x : Span) → x ≡ span_of ks os s.count r → Range cs os x.low x.high × (length ks ≡ length os * 8)
-  round_ready x e = let (a, b, c) = shape_says ks ls cs os t.shaped in (span_range ks cs os s.count r x e t.facts.sorted t.count-ok (places_says _ t.places-ok) c t.facts.inside, a)
+  round_ready x e = let (a, b, c) = shape_says ks ls cs os t.shaped in (span_range ks cs os s.count r x e t.facts.sorted t.count_ok (places_says _ t.places_ok) c t.facts.inside, a)
 
   -- as many as 01 counts
   pub count_is : (a : ℕ) (w : PointTest) → count_of ks cs os low high a w ≡ count (of (test_of w v) v a) (places_in v r)
@@ -107,7 +107,7 @@ module _ (s : State) (ks ls cs os : List ℕ) (fk : Fit ks) (fl : Fit ls) (t : S
 
   -- what the search of its positions asks for
   pub span_ready : r ≤ 4_000_000_000 → ((length ks ≡ length os * 8) × (s.count ≤ length os) × Inside os s.count (length os)) × (Sorted ks os s.count × (r ≤ 4_000_000_000))
-  span_ready l = let (a, b, c) = shape_says ks ls cs os t.shaped in ((a, t.count-ok, t.facts.inside), (t.facts.sorted, l))
+  span_ready l = let (a, b, c) = shape_says ks ls cs os t.shaped in ((a, t.count_ok, t.facts.inside), (t.facts.sorted, l))
 
   -- the places that pass, in 01's order
   pub keep_is : (a : ℕ) (w : PointTest) → picked os (passes ks cs a w) low (high - low) ≡ keep (of (test_of w v) v a) (places_in v r)

@@ -94,7 +94,7 @@ module _ (rs : List ℕ) (last : Round) (n : ℕ) (few : n ≤ 128) where
 -- the round above genesis
 pub genesis-fits : (s : State) (ks ls cs os : List ℕ) → Fit ks → Fit ls → counts_as_started (view s ks ls cs os) ≡ true → s.genesis.0 + 1 < 4_294_967_296
 unfolding view conf_of
-genesis-fits s ks ls cs os fk fl h = let w = well s ks ls cs os fk fl (counted s ks ls cs os fk fl h) in omega (arith, w.low, w.rounds-ok, w.high)
+genesis-fits s ks ls cs os fk fl h = let w = well s ks ls cs os fk fl (counted s ks ls cs os fk fl h) in omega (arith, w.low, w.rounds_ok, w.high)
 
 -- ---- the steps of the code
 
@@ -141,4 +141,4 @@ module _ (s : State) (ks ls cs os : List ℕ) (fk : Fit ks) (fl : Fit ls) (h : c
           )
 
       stays : ltb (first_inspected s) r ≡ false → Left s ks ls cs os r (memory_left s ks ls cs os r)
-      stays e = rw e (sym (after_is ∙ ap (λ x. cond x (round_data v (r - 1)) v.memory) e), t.memory-ok)
+      stays e = rw e (sym (after_is ∙ ap (λ x. cond x (round_data v (r - 1)) v.memory) e), t.memory_ok)

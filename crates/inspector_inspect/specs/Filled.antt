@@ -122,7 +122,7 @@ module _ (s : State) (ks ls cs os : List ℕ) (fk : Fit ks) (fl : Fit ls) (h : c
   -- it has room
   pub memory_ready : (rs : List ℕ) → 1_408 ≤ length rs → (s.memory.count ≤ 128) × (s.memory.count * 11 ≤ length rs)
   unfolding memory_holds
-  memory_ready rs b = let few : s.memory.count ≤ 128 = leb-true s.memory.count 128 (and_l _ _ t.memory-ok) in (few, omega arith)
+  memory_ready rs b = let few : s.memory.count ≤ 128 = leb-true s.memory.count 128 (and_l _ _ t.memory_ok) in (few, omega arith)
 
   -- at the bottom: the rows of the state's memory
   pub memory_before : (rs r' : List ℕ) → 1_408 ≤ length rs → length s.memory.entries ≡ 128 → r ≡ s.bottom.0 → r' ≡ memory_rows s.memory rs → RowsBefore s ks ls cs os r r' s.memory.count
@@ -133,7 +133,7 @@ module _ (s : State) (ks ls cs os : List ℕ) (fk : Fit ks) (fl : Fit ls) (h : c
       (record {
         few = few;
         entries = rows_is s.memory rs room (omega arith) ∙ ap (λ y. (cond y v.memory (round_data v (prev r))).entries) (sym (eq-eqb r s.bottom.0 at));
-        authors = rows_authors s.memory rs room t.memory-ok;
+        authors = rows_authors s.memory rs room t.memory_ok;
         retained = λ u k m. absurd (omega arith);
       })
 

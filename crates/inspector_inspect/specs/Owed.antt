@@ -71,7 +71,7 @@ module _ (s : State) (ks ls cs os : List ℕ) (fk : Fit ks) (fl : Fit ls) (h : c
 
   rises : Ascending (entries_of rs n)
   unfolding view
-  rises = subst Ascending (sym rows.entries) (before-keeps (λ m. Ascending m.entries) v r (memory_rises s.memory t.memory-ok) (λ x. data_rises v x (well s ks ls cs os fk fl t)))
+  rises = subst Ascending (sym rows.entries) (before-keeps (λ m. Ascending m.entries) v r (memory_rises s.memory t.memory_ok) (λ x. data_rises v x (well s ks ls cs os fk fl t)))
 
   module _ (last x : ℕ) (at : last ≡ last_before s r) (is : x ≡ r - 1) where
     abbrev live : Bool

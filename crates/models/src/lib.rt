@@ -2,6 +2,7 @@
 // Rounds, heights, digests, ids and peer sets (parts), the certificate word (cert), what a resolution gives (info) and its five cases
 // (dag_point), what a call is refused with (refusal), the words of the lent tables (tables) and of a place in them (place), sizes of answers
 // (output).
+#![tactic(auto)]
 pub mod cert;
 pub mod dag_point;
 pub mod info;

@@ -178,8 +178,8 @@ module _ (s : State) (ks ls cs os : List ℕ) (fk : Fit ks) (fl : Fit ls) (h : c
       pub tables_ready : (high ≤ length os) × (length cs ≤ 4096) × (length cs * 8 ≤ length ks) × Inside os high (length cs) × Small os cs high
       tables_ready =
           let (k, l, c) = shape_says ks ls cs os t.shaped in (
-            omega (arith, t.count-ok),
-            omega (arith, c, places_says _ t.places-ok),
+            omega (arith, t.count_ok),
+            omega (arith, c, places_says _ t.places_ok),
             omega (arith, c, k),
             (λ i b. inside i (omega arith)),
             λ i b. cert_small ks ls cs (place_at os i) (t.fits (place_at os i) (i, omega arith, refl)),
@@ -226,11 +226,11 @@ module _ (s : State) (ks ls cs os : List ℕ) (fk : Fit ks) (fl : Fit ls) (h : c
 
         -- the tables stay regular
         shape-after : shape ks ls ds os ≡ true
-        shape-after = shape-certs s ks ls cs ds os t.shaped t.regulated (places_says _ t.places-ok) (marks-length os m low cs high) small
+        shape-after = shape-certs s ks ls cs ds os t.shaped t.regulated (places_says _ t.places_ok) (marks-length os m low cs high) small
 
         regular-after : regular next ks ls ds os ≡ true
         unfolding regular after_state
-        regular-after = regular-certs s ks ls cs ds os t.shaped t.regulated (places_says _ t.places-ok) (marks-length os m low cs high) small
+        regular-after = regular-certs s ks ls cs ds os t.shaped t.regulated (places_says _ t.places_ok) (marks-length os m low cs high) small
 
         -- the numbers and the rounds are those of 01
         progress_is : progress_of next ≡ (dequeued v e).progress

@@ -22,7 +22,7 @@ unfolding Readable
 readable s ks ls cs os fk fl b e h =
     let t = counted s ks ls cs os fk fl (sym e ∙ h) in
     let l = shape_says ks ls cs os t.shaped in
-    (l.0, l.2, t.count-ok, t.facts.inside)
+    (l.0, l.2, t.count_ok, t.facts.inside)
 
 -- each index is within its table
 module _ (ks cs os : List ℕ) (n i : ℕ) (r : Readable ks cs os n) (l : i < n) where

@@ -226,7 +226,7 @@ module _ (s t : Store) (x : ℕ) (m : Marked s t x) where
   valid-marked i q v = record {
     found = find-marked i ∙ v.found;
     done = done-marked q ∙ v.done;
-    is_valid_lem = ap (λ (z : Resolution). z.status) (m.resolutions q) ∙ v.is-valid;
+    is_valid = ap (λ (z : Resolution). z.status) (m.resolutions q) ∙ v.is_valid;
   }
 
 -- ---- two walks
@@ -349,19 +349,19 @@ leaves s w h i l at b = subst (λ (z : Store). Leaves s z (w + suc h) i) (sym wh
     u = supposed s b.older
 
     whole : supposed s l ≡ dequeued u e
-    whole = ap (supposed s) b.last-is ∙ supposed-append s b.older (e ∷ [])
+    whole = ap (supposed s) b.last_is ∙ supposed-append s b.older (e ∷ [])
 
     before : Marked s u (w + suc h)
     before = marked_all s s (w + suc h) b.older (marked-none s (w + suc h)) (under-less s (w + h) (w + suc h) b.older (omega arith) b.low)
 
     round_is : round_at u b.proof ≡ w + suc h
-    round_is = ap (λ (z : Id). z.round) (before.ids b.proof ∙ b.proof-is) ∙ at
+    round_is = ap (λ (z : Id). z.round) (before.ids b.proof ∙ b.proof_is) ∙ at
 
     author_of : (id_at u b.anchor).author ≡ i.author
-    author_of = ap (λ (z : Id). z.author) (before.ids b.anchor) ∙ b.author-is
+    author_of = ap (λ (z : Id). z.author) (before.ids b.anchor) ∙ b.author_is
 
     marks : Marked s (dequeued u e) (w + suc h)
-    marks = marked_more s u (w + suc h) e before (let o : round_at s b.proof ≡ i.round = ap (λ (z : Id). z.round) b.proof-is in omega arith)
+    marks = marked_more s u (w + suc h) e before (let o : round_at s b.proof ≡ i.round = ap (λ (z : Id). z.round) b.proof_is in omega arith)
 
     lasts : (dequeued u e).progress.last_proof ≡ some (w + suc h)
     lasts = ap some round_is
@@ -408,11 +408,11 @@ fires-alike s w T p q d l c high f v t e same = record {
   place = q;
   found = f;
   done = both x.named (rw v refl);
-  is_valid_lem = v;
+  is_valid = v;
   chained = record {
     goes_on = no_three _ _ _ (ap not t) (ap (λ n. eqb n s.conf.genesis) rounds ∙ (or_none _ _ (or_none (not (s.pt p).resolution.trigger) _ c.goes_on).1).0) (lt-leb (round_at s q) (lowest_walked s) (omega (arith, high, rounds)));
     digest = d;
-    has_previous_lem = e;
+    has_previous = e;
     walked = subst (λ (z : Id). walk s (lowest_walked s) (z.round - lowest_walked s) z [] ≡ good l) same c.walked;
     linked = c.linked;
   };
@@ -435,21 +435,21 @@ fires-marked : (s t : Store) (x : ℕ) → Marked s t x → t.progress.last_proo
     → Adds t x (prev (round_at s f.place) - x) (previous_id s f.place f.chained.digest) fs → Oldest x (previous_id s f.place f.chained.digest) fs → Fires t T fs
 unfolding is_peer or_zero
 fires-marked s t x m last low T es f high fs g o = record {
-  author_ok = f.author-ok;
+  author_ok = f.author_ok;
   not_low = ap (λ n. ltb T.round n) m.bottom ∙ f.not_low;
-  not_high = ap (λ n. ltb n T.round) m.top ∙ f.not-high;
-  peer_ok = ap (λ n. not (ltb T.author 32 && member n T.author)) (m.peers T.round) ∙ f.peer-ok;
+  not_high = ap (λ n. ltb n T.round) m.top ∙ f.not_high;
+  peer_ok = ap (λ n. not (ltb T.author 32 && member n T.author)) (m.peers T.round) ∙ f.peer_ok;
   place = f.place;
   found = find-marked s t x m T ∙ f.found;
   done = done-marked s t x m f.place ∙ f.done;
-  is_valid_lem = ap (λ (z : Resolution). z.status) (m.resolutions f.place) ∙ f.is-valid;
+  is_valid = ap (λ (z : Resolution). z.status) (m.resolutions f.place) ∙ f.is_valid;
   chained = record {
     goes_on = no_three _ _ _
         (ap (λ (z : Resolution). not z.trigger) (m.resolutions f.place) ∙ (or_none (not (s.pt f.place).resolution.trigger) _ f.chained.goes_on).0)
         ((λ k. eqb (m.ids f.place k).round (m.conf k).genesis) ∙ (or_none (eqb (round_at s f.place) s.conf.genesis) _ (or_none (not (s.pt f.place).resolution.trigger) _ f.chained.goes_on).1).0)
         (lt-leb (round_at t f.place) (lowest_walked t) above);
     digest = f.chained.digest;
-    has_previous_lem = previous-marked s t x m f.place ∙ f.chained.has-previous;
+    has_previous = previous-marked s t x m f.place ∙ f.chained.has_previous;
     walked = rw (low_is, ap (λ (z : Id). z.round) (m.ids f.place), ap (λ (z : Id). z.author) (m.ids f.place)) (g [] ∙ ap good (append-nil fs));
     linked = rw low_is (oldest_linked x (previous_id s f.place f.chained.digest) fs o);
   };
@@ -495,19 +495,19 @@ splits s p l c found T es f n = go (chain-begins s p l c found)
         (fs, e, fires-marked s (supposed s l) x lv.marked lv.last (omega arith) T es f high fs a o)
 
 -- S's chain found an anchor: T's is a trigger's that passes all tests up to its chain
-later_fires : (s : Store) → Wf s → (S T : Id) (e : EnqueuedAnchor) (es : List EnqueuedAnchor) (f : Fires s S (e ∷ es)) → (h : Passes s S T) → previous_id s f.place f.chained.digest ≡ previous_id s h.first h.digest-first
+later_fires : (s : Store) → Wf s → (S T : Id) (e : EnqueuedAnchor) (es : List EnqueuedAnchor) (f : Fires s S (e ∷ es)) → (h : Passes s S T) → previous_id s f.place f.chained.digest ≡ previous_id s h.first h.digest_first
     → (c : List EnqueuedAnchor) → h.chain ≡ c → Fires s T c
 later_fires s w S T e es f h same (x ∷ xs) k = fires s T x xs (h.yields ∙ ap good k)
 later_fires s w S T e es f h same [] k = absurd (no_good e es (sym (fires_back s T (e ∷ es) alike) ∙ (h.yields ∙ ap good k)))
   where
-    is : previous_id s h.first h.digest-first ≡ previous_id s h.later h.digest-later
-    is = Memᴰ.eq_of_singleton (subst (λ (z : List EnqueuedAnchor). Memᴰ (previous_id s h.first h.digest-first) (sought s (previous_id s h.later h.digest-later) z)) k h.passes)
+    is : previous_id s h.first h.digest_first ≡ previous_id s h.later h.digest_later
+    is = Memᴰ.eq_of_singleton (subst (λ (z : List EnqueuedAnchor). Memᴰ (previous_id s h.first h.digest_first) (sought s (previous_id s h.later h.digest_later) z)) k h.passes)
 
     high : lowest_walked s < prev (round_at s f.place)
     high = let (n, at, b, a) = chain-begins s f.place (e ∷ es) f.chained (λ d. nil≢cons (sym d)) in omega (arith, at)
 
     alike : Fires s T (e ∷ es)
-    alike = fires-alike s w T f.place h.later h.digest-later (e ∷ es) f.chained high h.found-later h.is-valid h.is-trigger h.previous-later (same ∙ is)
+    alike = fires-alike s w T f.place h.later h.digest_later (e ∷ es) f.chained high h.found_later h.is_valid h.is_trigger h.previous_later (same ∙ is)
 
 -- the chain of T alone is that of S, then that of T after S
 pub chain_splits : (s : Store) → Wf s → (S T : Id) (es : List EnqueuedAnchor) → anchors_of s S ≡ good es → Passes s S T → (fs gs : List EnqueuedAnchor) → anchors_of (supposed s es) T ≡ good fs → anchors_of s T ≡ good gs → es ++ fs ≡ gs
@@ -518,14 +518,14 @@ chain_splits s w S T (e ∷ es) u h fs gs v a = go (splits s f.place (e ∷ es) 
     f : Fires s S (e ∷ es)
     f = fires s S e es u
 
-    same : previous_id s f.place f.chained.digest ≡ previous_id s h.first h.digest-first
-    same = previous-same s S _ _ _ _ f.found h.found_first f.chained.has-previous h.previous-first
+    same : previous_id s f.place f.chained.digest ≡ previous_id s h.first h.digest_first
+    same = previous-same s S _ _ _ _ f.found h.found_first f.chained.has_previous h.previous_first
 
     g : Fires s T h.chain
     g = later_fires s w S T e es f h same h.chain refl
 
     at : Memᴰ (previous_id s f.place f.chained.digest) (sought s (previous_id s g.place g.chained.digest) h.chain)
-    at = subst₂ (λ (x y : Id). Memᴰ x (sought s y h.chain)) (sym same) (previous-same s T _ _ _ _ h.found-later g.found h.previous-later g.chained.has-previous) h.passes
+    at = subst₂ (λ (x y : Id). Memᴰ x (sought s y h.chain)) (sym same) (previous-same s T _ _ _ _ h.found_later g.found h.previous_later g.chained.has_previous) h.passes
 
     go : (ls : List EnqueuedAnchor) × (h.chain ≡ (e ∷ es) ++ ls) × Fires (supposed s (e ∷ es)) T ls → (e ∷ es) ++ fs ≡ gs
     go (ls, k, r) = ap (λ (z : List EnqueuedAnchor). (e ∷ es) ++ z) (good-same fs ls (sym v ∙ fires_back (supposed s (e ∷ es)) T ls r)) ∙ (sym k ∙ good-same h.chain gs (sym h.yields ∙ a))

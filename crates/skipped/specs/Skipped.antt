@@ -33,10 +33,10 @@ pub record Passes (s : Store) (S T : Id) : Type 0 where
   pub first : ℕ
   pub found_first : find s S ≡ some first
   pub digest_first : ℕ
-  pub previous-first : previous (s.pt first) ≡ some digest_first
+  pub previous_first : previous (s.pt first) ≡ some digest_first
   pub later : ℕ
   pub found_later : find s T ≡ some later
-  pub is_valid_lem : status_at s later ≡ 1
+  pub is_valid : status_at s later ≡ 1
   pub is_trigger : (s.pt later).resolution.trigger ≡ true
   pub digest_later : ℕ
   pub previous_later : previous (s.pt later) ≡ some digest_later

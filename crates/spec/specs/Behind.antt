@@ -36,7 +36,7 @@ kind_is d p q h = same_test _ _ to from
 
     from : eqb (q.id.round + d) p.id.round ≡ true → links_by d p q ≡ true
     from e = has_intro (λ (l : Link). eqb l.dist d && fits p.id.round q.id l) (links p) k.by k.among
-        (both (eq-eqb k.by.dist d (omega (arith, k.round, eqb-true (q.id.round + d) p.id.round e))) (fits_intro _ _ _ k.round k.author-is k.digest-is))
+        (both (eq-eqb k.by.dist d (omega (arith, k.round, eqb-true (q.id.round + d) p.id.round e))) (fits_intro _ _ _ k.round k.author_is k.digest_is))
 
 -- ---- those that link to a point
 

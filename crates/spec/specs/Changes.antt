@@ -127,7 +127,7 @@ module _ (s : Store) (z : Sized s) (i : ℕ) (resolution : Resolution) (late : r
   link_res p q e = subst (λ x. links_to x (s'.pt q) ≡ true) (sym (res_off p n)) (res_target (s.pt p) q ∙ e)
     where
       n : p ≢ i
-      n m = clash (linked _ _ e).resolved-is (subst (λ x. resolved (s.pt x) ≡ false) (sym m) late)
+      n m = clash (linked _ _ e).resolved_is (subst (λ x. resolved (s.pt x) ≡ false) (sym m) late)
 
   -- a path after the resolution is one from before, or goes through i
   through : (t q : ℕ) → Path (LinkedTo s') t q → Path (LinkedTo s) t q ⊎ (Path (LinkedTo s) t i × Path (LinkedTo s') i q)
@@ -188,7 +188,7 @@ module _ (s : Store) (b : ℕ) where
   drain_was q h = ⊎_elim (λ l. (drain-stays q l, l)) (λ l. absurd (clash h (ap (λ (p : Point). p.named) (drain-gone q l)))) (le_or-lt b (round_at s q))
 
   pub drain-link : (p q : ℕ) → LinkedTo (drained s b) p q → LinkedTo s p q
-  drain-link p q e = subst (λ x. links_to x (s.pt q) ≡ true) (drain_was p (source_named (drained s b) p q e)).0 (subst (λ x. links_to ((drained s b).pt p) x ≡ true) (drain_was q (linked _ _ e).named-is).0 e)
+  drain-link p q e = subst (λ x. links_to x (s.pt q) ≡ true) (drain_was p (source_named (drained s b) p q e)).0 (subst (λ x. links_to ((drained s b).pt p) x ≡ true) (drain_was q (linked _ _ e).named_is).0 e)
 
   pub link-drain : (p q : ℕ) → b ≤ round_at s q → LinkedTo s p q → LinkedTo (drained s b) p q
   link-drain p q l e = subst (λ x. links_to x ((drained s b).pt q) ≡ true) (sym (drain-stays p (omega (arith, down s p q e)))) (subst (λ x. links_to (s.pt p) x ≡ true) (sym (drain-stays q l)) e)
@@ -265,7 +265,7 @@ set-again true x h = λ j. record {
 -- a path from a named point ends at one
 path_named : (s : Store) (t q : ℕ) → Path (LinkedTo s) t q → (s.pt t).named ≡ true → (s.pt q).named ≡ true
 path_named s t q here n = n
-path_named s t q (step {q = x} e w) n = path_named s x q w (linked _ _ e).named-is
+path_named s t q (step {q = x} e w) n = path_named s x q w (linked _ _ e).named_is
 
 -- no path leads to a free place
 free-height : (s : Store) → Sized s → (q : ℕ) → (s.pt q).named ≡ false → height s q ≡ 0

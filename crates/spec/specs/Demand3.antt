@@ -102,7 +102,7 @@ module _ (s : Store) (hs : List Id) (e : Event) (r : Right hs e) (f : Frame s e.
   -- the end of a path is named
   ends_named : (p q : ℕ) → Path (LinkedTo e.from) p q → (e.from.pt p).named ≡ true → (e.from.pt q).named ≡ true
   ends_named p q here n = n
-  ends_named p q (step {q = x} k w) n = ends_named x q w (linked _ _ k).named-is
+  ends_named p q (step {q = x} k w) n = ends_named x q w (linked _ _ k).named_is
 
   pub event_exact : (G L : List Given) → Log e.from G → New G L → Exact (G ++ L) hs (read_as s e.from e.list e.enq)
   event_exact G L g n x = ((λ m. to (is.0 m)), λ (k, l, h, w, o). is.1 (back k l w o))

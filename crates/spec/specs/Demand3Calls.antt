@@ -236,7 +236,7 @@ round_retains s w x peers r = go (ltb (suc s.top) x || ltb last_round x) refl (l
         at = omega (arith, ltb-false (suc s.top) x (or_none _ (ltb last_round x) e).0, leb-false x s.top f)
 
         added : retained (add_round s peers) r ≡ ((retained s r || (eqb r x && ltb s.top x)) && not false)
-        added = rw (at, lt-ltb s.top (suc s.top) (omega arith)) (add_law s.bottom s.top (suc s.top) r w.rounds-ok refl)
+        added = rw (at, lt-ltb s.top (suc s.top) (omega arith)) (add_law s.bottom s.top (suc s.top) r w.rounds_ok refl)
 
 remove_retains : (s : Store) (x : ℕ) (from : Option ℕ) (b : List ℕ) → Retains s (remove x from b) (do_remove s x from b)
 unfolding do_remove adds drains is_done with_numbers

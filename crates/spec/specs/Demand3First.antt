@@ -153,7 +153,7 @@ module _ (s : Store) (b : ℕ) (up : s.bottom ≤ b) (under : b ≤ s.top) (hs :
   drain_inv = record {
     wf = drain_kept s v.wf b up under;
     firm = λ p h. subst (λ (x : Point). resolved x ≡ true) (sym (drain_kept_point p h)) (v.firm p (subst (λ (x : Point). x.flags.committed ≡ true) (drain_kept_point p h) h));
-    closed = λ p q h e l. let k = (drain_was s b q (linked _ _ e).named-is).0 in
+    closed = λ p q h e l. let k = (drain_was s b q (linked _ _ e).named_is).0 in
         subst (λ (x : Point). x.flags.committed ≡ true) (sym k) (v.closed p q (subst (λ (x : Point). x.flags.committed ≡ true) (drain_kept_point p h) h) (drain-link s b p q e) (le_trans floor_up (subst (λ (x : Point). floor (drained s b) ≤ x.id.round) k l)));
     handed = λ p h. subst (λ (x : Point). Memᴰ x.id hs) (sym (drain_kept_point p h)) (v.handed p (subst (λ (x : Point). x.flags.committed ≡ true) (drain_kept_point p h) h));
     held = λ x m l. held x (subst (λ k. k ≤ x.round) drain_bottom_lem l) (v.held x m (le_trans up (subst (λ k. k ≤ x.round) drain_bottom_lem l)));
@@ -205,7 +205,7 @@ next_of s hs e v l o c = record {
     k = split_max (or_zero s.progress.last_proof) s.bottom (round_at s e.anchor) l
 
     there : (s.pt e.anchor).named ≡ true
-    there = resolved-named (s.pt e.anchor) o.anchor-done
+    there = resolved-named (s.pt e.anchor) o.anchor_done
 
 one_right : (s : Store) (ls : List ℕ) (hs : List Id) (e : EnqueuedAnchor) (es : List EnqueuedAnchor) → Inv s hs → Rising s (lowest_walked s) (e ∷ es) → Tested s e.anchor → lists_ok (linked_counts s e.anchor) ls ≡ true
     → Right hs (record { from = s; list = ls; enq = e })

@@ -86,11 +86,11 @@ module _ (s : Store) (G : List Given) (w : Wf s) (g : Log s G) where
   places→ids p q here = here
   places→ids p q (step {q = z} e v) = step (record {
     given = given_of (s.pt p);
-    among = g.all p l.resolved-is;
+    among = g.all p l.resolved_is;
     whose = refl;
     link = l.by;
     of = l.among;
-    leads = fits_intro _ _ _ l.round l.author-is l.digest-is;
+    leads = fits_intro _ _ _ l.round l.author_is l.digest_is;
   }) (places→ids z q v)
     where
       l : Linked (s.pt p) (s.pt z)

@@ -131,7 +131,7 @@ after-late s w (c ∷ cs) (h, hs) =
 pub record Chained (s : Store) (q : ℕ) (es : List EnqueuedAnchor) : Type 0 where
   pub goes_on : (not (s.pt q).resolution.trigger || (eqb (round_at s q) s.conf.genesis || empty_walk s q)) ≡ false
   pub digest : ℕ
-  pub has_previous_lem : previous (s.pt q) ≡ some digest
+  pub has_previous : previous (s.pt q) ≡ some digest
   pub walked : walk s (lowest_walked s) (prev (round_at s q) - lowest_walked s) (record { round = prev (round_at s q); author = (id_at s q).author; digest = digest }) [] ≡ good es
   pub linked : unlinked (lowest_walked s) es ≡ false
 
@@ -144,7 +144,7 @@ pub record Fires (s : Store) (i : Id) (es : List EnqueuedAnchor) : Type 0 where
   pub place : ℕ
   pub found : find s i ≡ some place
   pub done : resolved (s.pt place) ≡ true
-  pub is_valid_lem : status_at s place ≡ 1
+  pub is_valid : status_at s place ≡ 1
   pub chained : Chained s place es
 
 place_back : (s : Store) (i : Id) (q : ℕ) → find s i ≡ some q → place_of s i ≡ good q
@@ -152,16 +152,16 @@ place_back s i q h = place_at_lem s i ∙ rw h refl
 
 chain_back : (s : Store) (q : ℕ) (es : List EnqueuedAnchor) → Chained s q es → chain s q ≡ good es
 unfolding chain chain_from check_oldest
-chain_back s q es c = rw (c.goes_on, chain) (rw c.has-previous (rw c.walked (refuse_back _ 19 _ c.linked)))
+chain_back s q es c = rw (c.goes_on, chain) (rw c.has_previous (rw c.walked (refuse_back _ 19 _ c.linked)))
 
 -- such a trigger yields them
 pub fires_back : (s : Store) (i : Id) (es : List EnqueuedAnchor) → Fires s i es → anchors_of s i ≡ good es
 unfolding anchors_of filtered
 fires_back s i es f =
-    refuse_back _ 5 _ f.author-ok
-    ∙ rw f.not_low (refuse_back _ 6 _ f.not-high
-    ∙ (refuse_back _ 5 _ f.peer-ok
-    ∙ rw (place_back s i f.place f.found) (refuse_back _ 9 _ (ap not f.done) ∙ rw f.is-valid (chain_back s f.place es f.chained))))
+    refuse_back _ 5 _ f.author_ok
+    ∙ rw f.not_low (refuse_back _ 6 _ f.not_high
+    ∙ (refuse_back _ 5 _ f.peer_ok
+    ∙ rw (place_back s i f.place f.found) (refuse_back _ 9 _ (ap not f.done) ∙ rw f.is_valid (chain_back s f.place es f.chained))))
 
 no_anchors_lem : (e : EnqueuedAnchor) (es : List EnqueuedAnchor) → ◌≡◌ {A = Out (List EnqueuedAnchor)} (good []) (good (e ∷ es)) → ⊥
 no_anchors_lem e es h = let z : ◌≡◌ {A = ℕ} 0 (suc (length es)) = ap length (good-same _ _ h) in omega arith
@@ -176,7 +176,7 @@ chain-good s q e es h = go (if_good (not (s.pt q).resolution.trigger || (eqb (ro
         let (l, w, j) = then-good (walk s (lowest_walked s) (prev (round_at s q) - lowest_walked s) (record { round = prev (round_at s q); author = (id_at s q).author; digest = d }) []) (check_oldest (lowest_walked s)) (e ∷ es) k in
         let (u, f) = refuse-good (unlinked (lowest_walked s) l) 19 (good l) (e ∷ es) j in
         let m : l ≡ (e ∷ es) = good-same l (e ∷ es) f in
-        record { goes_on = g; digest = d; has_previous_lem = p; walked = w ∙ ap good m; linked = subst (λ z. unlinked (lowest_walked s) z ≡ false) m u }
+        record { goes_on = g; digest = d; has_previous = p; walked = w ∙ ap good m; linked = subst (λ z. unlinked (lowest_walked s) z ≡ false) m u }
 
     go : (((not (s.pt q).resolution.trigger || (eqb (round_at s q) s.conf.genesis || empty_walk s q)) ≡ true) × (good [] ≡ good (e ∷ es)))
         ⊎ (((not (s.pt q).resolution.trigger || (eqb (round_at s q) s.conf.genesis || empty_walk s q)) ≡ false) × (chain_from s q (previous (s.pt q)) ≡ good (e ∷ es))) → Chained s q (e ∷ es)
@@ -216,7 +216,7 @@ fires s i e es h = let (a, k) = refuse-good (leb 32 i.author) 5 _ (e ∷ es) h i
         let (p, k2) = refuse-good (not (is_peer s i)) 5 _ (e ∷ es) k1 in
         let (q, f, k3) = then-good (place_of s i) (filtered s) (e ∷ es) k2 in
         let (d, v, k4) = filtered-good s q e es k3 in
-        record { author_ok = a; not_low = b; not_high = c; peer_ok = p; place = q; found = place-good s i q f; done = d; is_valid_lem = v; chained = chain-good s q e es k4 }
+        record { author_ok = a; not_low = b; not_high = c; peer_ok = p; place = q; found = place-good s i q f; done = d; is_valid = v; chained = chain-good s q e es k4 }
 
 walk_bound : (w n u : ℕ) → w < n → n ≤ u → w + (n - 1 - w) ≤ u
 walk_bound w n u h k = omega arith
@@ -226,12 +226,12 @@ module _ (s t : Store) (ws : Wf s) (wt : Wf t) (la : Late s t) where
   chained_late q es d u c = record {
     goes_on = rw (ap (λ z. z.resolution.trigger) now, round_is, la.conf, low_is) c.goes_on;
     digest = c.digest;
-    has_previous_lem = ap previous now ∙ c.has-previous;
+    has_previous = ap previous now ∙ c.has_previous;
     walked = rw (low_is, round_is, ap (λ z. z.id.author) now) (walk-late s t ws wt la (lowest_walked s) _ _ [] es (walk_bound _ _ _ past u) c.walked);
     linked = rw low_is c.linked;
   }
     where
-      now : t.pt q ≡ re_top (la.same q d).mark-now (s.pt q)
+      now : t.pt q ≡ re_top (la.same q d).mark_now (s.pt q)
       now = (la.same q d).is
 
       round_is : round_at t q ≡ round_at s q
@@ -247,19 +247,19 @@ module _ (s t : Store) (ws : Wf s) (wt : Wf t) (la : Late s t) where
   pub fires-late : (i : Id) (es : List EnqueuedAnchor) → Fires s i es → Fires t i es
   unfolding is_peer
   fires-late i es f = record {
-    author_ok = f.author-ok;
+    author_ok = f.author_ok;
     not_low = rw la.bottom f.not_low;
     not_high = le-ltb t.top i.round (omega (arith, low, la.top));
-    peer_ok = ap (λ (z : Round). not (ltb i.author 32 && member z.peers i.author)) (la.rounds i.round low) ∙ f.peer-ok;
+    peer_ok = ap (λ (z : Round). not (ltb i.author 32 && member z.peers i.author)) (la.rounds i.round low) ∙ f.peer_ok;
     place = f.place;
     found = find-late s t ws wt la i f.place f.found;
     done = same-resolved _ _ (la.same f.place f.done) f.done;
-    is_valid_lem = ap (λ z. z.resolution.status) (la.same f.place f.done).is ∙ f.is-valid;
+    is_valid = ap (λ z. z.resolution.status) (la.same f.place f.done).is ∙ f.is_valid;
     chained = chained_late f.place es f.done (subst (λ (z : Id). z.round ≤ s.top) (sym (find-some s i f.place f.found).is) low) f.chained;
   }
     where
       low : i.round ≤ s.top
-      low = ltb-false s.top i.round f.not-high
+      low = ltb-false s.top i.round f.not_high
 
 -- ---- the answer
 

@@ -94,12 +94,12 @@ late_trans s t u a b = record {
 }
   where
     known : {x y z : Point} → Known x y → Known y z → Known x z
-    known k l = record { stays = l.stays; id_is = l.id-is ∙ k.id-is; topped = λ h. l.topped (k.topped h) }
+    known k l = record { stays = l.stays; id_is = l.id_is ∙ k.id_is; topped = λ h. l.topped (k.topped h) }
 
     same : (p : ℕ) → Same (s.pt p) (t.pt p) → Same (t.pt p) (u.pt p) → Same (s.pt p) (u.pt p)
     same p k l = record {
-      mark_now = l.mark-now;
-      is = l.is ∙ ap (re_top l.mark-now) k.is;
+      mark_now = l.mark_now;
+      is = l.is ∙ ap (re_top l.mark_now) k.is;
       trans = λ e. l.trans (ap (λ z. z.resolution.status) k.is ∙ e) ∙ (ap (λ z. z.flags.top) k.is ∙ k.trans e);
     }
 
@@ -125,24 +125,24 @@ module _ (s t : Store) (ws : Wf s) (wt : Wf t) (la : Late s t) where
   link_up p q e = link_made _ _ (record {
     by = l.by;
     among = subst (λ z. Memᴰ l.by (links z)) (sym k.is) l.among;
-    resolved_is = same-resolved _ _ k l.resolved-is;
+    resolved_is = same-resolved _ _ k l.resolved_is;
     named_is = n.stays;
-    round = ap (λ (z : Id). z.round + l.by.dist) n.id-is ∙ (l.round ∙ sym (ap (λ z. z.id.round) k.is));
-    author_is = ap (λ (z : Id). z.author) n.id-is ∙ l.author-is;
-    digest_is = ap (λ (z : Id). z.digest) n.id-is ∙ l.digest-is;
+    round = ap (λ (z : Id). z.round + l.by.dist) n.id_is ∙ (l.round ∙ sym (ap (λ z. z.id.round) k.is));
+    author_is = ap (λ (z : Id). z.author) n.id_is ∙ l.author_is;
+    digest_is = ap (λ (z : Id). z.digest) n.id_is ∙ l.digest_is;
   })
     where
       l : Linked (s.pt p) (s.pt q)
       l = linked _ _ e
 
       k : Same (s.pt p) (t.pt p)
-      k = la.same p l.resolved-is
+      k = la.same p l.resolved_is
 
       n : Known (s.pt q) (t.pt q)
-      n = la.known q l.named-is
+      n = la.known q l.named_is
 
   link_back : (p q : ℕ) → resolved (s.pt p) ≡ true → LinkedTo t p q → LinkedTo s p q
-  link_back p q h e = go (ws.leads p h l.by m (omega (arith, l.round, (wt.kept q l.named-is).0, la.bottom, ap (λ z. z.id.round) k.is)))
+  link_back p q h e = go (ws.leads p h l.by m (omega (arith, l.round, (wt.kept q l.named_is).0, la.bottom, ap (λ z. z.id.round) k.is)))
     where
       k : Same (s.pt p) (t.pt p)
       k = la.same p h
@@ -163,7 +163,7 @@ module _ (s t : Store) (ws : Wf s) (wt : Wf t) (la : Late s t) where
           n = la.known x o
 
           same : x ≡ q
-          same = wt.apart x q n.stays l.named-is (omega (arith, ap (λ (z : Id). z.round) n.id-is, l.round, y.0, ap (λ z. z.id.round) k.is)) (ap (λ (z : Id). z.digest) n.id-is ∙ (y.2 ∙ sym l.digest-is))
+          same = wt.apart x q n.stays l.named_is (omega (arith, ap (λ (z : Id). z.round) n.id_is, l.round, y.0, ap (λ z. z.id.round) k.is)) (ap (λ (z : Id). z.digest) n.id_is ∙ (y.2 ∙ sym l.digest_is))
 
   -- a named point is found at the same place
   pub find-late : (i : Id) (q : ℕ) → find s i ≡ some q → find t i ≡ some q
@@ -177,7 +177,7 @@ module _ (s t : Store) (ws : Wf s) (wt : Wf t) (la : Late s t) where
       k = la.known q x.named
 
       here : id_at t q ≡ i
-      here = k.id-is ∙ x.is
+      here = k.id_is ∙ x.is
 
       go : (j : ℕ) × (find t i ≡ some j) → find t i ≡ some q
       go (j, e) = e ∙ ap some (wt.apart j q y.named k.stays (ap (λ (z : Id). z.round) (y.is ∙ sym here)) (ap (λ (z : Id). z.digest) (y.is ∙ sym here)))
@@ -189,7 +189,7 @@ module _ (s t : Store) (ws : Wf s) (wt : Wf t) (la : Late s t) where
   valid-late i q v = record {
     found = find-late i q v.found;
     done = same-resolved _ _ (la.same q v.done) v.done;
-    is_valid_lem = ap (λ z. z.resolution.status) (la.same q v.done).is ∙ v.is-valid;
+    is_valid = ap (λ z. z.resolution.status) (la.same q v.done).is ∙ v.is_valid;
   }
 
   enqueue-late : (below below' : Onward) (acc l : List EnqueuedAnchor) (p a : ℕ) → resolved (s.pt a) ≡ true
@@ -228,7 +228,7 @@ module _ (s t : Store) (ws : Wf s) (wt : Wf t) (la : Late s t) where
   height-late p h = go (height_is s ws.sized p).met
     where
       rnd : (x : ℕ) → (s.pt x).named ≡ true → round_at t x ≡ round_at s x
-      rnd x n = ap (λ (z : Id). z.round) (la.known x n).id-is
+      rnd x n = ap (λ (z : Id). z.round) (la.known x n).id_is
 
       go : (height s p ≡ 0) ⊎ ((x : ℕ) × Top s x × Path (LinkedTo s) x p × (height s p ≡ height_from s.conf.history_rounds (round_at s) x p)) → height s p ≤ height t p
       go (inl e) = omega arith
@@ -250,7 +250,7 @@ module _ (s t : Store) (ws : Wf s) (wt : Wf t) (la : Late s t) where
         b = omega (arith, down s p x e)
 
     round_need : (q : ℕ) → Need s a q → round_at t q ≡ round_at s q
-    round_need q n = ap (λ (z : Id). z.round) (la.known q (need_named s a q (resolved-named _ da) n)).id-is
+    round_need q n = ap (λ (z : Id). z.round) (la.known q (need_named s a q (resolved-named _ da) n)).id_is
 
     need_down : (q : ℕ) → Need t a q → lowest s a ≤ round_at t q → Need s a q
     need_down q anchor l = anchor
@@ -298,25 +298,25 @@ fits_in s w a n = omega (arith, w.low, (w.kept a n).0)
 
 module _ (s t : Store) (ws : Wf s) (wt : Wf t) (la : Late s t) (e : EnqueuedAnchor) (x : Anchored s e) (c : Tested s e.anchor) where
   fit : lowest s e.anchor ≤ suc (round_at s e.anchor)
-  fit = fits_in s ws e.anchor (resolved-named _ x.anchor-done)
+  fit = fits_in s ws e.anchor (resolved-named _ x.anchor_done)
 
   ready : (q : ℕ) → Need s e.anchor q → lowest s e.anchor ≤ round_at s q → resolved (s.pt q) ≡ true
-  ready q n l = (c.ready q (inside s ws.sized q (need_named s e.anchor q (resolved-named _ x.anchor-done) n)) ((needed_is s ws.sized e.anchor q fit).1 (n, l))).0
+  ready q n l = (c.ready q (inside s ws.sized q (need_named s e.anchor q (resolved-named _ x.anchor_done) n)) ((needed_is s ws.sized e.anchor q fit).1 (n, l))).0
 
   history_is_same : (q : ℕ) → in_history t e.anchor q ≡ in_history s e.anchor q
-  history_is_same = in_history-same s t ws wt la e.anchor x.anchor-done fit ready
+  history_is_same = in_history-same s t ws wt la e.anchor x.anchor_done fit ready
 
   anchor_is : Same (s.pt e.anchor) (t.pt e.anchor)
-  anchor_is = la.same e.anchor x.anchor-done
+  anchor_is = la.same e.anchor x.anchor_done
 
   round_is : round_at t e.anchor ≡ round_at s e.anchor
   round_is = ap (λ z. z.id.round) anchor_is.is
 
   known-needed : (q : ℕ) → needed s e.anchor q ≡ true → (s.pt q).named ≡ true
-  known-needed q h = need_named s e.anchor q (resolved-named _ x.anchor-done) ((needed_is s ws.sized e.anchor q fit).0 h).0
+  known-needed q h = need_named s e.anchor q (resolved-named _ x.anchor_done) ((needed_is s ws.sized e.anchor q fit).0 h).0
 
   same_at : (q : ℕ) → needed s e.anchor q ≡ true → Same (s.pt q) (t.pt q)
-  same_at q h = same-needed s t ws wt la e.anchor x.anchor-done fit ready q h
+  same_at q h = same-needed s t ws wt la e.anchor x.anchor_done fit ready q h
 
   usable_late : (q : ℕ) → needed s e.anchor q ≡ true → is_committable s q ≡ true → is_committable t q ≡ true
   usable_late q h u = usable_by_top t wt.sized q (la.known q (known-needed q h)).stays ∙ (ap by_top k.is ∙ go (or_cases _ _ (sym (usable_by_top s ws.sized q (known-needed q h)) ∙ u)))
@@ -324,12 +324,12 @@ module _ (s t : Store) (ws : Wf s) (wt : Wf t) (la : Late s t) (e : EnqueuedAnch
       k : Same (s.pt q) (t.pt q)
       k = same_at q h
 
-      go : (eqb (status_at s q) 1 ≡ true) ⊎ ((eqb (status_at s q) 2 && not (s.pt q).flags.top) ≡ true) → by_top (re_top k.mark-now (s.pt q)) ≡ true
+      go : (eqb (status_at s q) 1 ≡ true) ⊎ ((eqb (status_at s q) 2 && not (s.pt q).flags.top) ≡ true) → by_top (re_top k.mark_now (s.pt q)) ≡ true
       go (inl v) = or_l _ _ v
       go (inr v) = or_r (eqb (status_at s q) 1) _ (subst (λ z. (eqb (status_at s q) 2 && not z) ≡ true) (sym (k.trans (eqb-true _ _ (and_l _ (not (s.pt q).flags.top) v)))) v)
 
   needed_was : (q : ℕ) → needed t e.anchor q ≡ true → needed s e.anchor q ≡ true
-  needed_was = needed_down s t ws wt la e.anchor x.anchor-done fit ready
+  needed_was = needed_down s t ws wt la e.anchor x.anchor_done fit ready
 
   -- an anchor that passes its tests passes them later
   pub tested-late : Tested t e.anchor
@@ -365,7 +365,7 @@ module _ (s t : Store) (ws : Wf s) (wt : Wf t) (la : Late s t) (e : EnqueuedAnch
       same : (q : ℕ) → (needed t e.anchor q && eqb (round_at t q) r) ≡ (needed s e.anchor q && eqb (round_at s q) r)
       same q = same_test _ _
           (λ h. let n : needed s e.anchor q ≡ true = needed_was q (and_l _ _ h) in both n (sym (ap (λ (z : Id). eqb z.round r) (is_id q n)) ∙ and_r (needed t e.anchor q) _ h))
-          (λ h. let n : needed s e.anchor q ≡ true = and_l _ _ h in both (needed_up s t ws wt la e.anchor x.anchor-done fit ready q n) (ap (λ (z : Id). eqb z.round r) (is_id q n) ∙ and_r (needed s e.anchor q) _ h))
+          (λ h. let n : needed s e.anchor q ≡ true = and_l _ _ h in both (needed_up s t ws wt la e.anchor x.anchor_done fit ready q n) (ap (λ (z : Id). eqb z.round r) (is_id q n) ∙ and_r (needed s e.anchor q) _ h))
 
   rounds-late : rounds_of t e.anchor ≡ rounds_of s e.anchor
   rounds-late = rw (la.conf, la.bottom, round_is) refl
@@ -485,7 +485,7 @@ module _ (s t : Store) (ws : Wf s) (wt : Wf t) (la : Late s t) (e : EnqueuedAnch
   pub record_late : (ls : List ℕ) → lists_ok (linked_counts s e.anchor) ls ≡ true → record_bytes t ls e ≡ record_bytes s ls e
   unfolding record_bytes
   record_late ls ok = λ i.
-      id_bytes (anchor_is.is i).id ++ (id_bytes ((la.same e.proof x.proof-done).is i).id ++ (be 1 (cond (executable-late i) 1 0) ++ (be 4 (prev-late i)
+      id_bytes (anchor_is.is i).id ++ (id_bytes ((la.same e.proof x.proof_done).is i).id ++ (be 1 (cond (executable-late i) 1 0) ++ (be 4 (prev-late i)
       ++ (be 4 (length (order_late ls ok i)) ++ (joined id_bytes (order_late ls ok i) ++ tail_late ls ok i)))))
 
   -- its commit is as late as the tables were
@@ -504,12 +504,12 @@ module _ (s t : Store) (ws : Wf s) (wt : Wf t) (la : Late s t) (e : EnqueuedAnch
     };
     top = la.top;
     rounds = λ r h i. cond (eqb r (proof_is i).id.round) (use_proof (la.rounds r h i) (anchor_is.is i).id.author) (la.rounds r h i);
-    known = λ p h. let k = la.known p h in record { stays = k.stays; id_is = k.id-is; topped = k.topped };
-    same = λ p h. let k = la.same p h in record { mark_now = k.mark-now; is = λ i. set_committed (history_is_same p i) (k.is i); trans = k.trans };
+    known = λ p h. let k = la.known p h in record { stays = k.stays; id_is = k.id_is; topped = k.topped };
+    same = λ p h. let k = la.same p h in record { mark_now = k.mark_now; is = λ i. set_committed (history_is_same p i) (k.is i); trans = k.trans };
   }
     where
-      proof_is : t.pt e.proof ≡ re_top (la.same e.proof x.proof-done).mark-now (s.pt e.proof)
-      proof_is = (la.same e.proof x.proof-done).is
+      proof_is : t.pt e.proof ≡ re_top (la.same e.proof x.proof_done).mark_now (s.pt e.proof)
+      proof_is = (la.same e.proof x.proof_done).is
 
       gap_late : gap_after t e.anchor ≡ gap_after s e.anchor
       gap_late = λ i. cond (first-late i) none (la.progress i).gap
@@ -519,20 +519,20 @@ rising_late s t la b [] r = tt
 rising_late s t la b (e ∷ es) (u, x, z) = (subst (λ n. b ≤ n) (sym m) u, anchored, subst (λ n. Rising t (suc n) es) (sym m) (rising_late s t la _ es z))
   where
     k : Same (s.pt e.anchor) (t.pt e.anchor)
-    k = la.same e.anchor x.anchor-done
+    k = la.same e.anchor x.anchor_done
 
     j : Same (s.pt e.proof) (t.pt e.proof)
-    j = la.same e.proof x.proof-done
+    j = la.same e.proof x.proof_done
 
     m : round_at t e.anchor ≡ round_at s e.anchor
     m = ap (λ n. n.id.round) k.is
 
     anchored : Anchored t e
     anchored = record {
-      anchor-done = same-resolved _ _ k x.anchor-done;
-      anchor-valid = ap (λ n. n.resolution.status) k.is ∙ x.anchor-valid;
-      proof_done = same-resolved _ _ j x.proof-done;
-      proof_valid = ap (λ n. n.resolution.status) j.is ∙ x.proof-valid;
+      anchor_done = same-resolved _ _ k x.anchor_done;
+      anchor_valid = ap (λ n. n.resolution.status) k.is ∙ x.anchor_valid;
+      proof_done = same-resolved _ _ j x.proof_done;
+      proof_valid = ap (λ n. n.resolution.status) j.is ∙ x.proof_valid;
       above = ap (λ n. n.id.round) j.is ∙ (x.above ∙ ap suc (sym m));
     }
 

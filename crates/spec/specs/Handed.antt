@@ -57,7 +57,7 @@ commit-ends = every-commit (λ s ls b at n es f evs. f.stopped ≡ none → Wf s
     (λ s ls b at n e es a f evs t i h w low (u, x, r).
     let (c, g, o, l) = test_good s ls (length b - at) (length (record_bytes s ls e)) e.anchor a t in
     let (st, ev, z) = i h (mark_kept s w e x c) (suc (round_at s e.anchor)) (rising_mark s e _ es r) in
-    let k = order_length s w e.anchor (resolved-named _ x.anchor-done) ls o in (
+    let k = order_length s w e.anchor (resolved-named _ x.anchor_done) ls o in (
       st,
       ap (λ (l : List Event). record { from = s; list = ls; enq = e } ∷ l) ev,
       record {

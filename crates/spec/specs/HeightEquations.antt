@@ -42,7 +42,7 @@ path_reach s z (suc k) p q (step {q = x} e w) l =
     let r : reach s k x q ≡ true = path_reach s z k x q w (omega (arith, down s p x e)) in
     by_test (eqb p q)
     (λ t. rw (t, reach) refl)
-    (λ f. rw (f, reach) (any_intro s.places (via s k p q) x (inside s z x (linked _ _ e).named-is) (rw (e, r, via) refl)))
+    (λ f. rw (f, reach) (any_intro s.places (via s k p q) x (inside s z x (linked _ _ e).named_is) (rw (e, r, via) refl)))
 
 -- the height function is the height of 01
 pub height_is : (s : Store) → Sized s → (p : ℕ) → IsHeight (LinkedTo s) (round_at s) (Top s) s.conf.history_rounds p (height s p)

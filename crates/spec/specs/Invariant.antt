@@ -90,7 +90,7 @@ module _ (s : Store) (hs : List Id) (i : Inv s hs) (a : ℕ) (n : Next s a) wher
   hist_paths q = (to, from)
     where
       is : (needed s a q ≡ true) ↔ (Need s a q × (lowest s a ≤ round_at s q))
-      is = needed_is s i.wf.sized a q (low_fits s a n.young n.in-store)
+      is = needed_is s i.wf.sized a q (low_fits s a n.young n.in_store)
 
       to : (needed s a q && not (s.pt q).flags.committed) ≡ true → Path (LinkedTo s) a q × (lowest s a ≤ round_at s q) × ((s.pt q).flags.committed ≡ false)
       to h = let (m, l) = is.0 (and_l _ _ h) in (need→path s a q m, l, not-true _ (and_r (needed s a q) _ h))

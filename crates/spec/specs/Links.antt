@@ -47,7 +47,7 @@ linked p q h = go (has_elim (fits p.id.round q.id) (links p) (search (and_l, and
 pub link_made : (p q : Point) → Linked p q → links_to p q ≡ true
 unfolding links_to
 link_made p q l =
-    both l.resolved-is (both l.named-is (has_intro (fits p.id.round q.id) (links p) l.by l.among (fits_intro _ _ _ l.round l.author-is l.digest-is)))
+    both l.resolved_is (both l.named_is (has_intro (fits p.id.round q.id) (links p) l.by l.among (fits_intro _ _ _ l.round l.author_is l.digest_is)))
 
 -- a resolved point is named
 pub resolved-named : (p : Point) → resolved p ≡ true → p.named ≡ true
@@ -55,7 +55,7 @@ unfolding resolved
 resolved-named p h = and_l _ _ h
 
 pub source_named : (s : Store) (p q : ℕ) → LinkedTo s p q → (s.pt p).named ≡ true
-source_named s p q e = resolved-named (s.pt p) (linked _ _ e).resolved-is
+source_named s p q e = resolved-named (s.pt p) (linked _ _ e).resolved_is
 
 -- includes lead one round down, witness two
 pub dist_pos : (is ws : List Ref) (l : Link) → Memᴰ l (links_of is ws) → (0 < l.dist) × (l.dist ≤ 2)

@@ -69,11 +69,11 @@ module _ (s : Store) (hs : List Id) (e : Event) (r : Right hs e) (G L : List Giv
   edge_of : (p q : ℕ) → LinkedTo u p q → Edge (G ++ L) (id_at u p) (id_at u q)
   edge_of p q l = record {
     given = given_of (u.pt p);
-    among = Memᴰ.append_left L (g.all p (linked _ _ l).resolved-is);
+    among = Memᴰ.append_left L (g.all p (linked _ _ l).resolved_is);
     whose = refl;
     link = (linked _ _ l).by;
     of = (linked _ _ l).among;
-    leads = fits_intro _ _ _ (linked _ _ l).round (linked _ _ l).author-is (linked _ _ l).digest-is;
+    leads = fits_intro _ _ _ (linked _ _ l).round (linked _ _ l).author_is (linked _ _ l).digest_is;
   }
 
   -- .. and one that was given, to a point of the history, is a link of the store: later resolutions are of other points

@@ -97,7 +97,7 @@ strict R S (x ∷ xs) p n f = (
 -- a needed point is named
 pub need_named : (s : Store) (a q : ℕ) → (s.pt a).named ≡ true → Need s a q → (s.pt q).named ≡ true
 need_named s a q h anchor = h
-need_named s a q h (hand p x n d e) = (linked _ _ e).named-is
+need_named s a q h (hand p x n d e) = (linked _ _ e).named_is
 
 -- a point of the history is needed
 pub history-needed : (s : Store) (a q : ℕ) → in_history s a q ≡ true → needed s a q ≡ true
@@ -109,7 +109,7 @@ pub history-few : (s : Store) → Wf s → (a : ℕ) → length (history s a) �
 unfolding history places_ok
 history-few s w a =
     let e : length (history s a) ≡ length (those s.places (in_history s a)) = sort_length rises _ ∙ length-map (those s.places (in_history s a)) (id_at s) in
-    omega (arith, e, those_most s.places (in_history s a), leb-true s.places 4096 (and_r (ltb 0 s.places) _ w.places-ok))
+    omega (arith, e, those_most s.places (in_history s a), leb-true s.places 4096 (and_r (ltb 0 s.places) _ w.places_ok))
 
 module _ (s : Store) (w : Wf s) (a : ℕ) (there : (s.pt a).named ≡ true) where
   pub history_named : (q : ℕ) → in_history s a q ≡ true → (s.pt q).named ≡ true

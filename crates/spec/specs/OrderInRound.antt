@@ -313,7 +313,7 @@ drawn-rises s a (r ∷ rs) l ok p =
     let ps = linked_in s a r in
     let (c, d) = lists_head (length ps) (counts_in s a rs) l ok in
     append_pairs (λ (p q : ℕ). round_at s p ≤ round_at s q) (drawn s a rs (drop (length ps) l)) (round_out s ps (take (length ps) l)) (drawn-rises s a rs (drop (length ps) l) d p.1)
-    (any_pairs (λ (p q : ℕ). round_at s p ≤ round_at s q) _ (λ x y m n. omega (arith, out_round s a r (take (length ps) l) c x m, out_round s a r (take (length ps) l) c y n)))
+    (any_pairs (λ (p q : ℕ). round_at s p ≤ round_at s q) (round_out s ps (take (length ps) l)) (λ x y m n. omega (arith, out_round s a r (take (length ps) l) c x m, out_round s a r (take (length ps) l) c y n)))
     (λ x y m n. omega (arith, p.0 (round_at s x) (drawn_elim s a rs (drop (length ps) l) d x m).0, out_round s a r (take (length ps) l) c y n))
 
 -- a needed point is not above the anchor

@@ -148,7 +148,7 @@ module _ (s : Store) (w : Wf s) (e : EnqueuedAnchor) where
 
   module _ (x : Anchored s e) (b : ℕ) (there : (s.pt b).named ≡ true) (above : round_at s e.anchor ≤ round_at s b) where
     old_named : (s.pt e.anchor).named ≡ true
-    old_named = resolved-named _ x.anchor-done
+    old_named = resolved-named _ x.anchor_done
 
     fit : lowest s b ≤ suc (round_at s b)
     fit = fits_in s w b there
@@ -287,7 +287,7 @@ module _ (b : EnqueuedAnchor) (fs : List EnqueuedAnchor) where
       history-supposed (dequeued s e) (mark_kept s w e x c) (suc (round_at s e.anchor)) es (rising_mark s e _ (es ++ (b ∷ fs)) r) n k q ∙ go
     where
       step : (f : EnqueuedAnchor) → Memᴰ f (es ++ (b ∷ fs)) → in_history (dequeued s e) f.anchor q ≡ (in_history s f.anchor q && not (in_history s e.anchor q))
-      step f m = let (l, y) = rising_in s _ (es ++ (b ∷ fs)) r f m in history-step s w e x f.anchor (resolved-named _ y.anchor-done) (omega (arith, l)) q
+      step f m = let (l, y) = rising_in s _ (es ++ (b ∷ fs)) r f m in history-step s w e x f.anchor (resolved-named _ y.anchor_done) (omega (arith, l)) q
 
       own : in_history (dequeued s e) b.anchor q ≡ (in_history s b.anchor q && not (in_history s e.anchor q))
       own = step b (Memᴰ.append_right es (Memᴰ.head refl))
@@ -306,7 +306,7 @@ module _ (b : EnqueuedAnchor) (fs : List EnqueuedAnchor) where
       let (c, k) = tests-first s e es n h in
       let (l, y) = rising_in s _ (es ++ (b ∷ fs)) r b (Memᴰ.append_right es (Memᴰ.head refl)) in
       tested-supposed (dequeued s e) (mark_kept s w e x c) (suc (round_at s e.anchor)) es (rising_mark s e _ (es ++ (b ∷ fs)) r) n k
-      ∙ tested-mark s w e x b.anchor (resolved-named _ y.anchor-done) (omega (arith, l)) c
+      ∙ tested-mark s w e x b.anchor (resolved-named _ y.anchor_done) (omega (arith, l)) c
 
 -- ---- the outlook's tests
 

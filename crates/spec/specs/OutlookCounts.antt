@@ -100,7 +100,7 @@ read_told_lem at s w c o low (e ∷ es) (u, x, r) n h rest =
     let (t, k) = tests-first s e es n h in
     let (p, q) = mark-conf s e in
     ap (read_told at (suc (length es))) (append_assoc (outlook_bytes s e.anchor) (looks (dequeued s e) es) rest)
-    ∙ (read_one at s w c o e.anchor (resolved-named _ x.anchor-done) (length es) (looks (dequeued s e) es ++ rest)
+    ∙ (read_one at s w c o e.anchor (resolved-named _ x.anchor_done) (length es) (looks (dequeued s e) es ++ rest)
     ∙ ap (λ (l : List Told). told_of s e.anchor ∷ l) (read_told_lem at (dequeued s e) (mark_kept s w e x t) (c ∙ sym p) (o ∙ sym q) _ es (rising_mark s e _ es r) n k rest))
 
 -- ---- the outlook

@@ -50,13 +50,13 @@ unfolding with_numbers is_peer version
 numbers_kept s p m w = record {
   sized = w.sized;
   begun = w.begun;
-  places_ok_lem = w.places-ok;
-  conf_ok_lem = w.conf-ok;
+  places_ok = w.places_ok;
+  conf_ok = w.conf_ok;
   low = w.low;
-  rounds_ok_lem = w.rounds-ok;
+  rounds_ok = w.rounds_ok;
   high = w.high;
   few = w.few;
-  used_ok_lem = w.used-ok;
+  used_ok = w.used_ok;
   kept = w.kept;
   peer = w.peer;
   apart = w.apart;
@@ -73,13 +73,13 @@ unfolding add_round is_peer version used_ok
 round_kept s w peers a b = record {
   sized = w.sized;
   begun = w.begun;
-  places_ok_lem = w.places-ok;
-  conf_ok_lem = w.conf-ok;
+  places_ok = w.places_ok;
+  conf_ok = w.conf_ok;
   low = w.low;
-  rounds_ok_lem = omega (arith, w.rounds-ok);
+  rounds_ok = omega (arith, w.rounds_ok);
   high = a;
   few = b;
-  used_ok_lem = λ r l h. by_test (eqb r (suc s.top)) (λ t. rw t refl) (λ f. rw f (w.used-ok r l (below r h (eqb-false _ _ f))));
+  used_ok = λ r l h. by_test (eqb r (suc s.top)) (λ t. rw t refl) (λ f. rw f (w.used_ok r l (below r h (eqb-false _ _ f))));
   kept = λ q n. ((w.kept q n).0, omega (arith, (w.kept q n).1));
   peer = λ q n. rw (ne_eqb (round_at s q) (suc s.top) (λ e. omega (arith, (w.kept q n).1))) (w.peer q n);
   apart = w.apart;
@@ -126,18 +126,18 @@ module _ (s : Store) (w : Wf s) (i : Id) (q : ℕ) (there : q < s.places) (unuse
   -- the new point has no links
   no_source : (x : ℕ) → LinkedTo (name_at s i q) q x → ⊥
   unfolding new_point resolved
-  no_source x e = false≢true (subst (λ y. resolved y ≡ true) name_at_lem (linked _ _ e).resolved-is)
+  no_source x e = false≢true (subst (λ y. resolved y ≡ true) name_at_lem (linked _ _ e).resolved_is)
 
   -- and no old link leads to it
   no_target : (p : ℕ) → links_to (s.pt p) (new_point i) ≡ true → ⊥
   unfolding new_point
-  no_target p e = go (w.leads p l.resolved-is l.by l.among (omega (arith, l.round)))
+  no_target p e = go (w.leads p l.resolved_is l.by l.among (omega (arith, l.round)))
     where
       l : Linked (s.pt p) (new_point i)
       l = linked _ _ e
 
       go : Leads s (round_at s p) l.by → ⊥
-      go (x, n, f) = let (a, b, c) = fits_elim (round_at s p) (id_at s x) l.by f in fresh x n (omega (arith, l.round)) (c ∙ sym l.digest-is)
+      go (x, n, f) = let (a, b, c) = fits_elim (round_at s p) (id_at s x) l.by f in fresh x n (omega (arith, l.round)) (c ∙ sym l.digest_is)
 
   -- so each link is one from before, and leads elsewhere
   pub name-link : (p x : ℕ) → LinkedTo (name_at s i q) p x → LinkedTo s p x × (x ≢ q)
@@ -156,7 +156,7 @@ module _ (s : Store) (w : Wf s) (i : Id) (q : ℕ) (there : q < s.places) (unuse
   pub link-name : (p x : ℕ) → LinkedTo s p x → LinkedTo (name_at s i q) p x
   link-name p x e =
       subst (λ y. links_to y ((name_at s i q).pt x) ≡ true) (sym (name_off p (other p (source_named s p x e))))
-      (subst (λ y. links_to (s.pt p) y ≡ true) (sym (name_off x (other x (linked _ _ e).named-is))) e)
+      (subst (λ y. links_to (s.pt p) y ≡ true) (sym (name_off x (other x (linked _ _ e).named_is))) e)
 
   name_sized : Sized (name_at s i q)
   name_sized p l = subst (λ (x : Point). x.named ≡ false) (sym (name_off p (λ e. past p l e))) (w.sized p (bound p l))
@@ -262,13 +262,13 @@ module _ (s : Store) (w : Wf s) (i : Id) (q : ℕ) (there : q < s.places) (unuse
   name_kept a b = record {
     sized = name_sized;
     begun = unfold name_at with_points in w.begun;
-    places_ok_lem = unfold name_at with_points in w.places-ok;
-    conf_ok_lem = unfold name_at with_points in w.conf-ok;
+    places_ok = unfold name_at with_points in w.places_ok;
+    conf_ok = unfold name_at with_points in w.conf_ok;
     low = unfold name_at with_points in w.low;
-    rounds_ok_lem = unfold name_at with_points in w.rounds-ok;
+    rounds_ok = unfold name_at with_points in w.rounds_ok;
     high = unfold name_at with_points in w.high;
     few = unfold name_at with_points in w.few;
-    used_ok_lem = unfold name_at with_points in w.used-ok;
+    used_ok = unfold name_at with_points in w.used_ok;
     kept = unfold name_at with_points in each (λ p y. y.named ≡ true → (s.bottom ≤ y.id.round) × (y.id.round ≤ s.top)) (λ n. (low, high)) (λ p m. w.kept p);
     peer = unfold name_at with_points is_peer in each (λ p y. y.named ≡ true → is_peer s y.id ≡ true) (λ n. a) (λ p m. w.peer p);
     apart = name_apart;
@@ -289,13 +289,13 @@ unfolding resolve_at with_path_heights with_points resolved_as is_peer version
 res_kept s w q t there late form tamed = record {
   sized = w.sized;
   begun = w.begun;
-  places_ok_lem = w.places-ok;
-  conf_ok_lem = w.conf-ok;
+  places_ok = w.places_ok;
+  conf_ok = w.conf_ok;
   low = w.low;
-  rounds_ok_lem = w.rounds-ok;
+  rounds_ok = w.rounds_ok;
   high = w.high;
   few = w.few;
-  used_ok_lem = w.used-ok;
+  used_ok = w.used_ok;
   kept = w.kept;
   peer = w.peer;
   apart = w.apart;
@@ -328,13 +328,13 @@ unfolding certify_at with_path_heights with_points set_top is_peer version resol
 cert_kept s w q there = record {
   sized = w.sized;
   begun = w.begun;
-  places_ok_lem = w.places-ok;
-  conf_ok_lem = w.conf-ok;
+  places_ok = w.places_ok;
+  conf_ok = w.conf_ok;
   low = w.low;
-  rounds_ok_lem = w.rounds-ok;
+  rounds_ok = w.rounds_ok;
   high = w.high;
   few = w.few;
-  used_ok_lem = w.used-ok;
+  used_ok = w.used_ok;
   kept = w.kept;
   peer = w.peer;
   apart = w.apart;
@@ -388,13 +388,13 @@ module _ (s : Store) (w : Wf s) (b : ℕ) (from : s.bottom ≤ b) (to : b ≤ s.
   drain_kept = record {
     sized = drain_sized s b w.sized;
     begun = unfold drained in w.begun;
-    places_ok_lem = unfold drained in w.places-ok;
-    conf_ok_lem = unfold drained in w.conf-ok;
+    places_ok = unfold drained in w.places_ok;
+    conf_ok = unfold drained in w.conf_ok;
     low = unfold drained in omega (arith, w.low);
-    rounds_ok_lem = unfold drained in to;
+    rounds_ok = unfold drained in to;
     high = unfold drained in w.high;
     few = unfold drained in omega (arith, w.few);
-    used_ok_lem = λ r l h. subst (λ (x : Round). used_ok x.used ≡ true) (sym (drain-round r (unfold drained in l))) (w.used-ok r (unfold drained in omega arith) (unfold drained in h));
+    used_ok = λ r l h. subst (λ (x : Round). used_ok x.used ≡ true) (sym (drain-round r (unfold drained in l))) (w.used_ok r (unfold drained in omega arith) (unfold drained in h));
     kept = λ q n. unfold drained in staying (λ x. (b ≤ x.id.round) × (x.id.round ≤ s.top)) q n (λ m l. (l, (w.kept q m).1));
     peer = λ q n. staying (λ x. is_peer (drained s b) x.id ≡ true) q n (λ m l. drain-peer (id_at s q) l (w.peer q m));
     apart = λ p q n m. staying (λ x. x.id.round ≡ round_at (drained s b) q → x.id.digest ≡ (id_at (drained s b) q).digest → p ≡ q) p n (λ n' l.
@@ -415,13 +415,13 @@ unfolding dequeued set_committed use_proof is_peer version resolved used_ok
 mark_kept s w e a c = record {
   sized = w.sized;
   begun = w.begun;
-  places_ok_lem = w.places-ok;
-  conf_ok_lem = w.conf-ok;
+  places_ok = w.places_ok;
+  conf_ok = w.conf_ok;
   low = w.low;
-  rounds_ok_lem = w.rounds-ok;
+  rounds_ok = w.rounds_ok;
   high = w.high;
   few = w.few;
-  used_ok_lem = λ r l h. by_test (eqb r (round_at s e.proof)) (λ t. rw t (and_l _ _ (w.peer e.anchor (resolved-named (s.pt e.anchor) a.anchor-done)))) (λ f. rw f (w.used-ok r l h));
+  used_ok = λ r l h. by_test (eqb r (round_at s e.proof)) (λ t. rw t (and_l _ _ (w.peer e.anchor (resolved-named (s.pt e.anchor) a.anchor_done)))) (λ f. rw f (w.used_ok r l h));
   kept = w.kept;
   peer = λ q n. by_test (eqb (round_at s q) (round_at s e.proof)) (λ t. rw t (w.peer q n)) (λ f. rw f (w.peer q n));
   apart = w.apart;
@@ -438,7 +438,7 @@ unfolding dequeued set_committed resolved
 rising_mark s e b [] r = tt
 rising_mark s e b (x ∷ xs) (l, a, r) = (
   l,
-  record { anchor-done = a.anchor-done; anchor-valid = a.anchor-valid; proof_done = a.proof-done; proof_valid = a.proof-valid; above = a.above },
+  record { anchor_done = a.anchor_done; anchor_valid = a.anchor_valid; proof_done = a.proof_done; proof_valid = a.proof_valid; above = a.above },
   rising_mark s e _ xs r,
 )
 
@@ -509,13 +509,13 @@ unfolding start_ok begun is_started
 begun_kept n m b h = record {
   sized = λ q l. refl;
   begun = refl;
-  places_ok_lem = search (and_l, and_r, h);
-  conf_ok_lem = and_l _ _ h;
+  places_ok = search (and_l, and_r, h);
+  conf_ok = and_l _ _ h;
   low = leb-true _ _ (search (and_l, and_r, h));
-  rounds_ok_lem = omega arith;
+  rounds_ok = omega arith;
   high = leb-true _ _ (search (and_l, and_r, h));
   few = omega arith;
-  used_ok_lem = λ r l k. rw (eq-eqb r b.bottom (omega arith)) (search (and_l, and_r, h));
+  used_ok = λ r l k. rw (eq-eqb r b.bottom (omega arith)) (search (and_l, and_r, h));
   kept = λ q k. absurd (false≢true k);
   peer = λ q k. absurd (false≢true k);
   apart = λ p q k. absurd (false≢true k);
@@ -689,7 +689,7 @@ outlook-goes s w i b = go (anchors_of s i) (anchors_sound Two fine fine_conflict
 -- the new bottom is a retained round
 pub new_bottom_lem : (s : Store) → Wf s → (r : ℕ) → (s.bottom ≤ new_bottom s r) × (new_bottom s r ≤ s.top)
 unfolding new_bottom
-new_bottom_lem s w r = (omega arith, omega (arith, w.rounds-ok))
+new_bottom_lem s w r = (omega arith, omega (arith, w.rounds_ok))
 
 remove-goes : (s : Store) → Wf s → (r : ℕ) (from : Option ℕ) (b : List ℕ) → Goes (do_remove s r from b)
 unfolding do_remove

@@ -1,6 +1,6 @@
 -- Which refusals the walk, the tests of an anchor and the outlook can give.
 use Prim.Native.Nat.{ℕ, zero, suc, ◌+◌}
-use Rattle.std.specs.Prelude.{◌≡◌, ◌≢◌, Bool, not, ◌&&◌, ◌||◌, eqb, leb, ltb, length}
+use Rattle.std.specs.Prelude.{◌≡◌, ◌≢◌, Bool, not, ◌&&◌, ◌||◌, eqb, leb, ltb, length, ◌-◌}
 use Rattle.std.proofs.Math.Path.{refl}
 use Rattle.std.proofs.Common.{sym, ◌∙◌, subst, true≢false, eq-eqb}
 use Rattle.std.proofs.Math.Bool.{true, false}
@@ -13,7 +13,7 @@ use Rattle.spec.specs.Store.{Store, Look, resolved_at, named_at, never, round_at
 use Rattle.spec.specs.Paths.{certified}
 use Rattle.spec.specs.Rules.{is_peer}
 use Rattle.spec.specs.Chain.{Refusal, number, conflict, Out, bad, good, then, refuse, usable_in_walk, is_committable, checked_as, checked_by, checked, ready_valid_point, EnqueuedAnchor, Onward, enqueue, to_anchor, to_previous, at_proof, at_used, visit, walk, unlinked, lowest_walked, empty_walk, check_oldest, chain_from, chain, trigger_conflict, filtered, place_of, anchors_of}
-use Rattle.spec.specs.History.{tested, any_uncertified, rounds_missing, first_fault, faults, outlook_bytes, outlook_all}
+use Rattle.spec.specs.History.{tested, any_uncertified, rounds_missing, first_fault, faults, outlook_bytes, outlook_all, dequeued}
 use Rattle.spec.specs.Calls.{round}
 use Rattle.spec.specs.Walk.{find-some, checked_at, place_at_lem}
 
@@ -100,7 +100,7 @@ module _ (F : Refusal → Type 0) (fine : (n : ℕ) → is_other n ≡ true → 
   outlook_sound s left [] = tt
   outlook_sound s left (e ∷ es) =
       then_sound F (tested s e.anchor) _ (tested_sound s e.anchor) (λ a.
-      refuse_sound F (ltb left (length (outlook_bytes s e.anchor))) 21 _ (fine 21 refl) (then_sound F (outlook_all _ _ es) _ (outlook_sound _ _ es) (λ rest. tt)))
+      refuse_sound F (ltb left (length (outlook_bytes s e.anchor))) 21 _ (fine 21 refl) (then_sound F (outlook_all (dequeued s e) (left - length (outlook_bytes s e.anchor)) es) _ (outlook_sound (dequeued s e) (left - length (outlook_bytes s e.anchor)) es) (λ rest. tt)))
 
   -- ---- and 25 too: the walk
 

@@ -39,7 +39,7 @@ hands_elim s m r q p h = record {
     k = sym (hands-and s m r q p) ∙ h
 
 hands_intro : (s : Store) (m : ℕ → Bool) (r q p : ℕ) → Hands s m r q p → hands s m r q p ≡ true
-hands_intro s m r q p h = hands-and s m r q p ∙ both (eq-eqb _ _ h.at-round) (both h.marked (both (ap not h.fresh) h.link))
+hands_intro s m r q p h = hands-and s m r q p ∙ both (eq-eqb _ _ h.at_round) (both h.marked (both (ap not h.fresh) h.link))
 
 -- after a pass: marked before, or handed on to
 pass_cases : (s : Store) (m : ℕ → Bool) (r q : ℕ) → pass s m r q ≡ true → (m q ≡ true) ⊎ ((p : ℕ) × Hands s m r q p)
@@ -79,7 +79,7 @@ pass_closed s z m r c p q u d e l = go (pass_cases s m r p u) (ℕ_discrete (rou
     go : (m p ≡ true) ⊎ ((x : ℕ) × Hands s m r p x) → Dec (round_at s p ≡ r) → pass s m r q ≡ true
     go (inl t) (yes y) = pass-hands s m r q p (inside s z p (source_named s p q e)) (record { at_round = y; marked = t; fresh = d; link = e })
     go (inl t) (no y) = pass-keeps s m r q (c p q t d e (omega arith))
-    go (inr (x, v)) y = absurd (omega (arith, down s x p v.link, v.at-round))
+    go (inr (x, v)) y = absurd (omega (arith, down s x p v.link, v.at_round))
 
 sweep_closed : (s : Store) → Sized s → (k : ℕ) (m : ℕ → Bool) (r b : ℕ) → suc r ≡ k + b → 0 < b → Closed s m (suc r) → Closed s (sweep s k m r) b
 unfolding sweep

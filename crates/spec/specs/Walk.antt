@@ -101,7 +101,7 @@ place_at_lem s i = go (find s i)
 pub record Valid (s : Store) (i : Id) (q : ℕ) : Type 0 where
   pub found : find s i ≡ some q
   pub done : resolved (s.pt q) ≡ true
-  pub is_valid_lem : status_at s q ≡ 1
+  pub is_valid : status_at s q ≡ 1
 
 checked_as-good : (u c : Bool) (r q x : ℕ) → checked_as u c r q ≡ good x → (u ≡ true) × (q ≡ x)
 unfolding checked_as
@@ -127,11 +127,11 @@ need_good s i q h = go (find s i) refl (sym (ready_at s i) ∙ h)
     go : (o : Option ℕ) → find s i ≡ o → ◌≡◌ {A = Out ℕ} (elim o [ none ↦ bad (number 25) | some x ↦ checked s usable_in_walk x ]) (good q) → Valid s i q
     go none e k = absurd (not_good (number 25) q k)
     go (some x) e k = let (a, u, m) = checked-good s usable_in_walk x q k in
-        record { found = e ∙ ap some m; done = subst (λ z. resolved (s.pt z) ≡ true) m a; is_valid_lem = subst (λ z. status_at s z ≡ 1) m (eqb-true _ _ u) }
+        record { found = e ∙ ap some m; done = subst (λ z. resolved (s.pt z) ≡ true) m a; is_valid = subst (λ z. status_at s z ≡ 1) m (eqb-true _ _ u) }
 
 pub need_back : (s : Store) (i : Id) (q : ℕ) → Valid s i q → ready_valid_point s i ≡ good q
 unfolding usable_in_walk
-need_back s i q v = ready_at s i ∙ rw v.found (checked_back s usable_in_walk q v.done (eq-eqb _ _ v.is-valid))
+need_back s i q v = ready_at s i ∙ rw v.found (checked_back s usable_in_walk q v.done (eq-eqb _ _ v.is_valid))
 
 -- ---- the walk
 
@@ -199,8 +199,8 @@ module _ (s : Store) (x : ℕ) (low : Bool) (below : Onward) (i : Id) (acc l : L
 
 -- an anchor of a chain: valid, its proof valid and one round above it
 pub record Anchored (s : Store) (e : EnqueuedAnchor) : Type 0 where
-  pub anchor-done : resolved (s.pt e.anchor) ≡ true
-  pub anchor-valid : status_at s e.anchor ≡ 1
+  pub anchor_done : resolved (s.pt e.anchor) ≡ true
+  pub anchor_valid : status_at s e.anchor ≡ 1
   pub proof_done : resolved (s.pt e.proof) ≡ true
   pub proof_valid : status_at s e.proof ≡ 1
   pub above : round_at s e.proof ≡ suc (round_at s e.anchor)
@@ -241,10 +241,10 @@ walk_rising s w (suc k) i acc l h e = go (visit-good s (w + suc k) false (walk s
     go (goes m u p d a v t j b y f) r = r (s.pt a).resolution.top_proof _ l (
       at.0,
       record {
-        anchor-done = y.done;
-        anchor-valid = y.is-valid;
+        anchor_done = y.done;
+        anchor_valid = y.is_valid;
         proof_done = v.done;
-        proof_valid = v.is-valid;
+        proof_valid = v.is_valid;
         above = ap (λ (x : Id). x.round) (find-some s i p v.found).is ∙ (m ∙ at.2);
       },
       rising_less s _ (w + suc k) acc (omega (arith, at.2)) h,

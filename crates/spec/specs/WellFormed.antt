@@ -23,13 +23,13 @@ Leads s r l = (q : ℕ) × ((s.pt q).named ≡ true) × (fits r (id_at s q) l �
 pub record Wf (s : Store) : Type 0 where
   pub sized : Sized s
   pub begun : is_started s.phase ≡ true
-  pub places_ok_lem : places_ok s.places ≡ true
-  pub conf_ok_lem : conf_ok s.conf ≡ true
+  pub places_ok : places_ok s.places ≡ true
+  pub conf_ok : conf_ok s.conf ≡ true
   pub low : s.conf.genesis ≤ s.bottom
-  pub rounds_ok_lem : s.bottom ≤ s.top
+  pub rounds_ok : s.bottom ≤ s.top
   pub high : s.top ≤ last_round
   pub few : s.top - s.bottom < 512
-  pub used_ok_lem : (r : ℕ) → s.bottom ≤ r → r ≤ s.top → used_ok (s.rounds r).used ≡ true
+  pub used_ok : (r : ℕ) → s.bottom ≤ r → r ≤ s.top → used_ok (s.rounds r).used ≡ true
   pub kept : (q : ℕ) → (s.pt q).named ≡ true → (s.bottom ≤ round_at s q) × (round_at s q ≤ s.top)
   pub peer : (q : ℕ) → (s.pt q).named ≡ true → is_peer s (id_at s q) ≡ true
   pub apart : (p q : ℕ) → (s.pt p).named ≡ true → (s.pt q).named ≡ true → round_at s p ≡ round_at s q → (id_at s p).digest ≡ (id_at s q).digest → p ≡ q
@@ -84,13 +84,13 @@ module _ (s : Store) (z : Sized s) where
   counts_as_started_elim h = record {
     sized = z;
     begun = and_l _ _ h;
-    places_ok_lem = search (and_l, and_r, h);
-    conf_ok_lem = search (and_l, and_r, h);
+    places_ok = search (and_l, and_r, h);
+    conf_ok = search (and_l, and_r, h);
     low = leb-true _ _ (and_l _ _ (rounds_of_lem h));
-    rounds_ok_lem = leb-true _ _ (search (and_l, and_r, r));
+    rounds_ok = leb-true _ _ (search (and_l, and_r, r));
     high = leb-true _ _ (search (and_l, and_r, r));
     few = ltb-true _ _ (search (and_l, and_r, r));
-    used_ok_lem = used_of_lem r;
+    used_ok = used_of_lem r;
     kept = λ q n. (leb-true _ _ (and_l _ _ (and_l _ _ (id_of_lem q n))), leb-true _ _ (and_r (leb s.bottom (round_at s q)) _ (and_l _ _ (id_of_lem q n))));
     peer = λ q n. and_l _ _ (and_r (retained s (round_at s q)) _ (id_of_lem q n));
     apart = λ p q n m e d. sym (eqb-true q p (only_elim (same_digest s (id_at s p) q) _ (every_elim s.places (λ x. only (same_digest s (id_at s p) x) (eqb x p)) (and_l _ _ (and_r (is_peer s (id_at s p)) _ (and_r (retained s (round_at s p)) _ (id_of_lem p n)))) q (inside s z q m)) (both m (both (eq-eqb _ _ (sym e)) (eq-eqb _ _ (sym d))))));
@@ -117,8 +117,8 @@ module _ (s : Store) (z : Sized s) where
   pub counts_as_started_intro : Wf s → counts_as_started s ≡ true
   unfolding counts_as_started rounds_ok place_ok id_ok links_ok cert_ok same_digest
   counts_as_started_intro w =
-      both w.begun (both w.places-ok (both w.conf-ok (both
-      (both (le-leb _ _ w.low) (both (le-leb _ _ w.rounds-ok) (both (le-leb _ _ w.high) (both (lt-ltb _ _ w.few) (every_intro _ _ (λ k l. w.used-ok (s.bottom + k) (omega arith) (omega (arith, w.rounds-ok))))))))
+      both w.begun (both w.places_ok (both w.conf_ok (both
+      (both (le-leb _ _ w.low) (both (le-leb _ _ w.rounds_ok) (both (le-leb _ _ w.high) (both (lt-ltb _ _ w.few) (every_intro _ _ (λ k l. w.used_ok (s.bottom + k) (omega arith) (omega (arith, w.rounds_ok))))))))
       (every_intro s.places _ (λ q l. only_intro (s.pt q).named _ (λ n. both (ids q n) (both (lnk q) (crt q n))))))))
     where
       ids : (q : ℕ) → (s.pt q).named ≡ true → id_ok s q ≡ true

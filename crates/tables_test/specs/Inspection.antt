@@ -18,4 +18,4 @@ pub started-lists_rise : (s : State) (ks ls cs os : List ℕ) → Fit ks → Fit
 unfolding view
 started-lists_rise s ks ls cs os fk fl h =
     let t = counted s ks ls cs os fk fl h in
-    lists_rise (view s ks ls cs os) (counts_as_started_elim (view s ks ls cs os) (sized s ks ls cs os fk fl t.shaped t.facts.inside) h) (memory_rises s.memory t.memory-ok)
+    lists_rise (view s ks ls cs os) (counts_as_started_elim (view s ks ls cs os) (sized s ks ls cs os fk fl t.shaped t.facts.inside) h) (memory_rises s.memory t.memory_ok)

@@ -34,9 +34,9 @@ pub record Started (s : State) (ks ls cs os : List ℕ) : Type 0 where
   pub shaped : shape ks ls cs os ≡ true
   pub regulated : regular s ks ls cs os ≡ true
   pub begun : eqb s.phase 1 ≡ true
-  pub places_ok_lem : places_ok (length os) ≡ true
-  pub conf_ok_lem : conf_holds s.commit_history_rounds s.deduplicate_rounds ≡ true
-  pub rounds_ok_lem : rounds_hold s ≡ true
+  pub places_ok : places_ok (length os) ≡ true
+  pub conf_ok : conf_holds s.commit_history_rounds s.deduplicate_rounds ≡ true
+  pub rounds_ok : rounds_hold s ≡ true
   pub count_ok : s.count ≤ length os
   pub memory_ok : memory_holds s.memory ≡ true
   pub fits : (q : ℕ) → Used os s.count q → words_fit ks ls cs q ≡ true
@@ -194,9 +194,9 @@ module _ (s : State) (ks ls cs os : List ℕ) where
           shaped = sh;
           regulated = rg;
           begun = ph;
-          places_ok_lem = ap places_ok (sym (places_is s ks ls cs os fk fl sh)) ∙ w.places-ok;
-          conf_ok_lem = sym (conf_is s) ∙ (ap conf_ok (sym (conf_of_lem _ refl)) ∙ w.conf-ok);
-          rounds_ok_lem = rounds_of_lem h;
+          places_ok = ap places_ok (sym (places_is s ks ls cs os fk fl sh)) ∙ w.places_ok;
+          conf_ok = sym (conf_is s) ∙ (ap conf_ok (sym (conf_of_lem _ refl)) ∙ w.conf_ok);
+          rounds_ok = rounds_of_lem h;
           count_ok = g.room;
           memory_ok = g.memory;
           fits = g.fits;
@@ -207,8 +207,8 @@ module _ (s : State) (ks ls cs os : List ℕ) where
     unfolding tested state_holds
     counted-passes h =
         let t = counted h in
-        both t.shaped (both (both t.begun (both t.places-ok (both t.conf-ok (both t.rounds-ok (both (le-leb _ _ t.count-ok) t.memory-ok)))))
-        (both (facts_order t.rounds-ok t.facts) (facts_points t.places-ok t.facts)))
+        both t.shaped (both (both t.begun (both t.places_ok (both t.conf_ok (both t.rounds_ok (both (le-leb _ _ t.count_ok) t.memory_ok)))))
+        (both (facts_order t.rounds_ok t.facts) (facts_points t.places_ok t.facts)))
 
     -- the tables pass the test exactly if they count as started
     pub counts_as_started_is : counts_as_started (view s ks ls cs os) ≡ tested s ks ls cs os

@@ -151,13 +151,13 @@ module _ (s : State) (ks ls cs os : List ℕ) (fk : Fit ks) (fl : Fit ls) (sh : 
   facts_wf rg ph po co ro f = record {
     sized = sized f.inside;
     begun = rw (both sh rg, ph) refl;
-    places_ok_lem = ap places_ok places_is ∙ po;
-    conf_ok_lem = conf_is s ∙ co;
+    places_ok = ap places_ok places_is ∙ po;
+    conf_ok = conf_is s ∙ co;
     low = leb-true _ _ (and_l _ _ range);
-    rounds_ok_lem = leb-true _ _ (search (and_l, and_r, range));
+    rounds_ok = leb-true _ _ (search (and_l, and_r, range));
     high = leb-true _ _ (search (and_l, and_r, range));
     few = ltb-true _ _ (search (and_l, and_r, range));
-    used_ok_lem = marks_of_lem ro;
+    used_ok = marks_of_lem ro;
     kept = λ q h. let u = named q h in (subst (λ x. s.bottom.0 ≤ x) (sym (round_is q u)) (low_of_lem f.ids q u), subst (λ x. x ≤ s.top.0) (sym (round_is q u)) (high_of_lem f.ids q u));
     peer = λ q h. let u = named q h in peer_to q u (low_of_lem f.ids q u) (high_of_lem f.ids q u) ∙ peer_of_lem f.ids q u;
     apart = λ p q h k r d. let u = named p h in let w = named q k in

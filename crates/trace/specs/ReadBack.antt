@@ -328,7 +328,7 @@ module _ (i : Id) (t : Resolution) where
 
 -- what is read of the fields that a call is written as
 pub record CallBack (room : List ℕ) (c : Call) : Type 0 where
-  pub known-kind : kind_ok (kind_byte c) ≡ true
+  pub known_kind : kind_ok (kind_byte c) ≡ true
   pub fit : fields_fit (kind_byte c) (fields_in c) ≡ true
   pub same : call_by (kind_of (kind_byte c)) (fields_in c) room ≡ lending room c
 
@@ -344,22 +344,22 @@ not_back false h = refl
 pub call_back : (room : List ℕ) (c : Call) → sayable c ≡ true → all fits_field (fields_of c) ≡ true → CallBack room c
 unfolding sayable kind_ok kind_byte fields_fit fits size_of fields_of kind_of call_by lending size before nth start_fields field_bytes
 call_back room (start a) w h = record {
-  known-kind = refl;
+  known_kind = refl;
   fit = eq-eqb _ 22 (fields_length (start_fields a));
   same = ap start (start_back a (not_back (is255 a.used) w) h);
 }
-call_back room reset_all w h = record { known-kind = refl; fit = refl; same = refl }
+call_back room reset_all w h = record { known_kind = refl; fit = refl; same = refl }
 call_back room (round r peers) w h = record {
-  known-kind = refl;
+  known_kind = refl;
   fit = eq-eqb _ 8 (fields_length (fields_of (round r peers)));
   same = ap₂ round (field_nth (fields_of (round r peers)) 0 h) (field_nth (fields_of (round r peers)) 1 h);
 }
-call_back room (name i) w h = record { known-kind = refl; fit = eq-eqb _ 37 (id-size i); same = ap name (id_back i [] h) }
-call_back room (resolve i t) w h = record { known-kind = refl; fit = eq-eqb _ _ (resolve-size i t h); same = ap₂ resolve (resolve_back i t h).0 (resolve_back i t h).1 }
-call_back room (certify i) w h = record { known-kind = refl; fit = eq-eqb _ 37 (id-size i); same = ap certify (id_back i [] h) }
-call_back room gap_question w h = record { known-kind = refl; fit = refl; same = refl }
+call_back room (name i) w h = record { known_kind = refl; fit = eq-eqb _ 37 (id-size i); same = ap name (id_back i [] h) }
+call_back room (resolve i t) w h = record { known_kind = refl; fit = eq-eqb _ _ (resolve-size i t h); same = ap₂ resolve (resolve_back i t h).0 (resolve_back i t h).1 }
+call_back room (certify i) w h = record { known_kind = refl; fit = eq-eqb _ 37 (id-size i); same = ap certify (id_back i [] h) }
+call_back room gap_question w h = record { known_kind = refl; fit = refl; same = refl }
 call_back room (commit i l b) w h = record {
-  known-kind = refl;
+  known_kind = refl;
   fit = eq-eqb _ _ (long (length (field_bytes (id_then i (map (field 1) l)))) (length (field_bytes (id_then i []))) (length (field_bytes (map (field 1) l))) (ap length front ∙ length-append (field_bytes (id_then i [])) _) (id-size i));
   same = ap₂ (λ (x : Id) (y : List ℕ). commit x y room) (id_back i _ h) (ap (drop 37) front ∙ (drop_at (field_bytes (id_then i [])) _ 37 (id-size i) ∙ lists_back l (all_append (id_then i []) (map (field 1) l) h).1));
 }
@@ -370,8 +370,8 @@ call_back room (commit i l b) w h = record {
     long : (n m k : ℕ) → n ≡ m + k → m ≡ 37 → n ≡ 37 + (n - 37)
     long n m k e g = omega arith
 call_back room (outlook i b) w h = absurd (false≢true w)
-call_back room (remove r from b) w h = let (x, y, z) = since_back r from h in record { known-kind = refl; fit = eq-eqb _ 9 z; same = ap₂ (λ (u : ℕ) (v : Option ℕ). remove u v room) x y }
-call_back room (drop_to r) w h = record { known-kind = refl; fit = eq-eqb _ 4 (fields_length (fields_of (drop_to r))); same = ap drop_to (field_nth (fields_of (drop_to r)) 0 h) }
+call_back room (remove r from b) w h = let (x, y, z) = since_back r from h in record { known_kind = refl; fit = eq-eqb _ 9 z; same = ap₂ (λ (u : ℕ) (v : Option ℕ). remove u v room) x y }
+call_back room (drop_to r) w h = record { known_kind = refl; fit = eq-eqb _ 4 (fields_length (fields_of (drop_to r))); same = ap drop_to (field_nth (fields_of (drop_to r)) 0 h) }
 
 -- ---- a record
 
@@ -468,11 +468,11 @@ reads_back room c r xs ys p e l =
     let w = record_written c r e in
     let k = kind_byte c in
     let f = fields_in c in
-    let m = w.rest-fits in
+    let m = w.rest_fits in
     let b = call_back room c w.can w.fields_fit in
     let q : length r ≡ 4 + (2 + length f) = ap length w.bytes ∙ record_size_lem k f in
     ap (λ (z : List ℕ). read_at room (xs ++ (z ++ ys)) p) w.bytes
-    ∙ (read_good room _ f p k (whole_back k f xs ys p l m) (version_back k f xs ys p l m) (kind_back k f xs ys p l m) (fields_back k f xs ys p l m) (rest_back k f xs ys p l m) b.known-kind b.fit
+    ∙ (read_good room _ f p k (whole_back k f xs ys p l m) (version_back k f xs ys p l m) (kind_back k f xs ys p l m) (fields_back k f xs ys p l m) (rest_back k f xs ys p l m) b.known_kind b.fit
     ∙ (λ i. good (record { what = b.same i; end = ends p (length f) (length r) q i })))
   where
     ends : (p n m : ℕ) → m ≡ 4 + (2 + n) → p + 4 + (2 + n) ≡ p + m

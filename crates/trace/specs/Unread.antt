@@ -140,10 +140,10 @@ zero_number f p h = rw (h p (omega arith), h (p + 1) (omega arith), h (p + 1 + 1
 -- all of it at once
 pub record Unread (k : Kind) (f room : List ℕ) : Type 0 where
   pub call_same : call_by k (normal k f) room ≡ call_by k f room
-  pub fits-same : fits k (normal k f) ≡ true
+  pub fits_same : fits k (normal k f) ≡ true
   pub is_normal : Normal k (normal k f)
   pub bytes : AllBytes (normal k f)
-  pub length-same : length (normal k f) ≡ length f
+  pub length_same : length (normal k f) ≡ length f
 
 set-bytes : (f : List ℕ) (i x : ℕ) → x < 256 → AllBytes f → AllBytes (set f i x)
 set-bytes f i x l h p =
@@ -158,10 +158,10 @@ bit_byte false = (omega arith, omega arith)
 unread_same : (k : Kind) (f room : List ℕ) → normal k f ≡ f → fits k f ≡ true → Normal k f → AllBytes f → Unread k f room
 unread_same k f room e l n h = record {
   call_same = ap (λ (g : List ℕ). call_by k g room) e;
-  fits-same = ap (fits k) e ∙ l;
+  fits_same = ap (fits k) e ∙ l;
   is_normal = subst (Normal k) (sym e) n;
   bytes = subst AllBytes (sym e) h;
-  length-same = ap length e;
+  length_same = ap length e;
 }
 
 remove_unread : (f room : List ℕ) → length f ≡ 9 → AllBytes f → (b : Bool) → flag_in f 4 ≡ b → Unread kind.Remove f room
@@ -177,10 +177,10 @@ remove_unread f room l h true e =
     let z : cond (flag_in g 4) (some (number_at g 5 4)) none ≡ cond (flag_in f 4) (some (number_at f 5 4)) none = ap₂ (λ (b : Bool) (y : ℕ). cond b (some y) none) (o ∙ sym e) t in
     record {
       call_same = ap (λ (x : List ℕ). call_by kind.Remove x room) j ∙ ap₂ (λ (x : ℕ) (y : Option ℕ). remove x y room) r z;
-      fits-same = ap (fits kind.Remove) j ∙ eq-eqb _ 9 (length-set f 4 1 ∙ l);
+      fits_same = ap (fits kind.Remove) j ∙ eq-eqb _ 9 (length-set f 4 1 ∙ l);
       is_normal = subst (Normal kind.Remove) (sym j) (omega (arith, s), λ c. absurd (omega (arith, s)));
       bytes = subst AllBytes (sym j) (set-bytes f 4 1 (omega arith) h);
-      length-same = ap length j ∙ length-set f 4 1;
+      length_same = ap length j ∙ length-set f 4 1;
     }
 remove_unread f room l h false e =
     let g : List ℕ = take 4 f ++ zeros 5 in
@@ -191,10 +191,10 @@ remove_unread f room l h false e =
     let z : cond (flag_in g 4) (some (number_at g 5 4)) none ≡ cond (flag_in f 4) (some (number_at f 5 4)) none = cond_no _ _ none o refl ∙ sym (cond_no _ _ none e refl) in
     record {
       call_same = ap (λ (x : List ℕ). call_by kind.Remove x room) j ∙ ap₂ (λ (x : ℕ) (y : Option ℕ). remove x y room) r z;
-      fits-same = ap (fits kind.Remove) j ∙ eq-eqb _ 9 (tail_length f l);
+      fits_same = ap (fits kind.Remove) j ∙ eq-eqb _ 9 (tail_length f l);
       is_normal = subst (Normal kind.Remove) (sym j) (omega (arith, s), λ _. zero_number g 5 (λ q u. tail_zero f l q (omega arith)));
       bytes = subst AllBytes (sym j) (λ q. le_or 4 q (λ u. rw (tail_zero f l q u) (omega arith)) (λ u. rw (tail_front f l q u) (h q)));
-      length-same = ap length j ∙ (tail_length f l ∙ sym l);
+      length_same = ap length j ∙ (tail_length f l ∙ sym l);
     }
 
 pub unread : (k : Kind) (f room : List ℕ) → fits k f ≡ true → AllBytes f → Unread k f room
@@ -204,10 +204,10 @@ unread kind.Start f room l h =
     let x : ℕ = bit 1 (flag_in f 20) in
     record {
       call_same = ap start (start_unread f n);
-      fits-same = eq-eqb _ 22 (length-set f 20 x ∙ n);
+      fits_same = eq-eqb _ 22 (length-set f 20 x ∙ n);
       is_normal = subst (λ (y : ℕ). y ≤ 1) (sym (get_or-set_same f 20 x 0 (omega (arith, n)))) (bit_byte (flag_in f 20)).1;
       bytes = set-bytes f 20 x (bit_byte (flag_in f 20)).0 h;
-      length-same = length-set f 20 x;
+      length_same = length-set f 20 x;
     }
 unread kind.Round f room l h = unread_same kind.Round f room refl l tt h
 unread kind.Name f room l h = unread_same kind.Name f room refl l tt h
@@ -217,10 +217,10 @@ unread kind.Resolve f room l h =
     let (a, b, c) = resolve_unread f (omega (arith, n)) in
     record {
       call_same = ap₂ resolve a b;
-      fits-same = eq-eqb _ _ (length-set f 38 x ∙ (n ∙ ap (λ (m : ℕ). 90 + 33 * m) (sym c)));
+      fits_same = eq-eqb _ _ (length-set f 38 x ∙ (n ∙ ap (λ (m : ℕ). 90 + 33 * m) (sym c)));
       is_normal = subst (λ (y : ℕ). y < 8) (sym (get_or-set_same f 38 x 0 (omega (arith, n)))) (omega arith);
       bytes = set-bytes f 38 x (omega arith) h;
-      length-same = length-set f 38 x;
+      length_same = length-set f 38 x;
     }
 unread kind.Certify f room l h = unread_same kind.Certify f room refl l tt h
 unread kind.Commit f room l h = unread_same kind.Commit f room refl l tt h
@@ -243,8 +243,8 @@ writes_normal room bs p x h e =
     let g : List ℕ = normal (kind_of k) f in
     let c : Call = call_by (kind_of k) g room in
     let y = unread (kind_of k) f room o.fit (bytes-part bs (p + 6) (p + 4 + rest_at bs p) h) in
-    let w = write_back k g room o.kind-known y.fits-same y.bytes y.is_normal in
+    let w = write_back k g room o.kind_known y.fits_same y.bytes y.is_normal in
     let s : 2 + length f ≤ 4096 = omega (arith, m, length-take (p + 4 + rest_at bs p - (p + 6)) (drop (p + 6) bs)) in
-    let l : 2 + length (fields_in c) ≤ 4096 = subst (λ (z : List ℕ). 2 + length z ≤ 4096) (sym w.same) (subst (λ (n : ℕ). 2 + n ≤ 4096) (sym y.length-same) s) in
+    let l : 2 + length (fields_in c) ≤ 4096 = subst (λ (z : List ℕ). 2 + length z ≤ 4096) (sym w.same) (subst (λ (n : ℕ). 2 + n ≤ 4096) (sym y.length_same) s) in
     ap record_of (o.what ∙ sym y.call_same)
-    ∙ (refuse_back _ 26 _ (not_yes (both w.can (both w.fields_fit (le-leb _ 4096 l)))) ∙ ap good (ap₂ record_bytes w.kind-same w.same))
+    ∙ (refuse_back _ 26 _ (not_yes (both w.can (both w.fields_fit (le-leb _ 4096 l)))) ∙ ap good (ap₂ record_bytes w.kind_same w.same))

@@ -214,7 +214,7 @@ tail_bytes_lem f h =
 
 -- what is written of the call of a kind byte and its fields: they themselves
 pub record WriteBack (k : ℕ) (f room : List ℕ) : Type 0 where
-  pub kind-same : kind_byte (call_by (kind_of k) f room) ≡ k
+  pub kind_same : kind_byte (call_by (kind_of k) f room) ≡ k
   pub can : sayable (call_by (kind_of k) f room) ≡ true
   pub fields_fit : all fits_field (fields_of (call_by (kind_of k) f room)) ≡ true
   pub same : fields_in (call_by (kind_of k) f room) ≡ f
@@ -264,16 +264,16 @@ none_left (x ∷ f) e = absurd (omega arith)
 pub write_back : (k : ℕ) (f room : List ℕ) → kind_ok k ≡ true → fields_fit k f ≡ true → AllBytes f → Normal (kind_of k) f → WriteBack k f room
 unfolding kind_ok fields_fit kind_of call_by kind_byte sayable fields_of Normal size_of field_bytes all cut_as sum start_in
 write_back zero f room o l h n = absurd (false≢true o)
-write_back (suc zero) f room o l h n = let t = cut_all f h (4 ∷ 4 ∷ 4 ∷ 4 ∷ 4 ∷ 1 ∷ 1 ∷ []) (start_fields (start_in f)) (start-cut f n) (sym (fits-length kind.Start f l)) in record { kind-same = refl; can = used_can (get_or f 21 0); fields_fit = t.0; same = t.1 }
-write_back (suc (suc zero)) f room o l h n = let t = cut_all f h (4 ∷ 4 ∷ []) (field 4 (number_at f 0 4) ∷ field 4 (number_at f 4 4) ∷ []) refl (sym (fits-length kind.Round f l)) in record { kind-same = refl; can = refl; fields_fit = t.0; same = t.1 }
-write_back (suc (suc (suc zero))) f room o l h n = let t = id-all f h (fits-length kind.Name f l) in record { kind-same = refl; can = refl; fields_fit = t.0; same = t.1 }
-write_back (suc (suc (suc (suc zero)))) f room o l h n = let t = resolve-all f h n (fits-length kind.Resolve f l) in record { kind-same = refl; can = refl; fields_fit = t.0; same = t.1 }
-write_back (suc (suc (suc (suc (suc zero))))) f room o l h n = let t = id-all f h (fits-length kind.Certify f l) in record { kind-same = refl; can = refl; fields_fit = t.0; same = t.1 }
-write_back (suc (suc (suc (suc (suc (suc zero)))))) f room o l h n = let t = commit_all_lem f h (omega (arith, fits-length kind.Commit f l)) in record { kind-same = refl; can = refl; fields_fit = t.0; same = t.1 }
-write_back (suc (suc (suc (suc (suc (suc (suc zero))))))) f room o l h n = let t = cut_all f h (4 ∷ 1 ∷ 4 ∷ []) (remove_fields (number_at f 0 4) (since_in f)) (remove-cut f n) (sym (fits-length kind.Remove f l)) in record { kind-same = refl; can = refl; fields_fit = t.0; same = t.1 }
-write_back (suc (suc (suc (suc (suc (suc (suc (suc zero)))))))) f room o l h n = let t = cut_all f h (4 ∷ []) (field 4 (number_at f 0 4) ∷ []) refl (sym (fits-length kind.Drop f l)) in record { kind-same = refl; can = refl; fields_fit = t.0; same = t.1 }
-write_back (suc (suc (suc (suc (suc (suc (suc (suc (suc zero))))))))) f room o l h n = record { kind-same = refl; can = refl; fields_fit = refl; same = none_left f (fits-length kind.Gap f l) }
-write_back (suc (suc (suc (suc (suc (suc (suc (suc (suc (suc zero)))))))))) f room o l h n = record { kind-same = refl; can = refl; fields_fit = refl; same = none_left f (fits-length kind.Reset f l) }
+write_back (suc zero) f room o l h n = let t = cut_all f h (4 ∷ 4 ∷ 4 ∷ 4 ∷ 4 ∷ 1 ∷ 1 ∷ []) (start_fields (start_in f)) (start-cut f n) (sym (fits-length kind.Start f l)) in record { kind_same = refl; can = used_can (get_or f 21 0); fields_fit = t.0; same = t.1 }
+write_back (suc (suc zero)) f room o l h n = let t = cut_all f h (4 ∷ 4 ∷ []) (field 4 (number_at f 0 4) ∷ field 4 (number_at f 4 4) ∷ []) refl (sym (fits-length kind.Round f l)) in record { kind_same = refl; can = refl; fields_fit = t.0; same = t.1 }
+write_back (suc (suc (suc zero))) f room o l h n = let t = id-all f h (fits-length kind.Name f l) in record { kind_same = refl; can = refl; fields_fit = t.0; same = t.1 }
+write_back (suc (suc (suc (suc zero)))) f room o l h n = let t = resolve-all f h n (fits-length kind.Resolve f l) in record { kind_same = refl; can = refl; fields_fit = t.0; same = t.1 }
+write_back (suc (suc (suc (suc (suc zero))))) f room o l h n = let t = id-all f h (fits-length kind.Certify f l) in record { kind_same = refl; can = refl; fields_fit = t.0; same = t.1 }
+write_back (suc (suc (suc (suc (suc (suc zero)))))) f room o l h n = let t = commit_all_lem f h (omega (arith, fits-length kind.Commit f l)) in record { kind_same = refl; can = refl; fields_fit = t.0; same = t.1 }
+write_back (suc (suc (suc (suc (suc (suc (suc zero))))))) f room o l h n = let t = cut_all f h (4 ∷ 1 ∷ 4 ∷ []) (remove_fields (number_at f 0 4) (since_in f)) (remove-cut f n) (sym (fits-length kind.Remove f l)) in record { kind_same = refl; can = refl; fields_fit = t.0; same = t.1 }
+write_back (suc (suc (suc (suc (suc (suc (suc (suc zero)))))))) f room o l h n = let t = cut_all f h (4 ∷ []) (field 4 (number_at f 0 4) ∷ []) refl (sym (fits-length kind.Drop f l)) in record { kind_same = refl; can = refl; fields_fit = t.0; same = t.1 }
+write_back (suc (suc (suc (suc (suc (suc (suc (suc (suc zero))))))))) f room o l h n = record { kind_same = refl; can = refl; fields_fit = refl; same = none_left f (fits-length kind.Gap f l) }
+write_back (suc (suc (suc (suc (suc (suc (suc (suc (suc (suc zero)))))))))) f room o l h n = record { kind_same = refl; can = refl; fields_fit = refl; same = none_left f (fits-length kind.Reset f l) }
 write_back (suc (suc (suc (suc (suc (suc (suc (suc (suc (suc (suc k))))))))))) f room o l h n = absurd (above k (leb-true (suc (suc (suc (suc (suc (suc (suc (suc (suc (suc (suc k))))))))))) 10 (and_r (leb 1 (suc (suc (suc (suc (suc (suc (suc (suc (suc (suc (suc k)))))))))))) _ o)))
   where
     above : (k : ℕ) → (suc (suc (suc (suc (suc (suc (suc (suc (suc (suc (suc k))))))))))) ≤ 10 → ⊥
@@ -291,7 +291,7 @@ words-part f p n l =
 pub record ReadOf (room bs : List ℕ) (p : ℕ) (x : Found) : Type 0 where
   pub whole : whole_at bs p ≡ true
   pub version : get_or bs (p + 4) 0 ≡ 1
-  pub kind_known_lem : kind_ok (get_or bs (p + 5) 0) ≡ true
+  pub kind_known : kind_ok (get_or bs (p + 5) 0) ≡ true
   pub fit : fields_fit (get_or bs (p + 5) 0) (fields_at bs p) ≡ true
   pub what : x.what ≡ call_by (kind_of (get_or bs (p + 5) 0)) (fields_at bs p) room
   pub end : x.end ≡ p + 4 + rest_at bs p
@@ -307,7 +307,7 @@ read_of room bs p x e =
     record {
       whole = not_no _ a.0;
       version = eqb-true _ 1 (and_l _ _ v);
-      kind_known_lem = and_r (eqb (get_or bs (p + 4) 0) 1) _ v;
+      kind_known = and_r (eqb (get_or bs (p + 4) 0) 1) _ v;
       fit = not_no _ c.0;
       what = ap (λ (y : Found). y.what) (sym g);
       end = ap (λ (y : Found). y.end) (sym g);
@@ -346,9 +346,9 @@ writes_back room bs p x h e n =
     let k : ℕ = get_or bs (p + 5) 0 in
     let f : List ℕ = fields_at bs p in
     let c : Call = call_by (kind_of k) f room in
-    let w = write_back k f room o.kind-known o.fit (bytes-part bs (p + 6) (p + 4 + rest_at bs p) h) n in
+    let w = write_back k f room o.kind_known o.fit (bytes-part bs (p + 6) (p + 4 + rest_at bs p) h) n in
     let s : 2 + length f ≤ 4096 = omega (arith, m, length-take (p + 4 + rest_at bs p - (p + 6)) (drop (p + 6) bs)) in
     let l : 2 + length (fields_in c) ≤ 4096 = subst (λ (g : List ℕ). 2 + length g ≤ 4096) (sym w.same) s in
     ap record_of o.what
     ∙ (refuse_back _ 26 _ (not_yes (both w.can (both w.fields_fit (le-leb _ 4096 l))))
-    ∙ ap good (ap₂ record_bytes w.kind-same w.same ∙ (record_is bs p h o.whole o.version ∙ ap (part bs p) (sym o.end))))
+    ∙ ap good (ap₂ record_bytes w.kind_same w.same ∙ (record_is bs p h o.whole o.version ∙ ap (part bs p) (sym o.end))))

@@ -16,13 +16,13 @@ has-previous-requires : tie.Need-has-previous-requires
 has-previous-requires c κs = let a = c.before.before.before.before.before.before.before.before.before.before.args in let h : Placed a.keys.now a.links.now _ = placed a.s a.keys.now a.links.now a.certs.now a.order.now _ c.before.before.before.before.before.before.before.before.before.before.requires.0 c.before.before.before.before.before.before.before.before.before.before.requires.1 (needed_at_lem a.s a.keys.now a.certs.now a.order.now a.id _ c.before.before.before.before.before.ready-valid-point.ensures _ c.before.before.before.found2.given.1).0 in h
 
 returns-2 : tie.Need-returns-2
-returns-2 c = let a = c.before.before.before.before.before.before.before.before.before.before.before.before.args in proof_first a.s a.keys.now a.links.now a.certs.now a.order.now a.id _ c.before.before.before.before.before.before.before.ready-valid-point.ensures _ c.before.before.before.before.before.found2.given.1 (λ e. c.before.before.if1.false (ap (λ (x : ℕ). x % 2) c.before.before.before.marks-at.ensures ∙ e)) _ c.before.has-previous.ensures c.if2.true
+returns-2 c = let a = c.before.before.before.before.before.before.before.before.before.before.before.before.args in proof_first a.s a.keys.now a.links.now a.certs.now a.order.now a.id _ c.before.before.before.before.before.before.before.ready-valid-point.ensures _ c.before.before.before.before.before.found2.given.1 (λ e. c.before.before.if1.false (ap (λ (x : ℕ). x % 2) c.before.before.before.marks-at.ensures ∙ e)) _ c.before.has_previous.ensures c.if2.true
 
 returns-3 : tie.Need-returns-3
 returns-3 c = let a = c.before.before.before.before.before.before.before.before.args in proof_no a.s a.keys.now a.links.now a.certs.now a.order.now a.id _ c.before.before.before.ready-valid-point.ensures _ c.before.found.given.1
 
 returns-4 : tie.Need-returns-4
-returns-4 c = let a = c.before.before.before.before.before.before.before.before.before.before.before.before.args in proof_is a.s a.keys.now a.links.now a.certs.now a.order.now a.id _ c.before.before.before.before.before.before.before.ready-valid-point.ensures _ c.before.before.before.before.before.found2.given.1 (λ e. c.before.before.if1.false (ap (λ (x : ℕ). x % 2) c.before.before.before.marks-at.ensures ∙ e)) _ c.before.has-previous.ensures c.if2.false
+returns-4 c = let a = c.before.before.before.before.before.before.before.before.before.before.before.before.args in proof_is a.s a.keys.now a.links.now a.certs.now a.order.now a.id _ c.before.before.before.before.before.before.before.ready-valid-point.ensures _ c.before.before.before.before.before.found2.given.1 (λ e. c.before.before.if1.false (ap (λ (x : ℕ). x % 2) c.before.before.before.marks-at.ensures ∙ e)) _ c.before.has_previous.ensures c.if2.false
 
 pub chained-proof-spec : {M : Type 1} → statement M
 chained-proof-spec =

@@ -16,10 +16,10 @@ returns-4 : tie.Need-returns-4
 returns-4 c = begins-below _ _ _ c.before.before.before.before.before.before.before.before.conf-holds.ensures c.before.before.before.before.before.before.before.if1.false c.before.before.before.before.before.if2.false c.before.before.before.if3.false c.if4.true
 
 returns-5 : tie.Need-returns-5
-returns-5 c = begins_used _ _ _ c.before.before.before.before.before.before.before.before.before.before.conf-holds.ensures c.before.before.before.before.before.before.before.before.before.if1.false c.before.before.before.before.before.before.before.if2.false c.before.before.before.before.before.if3.false c.before.before.if4.false _ c.before.used-ok.ensures c.if5.true
+returns-5 c = begins_used _ _ _ c.before.before.before.before.before.before.before.before.before.before.conf-holds.ensures c.before.before.before.before.before.before.before.before.before.if1.false c.before.before.before.before.before.before.before.if2.false c.before.before.before.before.before.if3.false c.before.before.if4.false _ c.before.used_ok.ensures c.if5.true
 
 returns-6 : tie.Need-returns-6
-returns-6 c = begins_places _ _ _ c.before.before.before.before.before.before.before.before.before.before.before.conf-holds.ensures c.before.before.before.before.before.before.before.before.before.before.if1.false c.before.before.before.before.before.before.before.before.if2.false c.before.before.before.before.before.before.if3.false c.before.before.before.if4.false _ c.before.before.used-ok.ensures c.before.if5.false _ c.places-hold.ensures
+returns-6 c = begins_places _ _ _ c.before.before.before.before.before.before.before.before.before.before.before.conf-holds.ensures c.before.before.before.before.before.before.before.before.before.before.if1.false c.before.before.before.before.before.before.before.before.if2.false c.before.before.before.before.before.before.if3.false c.before.before.before.if4.false _ c.before.before.used_ok.ensures c.before.if5.false _ c.places-hold.ensures
 
 pub begins-spec : {M : Type 1} → statement M
 begins-spec =
