@@ -1,0 +1,8 @@
+use mathlib.Core.Path.{refl}
+use Rattle.models.specs.Cert.{height_of}
+use Rattle.models.proofs.cert.Cert.is_certified.Goals as goal
+
+-- src/cert.rt:28:5
+pub returns : goal.returns
+unfolding height_of
+returns c = refl

@@ -1,0 +1,261 @@
+#!/usr/bin/env python3
+"""Turns the hand walks of a crate (proofs/F/Proof.antt of the older Rattle) into Invariants.antt and Answers.antt.
+
+usage: tools/walks_to_answers.py CRATE NAMES [FUNCTION-FOLDER..]      at the top of the checkout
+NAMES: the folder that `rt check --generated NAMES --old-names` wrote in the crate's folder (its walks set aside)
+The walks stand in the commit of docs/PORT.md's third line (their old goal names) and in its second line's successor, SPELLED (their bodies).
+"""
+import json, os, re, subprocess, sys
+
+RAW = "26977875cc74de3af36717259b0d483c349aeae6"
+SPELLED = os.environ.get("SPELLED", "HEAD")
+crate, folder, only = sys.argv[1], sys.argv[2], sys.argv[3:]
+names = json.load(open(os.path.join(folder, "names.json")))
+WORD = r"[\w'′₀-₉→↔ᴰ]+(?:-[\w'′₀-₉→↔ᴰ]+)*"
+
+
+def show(commit, path):
+    r = subprocess.run(["git", "show", f"{commit}:{path}"], capture_output=True, text=True)
+    return r.stdout if r.returncode == 0 else None
+
+
+def norm(s):
+    return s.replace("-", "_")
+
+
+def items(text):
+    """(uses, [(comment, name, signature, lines)])"""
+    uses, out, comment = [], [], []
+    cur = None
+    for l in text.split("\n"):
+        if l.startswith("use "):
+            uses.append(l)
+            continue
+        m = re.match(r"(?:(?:abbrev|pub|unfoldable|data|record)\s+)*([^\s:(){}]+)(?:\s[^=]*?)?\s:(?:\s|$)", l)
+        if m and not l.startswith((" ", "--")) and not (cur and cur[3] and l.startswith(cur[1] + " ") and " = " in l and " : tie" not in l and " : " not in l.split(" = ")[0]):
+            cur = [comment, m.group(1), l, []]
+            out.append(cur)
+            comment = []
+        elif l.startswith("--"):
+            comment.append(l)
+            cur = None if not (cur and False) else cur
+        elif cur is not None and l.strip():
+            cur[3].append(l)
+        elif cur is not None:
+            cur[3].append(l)
+    return uses, out
+
+
+# names of clauses, in order, by function
+CLAUSES = {}
+for c in [l.split(":")[0].split()[0] for l in open("crates.txt") if ":" in l and not l.startswith("#")]:
+    for d, _, fs in os.walk(f"crates/{c}/src"):
+        for f in fs:
+            if f.endswith(".rt"):
+                t = open(os.path.join(d, f), encoding="utf-8").read()
+                for m in re.finditer(r"\bfn (\w+)[^{;]*?\((?:[^()]|\([^()]*\))*\)((?:[^{};]|\{(?:[^{}]|\{[^{}]*\})*\})*?)\n\s*\{", t):
+                    e = re.findall(r"^\s+ensures (\w+) \{", m.group(2), re.M)
+                    q = re.findall(r"^\s+requires (\w+) \{", m.group(2), re.M)
+                    CLAUSES.setdefault((c, m.group(1)), (q, e))
+
+
+class Turn:
+    def __init__(self, fn, info):
+        self.info = info
+        self.fn = fn
+        self.steps, self.arms, self.callee = {}, [], {}
+        for p in info["places"]:
+            old, new = p[2]
+            if old:
+                self.steps.setdefault(norm(old), []).append((old, new, p[0], p[3]))
+                if p[3]:
+                    self.callee[norm(old)] = p[3]
+        for a in info["arms"]:
+            if a:
+                self.arms.append(a)
+        self.said = []
+
+    def path(self, parts):
+        """the fields after `c`, `before`s gone"""
+        if not parts:
+            return "c"
+        x, rest = norm(parts[0]), parts[1:]
+        if x in ("args", "lifetimes", "well_formed", "ranges"):
+            return ".".join(["c", x] + rest)
+        if x == "requires":
+            q = CLAUSES.get((crate, self.fn), ([], []))[0]
+            if len(q) > 1 and rest:
+                # several `requires` nested to the right in the older form
+                k, r = 0, list(rest)
+                while k < len(q) - 1 and r and r[0] == "1":
+                    k, r = k + 1, r[1:]
+                if k < len(q) - 1 and r and r[0] == "0":
+                    r = r[1:]
+                if r == rest and rest[0] not in ("0", "1"):
+                    return ".".join(["c", x] + rest)
+                return ".".join(["c", x, q[k]] + r)
+            return ".".join(["c", x] + rest)
+        best = None
+        for a in self.arms:
+            for field, step, sub in a[2]:
+                if norm(step) == x and [norm(s) for s in rest[: len(sub)]] == [norm(s) for s in sub]:
+                    if best is None or (len(sub), -a[1]) > (len(best[2]), -best[1]):
+                        best = (a[0], a[1], sub, field)
+        if best and not (best[3].endswith("-own") and x not in ("match",)):
+            return ".".join(["c", best[0], best[3]] + rest[len(best[2]):])
+        if x in self.steps:
+            news = [s for s in self.steps[x]]
+            new = news[0][1]
+            if x.startswith("match") and rest:
+                for o, n, place, _ in news:
+                    if norm(place).endswith(norm(rest[0])):
+                        return ".".join(["c", n] + rest[1:])
+            e = CLAUSES.get(tuple([self.callee[x].split("::")[0], self.callee[x].split("::")[-1]]), ([], []))[1] if x in self.callee else []
+            if len(e) > 1 and len(rest) > 1 and rest[0] == "ensures":
+                k, r = 0, rest[1:]
+                if r[0].isdigit() and int(r[0]) < len(e):
+                    return ".".join(["c", new, "ensures", e[int(r[0])]] + r[1:])
+            return ".".join(["c", new] + rest)
+        self.said.append(parts[0])
+        return ".".join(["c"] + parts)
+
+    def body(self, text):
+        def one(m):
+            parts = m.group(0).split(".")[1:]
+            while parts and parts[0] == "before":
+                parts = parts[1:]
+            return self.path(parts)
+        return re.sub(rf"(?<![\w'.-])c(?:\.{WORD})+", one, text)
+
+
+def top_tuple(s):
+    """the parts of (a, b, ..) at the top, or None"""
+    s = s.strip()
+    if not (s.startswith("(") and s.endswith(")")):
+        return None
+    parts, depth, cur = [], 0, ""
+    for k, ch in enumerate(s):
+        if ch in "([{":
+            depth += 1
+            if depth == 1:
+                continue
+        if ch in ")]}":
+            depth -= 1
+            if depth == 0:
+                if k != len(s) - 1:
+                    return None
+                break
+        if ch == "," and depth == 1:
+            parts.append(cur.strip())
+            cur = ""
+        else:
+            cur += ch
+    if cur.strip():
+        parts.append(cur.strip())
+    return parts if len(parts) > 1 else None
+
+
+def split_let(body):
+    """leading `let .. in` lines, and the rest"""
+    m = re.match(r"(\s*(?:let .*? in\s+)*)(.*)$", body, re.S)
+    return m.group(1), m.group(2)
+
+
+def convert(path):
+    base = os.path.dirname(path)
+    fn_path = base.split("/proofs/")[1]
+    key = f"Rattle-{crate}-proofs." + fn_path.replace("/", ".") + ".Lts"
+    info = names.get(key)
+    fn = fn_path.split("/")[-1].lstrip("+")
+    if info is None:
+        print(f"{path}: no names under {key}")
+        return
+    raw, cur = show(RAW, path), show(SPELLED, path)
+    if raw is None or cur is None:
+        print(f"{path}: no text")
+        return
+    if "tie.spec" not in cur:
+        print(f"{path}: a walk by hand, left")
+        return
+    ruses, ritems = items(raw)
+    cuses, citems = items(cur)
+    if len(ritems) != len(citems):
+        print(f"{path}: items differ: {[i[1] for i in ritems]} {[i[1] for i in citems]}")
+        return
+    needs = {norm(a): b for a, b in info["needs"]}
+    loops = info["loops"]
+    turn = Turn(fn, info)
+    answers, invariants, helpers = [], [], []
+    rename = {}
+    for (rc, rn, rs, rl), (cc, cn, cs, cl) in zip(ritems, citems):
+        if re.match(r"(pub )?\S+[-_]spec :", cs):
+            continue
+        text = "\n".join(cl).rstrip("\n")
+        m = re.search(r": tie\.Need-(\S+)", rs)
+        if m:
+            new = needs.get(norm(m.group(1)))
+            if new is None:
+                print(f"{path}: no goal for {m.group(1)}")
+                answers.append((cc, "-- LEFT " + m.group(1), cn, text))
+                continue
+            rename[cn] = new
+            answers.append((cc, new, cn, text))
+        elif re.search(r": tie\.(InvT|MeasureT|Inv|Measure)", rs) or "tie.invariant" in cs or "tie.decreases" in cs:
+            invariants.append((cc, rn, cn, text))
+        else:
+            helpers.append((cc, cn, cs, text))
+    uses = [u for u in cuses if not re.search(r"\.(Statement|Tie|Reads|Lts)\b", u)]
+    module = f"Rattle.{crate}.proofs." + fn_path.replace("/", ".")
+    if invariants:
+        out = list(uses) + [f"use {module}.Given as goal", ""]
+        for cc, rn, cn, text in invariants:
+            out += invariant(cc, rn, cn, text, info, path)
+        open(os.path.join(base, "Invariants.antt"), "w", encoding="utf-8").write("\n".join(out).rstrip("\n") + "\n")
+    if answers or helpers:
+        out = [u for u in uses] + [f"use {module}.Goals as goal", ""]
+        for cc, cn, cs, text in helpers:
+            out += cc + [cs] + ([turn.body(text)] if text else []) + [""]
+        for cc, new, cn, text in answers:
+            if new.startswith("-- LEFT"):
+                out += [new] + ["-- " + x for x in turn.body(text).split("\n")] + [""]
+                continue
+            t = turn.body(text)
+            lines = t.split("\n")
+            head = [l for l in lines if l.startswith("unfolding")]
+            rest = "\n".join(l for l in lines if not l.startswith("unfolding")).rstrip()
+            old_need = [a for a, b in info["needs"] if b == new]
+            clauses = None
+            for a in old_need:
+                clauses = clauses or info["asked"].get(a)
+            m = re.match(rf"{re.escape(cn)}((?: [^\s=]+)*) =(.*)$", rest, re.S)
+            if not m:
+                out += ["-- LOOK", "-- " + rest.replace("\n", "\n-- "), ""]
+                print(f"{path}: {cn}: form")
+                continue
+            args, body = m.group(1), m.group(2)
+            if clauses:
+                lets, tail = split_let(body)
+                parts = top_tuple(tail)
+                if parts and len(parts) == len(clauses):
+                    body = lets + " record {" + "; ".join(f"{c} = {p}" for c, p in zip(clauses, parts)) + "}"
+                else:
+                    print(f"{path}: {new}: clauses {clauses}")
+            args = re.sub(r" κs\b", "", args)
+            out += cc + [f"pub {new} : goal.{new}"] + head + [f"{new}{args} ={body}", ""]
+        open(os.path.join(base, "Answers.antt"), "w", encoding="utf-8").write("\n".join(out).rstrip("\n") + "\n")
+    if turn.said:
+        print(f"{path}: steps not known: {sorted(set(turn.said))}")
+    if os.path.exists(path):
+        os.remove(path)
+
+
+def invariant(cc, rn, cn, text, info, path):
+    print(f"{path}: loop {info['loops']}")
+    return cc + ["-- LOOK " + cn] + ["-- " + l for l in text.split("\n")] + [""]
+
+
+listed = subprocess.run(["git", "ls-tree", "-r", "--name-only", SPELLED, f"crates/{crate}/proofs"], capture_output=True, text=True).stdout.split("\n")
+for p in listed:
+    if p.endswith("/Proof.antt") and (not only or p.split("/proofs/")[1].rsplit("/", 1)[0] in only):
+        os.makedirs(os.path.dirname(p), exist_ok=True)
+        convert(p)
