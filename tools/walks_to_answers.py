@@ -64,12 +64,11 @@ class Turn:
         self.info = info
         self.fn = fn
         self.steps, self.arms, self.callee = {}, [], {}
-        for p in info["places"]:
+        for k, p in enumerate(info["places"]):
             old, new = p[2]
             if old:
-                self.steps.setdefault(norm(old), []).append((old, new, p[0], p[3]))
-                if p[3]:
-                    self.callee[norm(old)] = p[3]
+                fields = (info["clauses"][k] or {}).get("fields") or []
+                self.steps.setdefault(norm(old), []).append((old, new, p[0], p[3], fields, {norm(a): b for a, b in p[4]}))
         for a in info["arms"]:
             if a:
                 self.arms.append(a)
@@ -83,7 +82,7 @@ class Turn:
         if x in ("args", "lifetimes", "well_formed", "ranges"):
             return ".".join(["c", x] + rest)
         if x == "requires":
-            q = CLAUSES.get((crate, self.fn), ([], []))[0]
+            q = (self.info["pre"] or {}).get("fields") or []
             if len(q) > 1 and rest:
                 # several `requires` nested to the right in the older form
                 k, r = 0, list(rest)
@@ -104,28 +103,50 @@ class Turn:
         if best and not (best[3].endswith("-own") and x not in ("match",)):
             return ".".join(["c", best[0], best[3]] + rest[len(best[2]):])
         if x in self.steps:
-            news = [s for s in self.steps[x]]
+            news = self.steps[x]
             new = news[0][1]
             if x.startswith("match") and rest:
-                for o, n, place, _ in news:
+                for o, n, place, _, _, _ in news:
                     if norm(place).endswith(norm(rest[0])):
                         return ".".join(["c", n] + rest[1:])
-            e = CLAUSES.get(tuple([self.callee[x].split("::")[0], self.callee[x].split("::")[-1]]), ([], []))[1] if x in self.callee else []
-            if len(e) > 1 and len(rest) > 1 and rest[0] == "ensures":
-                k, r = 0, rest[1:]
-                if r[0].isdigit() and int(r[0]) < len(e):
-                    return ".".join(["c", new, "ensures", e[int(r[0])]] + r[1:])
+            if rest:
+                for s in news:
+                    if norm(rest[0]) in s[5] and (norm(rest[0]) not in ("true", "false") or s[2].startswith({"true": "Then", "false": "Else"}[norm(rest[0])])):
+                        rest = [s[5][norm(rest[0])]] + rest[1:]
+                        break
+            e = news[0][4]
+            if len(e) > 1 and len(rest) > 1 and rest[0] == "ensures" and rest[1].isdigit() and int(rest[1]) < len(e):
+                rest = ["ensures", e[int(rest[1])]] + rest[2:]
             return ".".join(["c", new] + rest)
         self.said.append(parts[0])
         return ".".join(["c"] + parts)
 
     def body(self, text):
-        def one(m):
-            parts = m.group(0).split(".")[1:]
+        # names bound to a place of the walk: `let s = c.before.before in`
+        alias = {}
+        for m in re.finditer(rf"let ({WORD}) = (c(?:\.{WORD})+) in", text):
+            if all(x == "before" for x in m.group(2).split(".")[1:]):
+                alias[m.group(1)] = m.group(2)
+        for v, p in alias.items():
+            text = re.sub(rf"let {re.escape(v)} = {re.escape(p)} in\s*", "", text)
+            text = re.sub(rf"(?<![\w'.-]){re.escape(v)}(?=[.\s),])(?! =)", p, text)
+        bound = {m.group(1): m.group(2) for m in re.finditer(rf"let ({WORD}) = (c(?:\.{WORD})+) in", text)}
+
+        def turned(parts):
             while parts and parts[0] == "before":
                 parts = parts[1:]
             return self.path(parts)
-        return re.sub(rf"(?<![\w'.-])c(?:\.{WORD})+", one, text)
+
+        def one(m):
+            v, parts = m.group(1), m.group(0).split(".")[1:]
+            if v == "c":
+                return turned(parts)
+            base = turned(bound[v].split(".")[1:])
+            full = turned(bound[v].split(".")[1:] + parts)
+            return v + full[len(base):] if full.startswith(base + ".") else full
+
+        heads = "|".join(["c"] + [re.escape(v) for v in bound])
+        return re.sub(rf"(?<![\w'.-])({heads})(?:\.{WORD})+", one, text)
 
 
 def top_tuple(s):
@@ -193,7 +214,13 @@ def convert(path):
         text = "\n".join(cl).rstrip("\n")
         m = re.search(r": tie\.Need-(\S+)", rs)
         if m:
-            new = needs.get(norm(m.group(1)))
+            raw_need = norm(m.group(1))
+            cm = re.search(r": tie\.Need-(\S+)", cs)
+            new = None
+            for n in (raw_need, re.sub(r"(^|_)loop(\d*)_holds", r"\1loop\2_init", re.sub(r"(^|_)loop(\d*)_again", r"\1loop\2_preserved", raw_need)), norm(cm.group(1)) if cm else ""):
+                new = new or needs.get(n)
+            if new is None and raw_need.startswith(("same_length", "same_long")):
+                continue
             if new is None:
                 print(f"{path}: no goal for {m.group(1)}")
                 answers.append((cc, "-- LEFT " + m.group(1), cn, text))
@@ -250,8 +277,25 @@ def convert(path):
 
 
 def invariant(cc, rn, cn, text, info, path):
-    print(f"{path}: loop {info['loops']}")
-    return cc + ["-- LOOK " + cn] + ["-- " + l for l in text.split("\n")] + [""]
+    # the parameters of the older form: each variable, at the loop's beginning where the loop changes it, then those that it changes
+    old = re.sub(r"^(Inv|μ)-", "", rn)
+    at = [k for k, l in enumerate(info["loops"]) if norm(l[0][0]) == norm(old)]
+    m = re.match(rf"{re.escape(cn)}((?: [^\s=]+)*) =(.*)$", text, re.S)
+    if not at or not m:
+        print(f"{path}: {rn}: {info['loops']}")
+        return cc + ["-- LOOK " + cn] + ["-- " + l for l in text.split("\n")] + [""]
+    (_, new), vs = info["loops"][at[0]]
+    changed = info["changed"][at[0]]
+    vs = [v for v in vs]
+    args = m.group(1).split()
+    meant = [("l.initial." if c else "l.") + v for v, c in zip(vs, changed)] + ["l." + v for v, c in zip(vs, changed) if c]
+    if len(args) != len(meant):
+        print(f"{path}: {rn}: {args} {meant}")
+        return cc + ["-- LOOK " + cn + " " + " ".join(meant)] + ["-- " + l for l in text.split("\n")] + [""]
+    use = dict(zip(args, meant))
+    body = re.sub(rf"(?<![\w'.-]){WORD}", lambda w: use.get(w.group(0), w.group(0)), m.group(2))
+    kind = "invariant" if rn.startswith("Inv") else "decreases"
+    return cc + [f"abbrev pub {kind}-{new} : goal.{kind}-{new}", f"{kind}-{new} l ={body}", ""]
 
 
 listed = subprocess.run(["git", "ls-tree", "-r", "--name-only", SPELLED, f"crates/{crate}/proofs"], capture_output=True, text=True).stdout.split("\n")

@@ -2,6 +2,7 @@
 // A place has eight words of `keys`: round, author, four of the digest, status, marks. Its key is the round, then the digest. `order` holds
 // the used places in its first n cells, sorted strictly by key. What is freed is zeroed, so that tables follow from the calls alone.
 #![tactic(auto)]
+
 ghost use Rattle.std.specs.Prelude.{◌≡◌, ◌+◌, ◌*◌, ◌<◌, ◌≤◌, ◌/◌, length, get_or, eqb, ltb};
 ghost use Rattle.models.specs.Tables.{place_at, Inside};
 ghost use Rattle.dag_round_keys.specs.Fill.{copied, zeroed};

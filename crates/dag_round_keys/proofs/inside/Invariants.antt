@@ -1,0 +1,16 @@
+use Prim.Native.Nat.{◌<◌, ◌≤◌, ◌-◌}
+use mathlib.Core.Path.{sym}
+use native.Mathlib.Omega.{arith}
+use borrow.Author.Count.{below_more}
+use lib.ListN.{get_or}
+use Rattle.dag_round_keys.specs.Sorted.{inside_is, inside_not}
+use borrow.Author.Rules.{rules}
+use Rattle.models.specs.Tables.{Inside}
+use Rattle.dag_round_keys.proofs.inside.Given as goal
+
+-- The loop's invariant: the first p cells hold places.
+abbrev pub invariant-loop-p : goal.invariant-loop-p
+invariant-loop-p l = (l.p ≤ l.n) × Inside l.order l.p l.places
+
+abbrev pub decreases-loop-p : goal.decreases-loop-p
+decreases-loop-p l = l.n - l.p
