@@ -2,6 +2,7 @@
 // The numbers, digests and ids of answers as bytes, big-endian, in a lent buffer. Each function returns the next offset. put_* write;
 // emit_* write or only count, so that one code gives the size of an answer and the answer.
 #![tactic(auto)]
+
 ghost use Rattle.std.specs.Prelude.{◌≡◌, ◌+◌, ◌*◌, ◌≤◌, length};
 ghost use Rattle.laws.specs.Bytes.{be, written};
 ghost use Rattle.spec.specs.Ids.{id_bytes};

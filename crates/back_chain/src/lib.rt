@@ -26,7 +26,7 @@ use models::refusal::{
 use models::tables::{PEER_SLOTS, ROUNDS_MAX};
 
 // The anchors, newest first, unless the trigger or its walk is refused.
-#[derive(Drop)]
+#[derive(Clone, Copy)]
 pub struct Chain {
     pub check: Check,
     pub count: usize,

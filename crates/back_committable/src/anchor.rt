@@ -24,7 +24,7 @@ use models::refusal::{AT_GENESIS, Check, NOT_CERTIFIED, ROUNDS_MISSING, Refusal}
 use models::tables::PLACES_MAX;
 
 // The positions of a history, from `low` to `high`, its limit and its lowest round.
-#[derive(Drop)]
+#[derive(Clone, Copy)]
 pub struct HistorySpan {
     pub limit: Round,
     pub lowest: Round,
@@ -33,7 +33,7 @@ pub struct HistorySpan {
 }
 
 // The history of an anchor: the marked places that are neither committed nor taken, of the positions of its span, and their number.
-#[derive(Drop)]
+#[derive(Clone, Copy)]
 pub struct Gathered {
     pub span: HistorySpan,
     pub count: usize,
@@ -42,7 +42,7 @@ pub struct Gathered {
 
 // What an anchor's tests give, which refuse it with 22, 13 to 15, 17 or 18. Its history: the marked places that are not committed, of
 // the positions from `low` to `high`, and their number; its lowest round.
-#[derive(Drop)]
+#[derive(Clone, Copy)]
 pub struct Tested {
     pub check: Check,
     pub lowest: Round,

@@ -117,7 +117,7 @@ pub fn count_round(
 }
 
 // Whether the lists of an anchor are right, and the offset after them.
-#[derive(Drop)]
+#[derive(Clone, Copy)]
 pub struct Listed {
     pub ok: bool,
     pub end: usize,

@@ -17,7 +17,7 @@ use models::tables::ROUND_SLOTS;
 
 // An anchor of the chain: its place, its proof's, and the round of the anchor's top proof (`EnqueuedAnchor`). A place is below 4,096, and
 // the chain is an array by value: so 16 bits.
-#[derive(Drop)]
+#[derive(Clone, Copy)]
 pub struct EnqueuedAnchor {
     pub anchor: u16,
     pub proof: u16,
@@ -25,7 +25,7 @@ pub struct EnqueuedAnchor {
 }
 
 // A round of the walk is passed, ends it, refuses it, or has an anchor's proof.
-#[derive(Drop)]
+#[derive(Clone, Copy)]
 pub enum Step {
     Pass,
     End,

@@ -7,7 +7,7 @@ use commit_state::state::State;
 use models::refusal::Refusal;
 
 // Refused holds the number of finished anchors.
-#[derive(Drop)]
+#[derive(Clone, Copy)]
 pub enum Answer {
     Done,
     Flag(bool),
@@ -16,7 +16,7 @@ pub enum Answer {
 }
 
 // A call's answer and the state after it.
-#[derive(Drop)]
+#[derive(Clone, Copy)]
 pub struct Outcome {
     pub answer: Answer,
     pub state: State,

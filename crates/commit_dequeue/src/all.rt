@@ -15,7 +15,7 @@ use models::refusal::Check;
 use models::tables::ROUNDS_MAX;
 
 // What stopped the anchors, if anything did; the state and the number of finished anchors.
-#[derive(Drop)]
+#[derive(Clone, Copy)]
 pub struct All {
     pub check: Check,
     pub state: State,

@@ -28,7 +28,7 @@ use output_record::record::{executable, previous_anchor, put_record};
 use output_record::sums::{PayloadSums, payload_sums};
 
 // The tests of one anchor; the state, the next free byte, and the offset after the anchor's lists.
-#[derive(Drop)]
+#[derive(Clone, Copy)]
 pub struct One {
     pub check: Check,
     pub state: State,

@@ -28,7 +28,7 @@ use models::refusal::{Check, NO_ROOM, Refusal};
 use models::tables::PLACES_MAX;
 
 // The tests of one anchor, and the number of its bytes.
-#[derive(Drop)]
+#[derive(Clone, Copy)]
 pub struct Look {
     pub check: Check,
     pub size: usize,

@@ -10,14 +10,14 @@ use models::parts::{OptionRound, Round};
 use models::tables::{PEER_SLOTS, ROUND_SLOTS, ROUNDS_MAX};
 
 // The author of a used mark.
-#[derive(Drop)]
+#[derive(Clone, Copy)]
 pub enum UsedAuthor {
     Nobody,
     Peer(u32),
 }
 
 // What a start takes.
-#[derive(Drop)]
+#[derive(Clone, Copy)]
 pub struct StartArgs {
     pub genesis: Round,
     pub commit_history_rounds: u32,

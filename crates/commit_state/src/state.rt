@@ -12,7 +12,7 @@ use models::tables::{
 
 // A retained round: its peers, and the author of its used mark plus 1, or 0 for none.
 #[repr(C)]
-#[derive(Drop)]
+#[derive(Clone, Copy)]
 pub struct RoundRecord {
     pub peers: u32,
     pub used_anchor_proof: u32,
@@ -21,7 +21,7 @@ pub struct RoundRecord {
 // A trusted point of the inspector's last round: author, digest, digest of its previous point if it has one (has_previous isn't 0), and
 // the peers that signed the previous point and did not include it.
 #[repr(C)]
-#[derive(Drop)]
+#[derive(Clone, Copy)]
 pub struct Entry {
     pub author: u32,
     pub digest: Digest,
@@ -31,7 +31,7 @@ pub struct Entry {
 }
 
 #[repr(C)]
-#[derive(Drop)]
+#[derive(Clone, Copy)]
 pub struct Memory {
     pub last: Round,
     pub count: usize,
@@ -41,7 +41,7 @@ pub struct Memory {
 // phase: 1 started, 2 reset, other numbers neither. count: the number of used places. Rounds from bottom to top are retained, round r in
 // record r modulo 512. emit_first_after_gap: 0 disarmed, 1 before the gap question, else after it.
 #[repr(C)]
-#[derive(Drop)]
+#[derive(Clone, Copy)]
 pub struct State {
     pub phase: u32,
     pub count: usize,

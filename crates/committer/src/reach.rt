@@ -6,7 +6,7 @@ use game::reach_of;
 
 // refused: 31, or 0 for none. forced: 1 for yes, 0 for no and where refused.
 #[repr(C)]
-#[derive(Drop)]
+#[derive(Clone, Copy)]
 pub struct Reached {
     pub refused: u32,
     pub forced: u32,

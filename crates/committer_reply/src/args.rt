@@ -11,7 +11,7 @@ use stats::ranges::Since;
 
 // What a start takes. after_gap: 0 for no. used: the author of the bottom's used mark, 4294967295 for none.
 #[repr(C)]
-#[derive(Drop)]
+#[derive(Clone, Copy)]
 pub struct Start {
     pub genesis: u32,
     pub commit_history_rounds: u32,
@@ -59,7 +59,7 @@ pub fn since_in(has_since: u32, since: u32) -> Since
 
 // What a resolution gives. marks: bit 0 proof, 1 trigger, 2 cause; further bits aren't read. includes, witness: their numbers of links.
 #[repr(C)]
-#[derive(Drop)]
+#[derive(Clone, Copy)]
 pub struct Resolution {
     pub status: u32,
     pub marks: u32,

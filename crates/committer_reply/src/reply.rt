@@ -11,7 +11,7 @@ use models::refusal::{Refusal, refusal_number};
 // refused: document 01's number, 0 for none. said: 1 for yes. anchors: handed out, or finished before a refusal. conflict: the round of
 // a history conflict (13), else 0. state: the state after the call.
 #[repr(C)]
-#[derive(Drop)]
+#[derive(Clone, Copy)]
 pub struct Reply {
     pub refused: u32,
     pub said: u32,

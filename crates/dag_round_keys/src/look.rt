@@ -9,7 +9,7 @@ ghost use Rattle.dag_round_keys.specs.Look.{look_place, look_for};
 use models::dag_point::{DagPoint, Resolved};
 
 // A resolved point's place and case, the place of a point that is named only, or neither.
-#[derive(Drop)]
+#[derive(Clone, Copy)]
 pub enum Look {
     Resolved(usize, DagPoint),
     Named(usize),

@@ -8,7 +8,7 @@ ghost use Rattle.dag_round_order.specs.Span.{below, span_of};
 use models::parts::Round;
 
 // The positions of the points of a round, from `low` to `high`.
-#[derive(Drop)]
+#[derive(Clone, Copy)]
 pub struct Span {
     pub low: usize,
     pub high: usize,

@@ -22,7 +22,7 @@ use models::refusal::{
 use models::tables::{KEY_WORDS, PEER_SLOTS, ROUND_SLOTS, VERSIONS_MAX};
 
 // Where a point stands, or is to stand, or why it is refused.
-#[derive(Drop)]
+#[derive(Clone, Copy)]
 pub enum Found {
     At(usize),
     Refused(Refusal),

@@ -1,6 +1,7 @@
 // Origin: none.
 // Keepers and spoilers: who decides whether an anchor reaches a point.
 #![tactic(auto)]
+
 ghost use Rattle.std.specs.Prelude.{◌≤◌, ◌≡◌};
 ghost use Rattle.game.specs.Model.{game_of, refusal_of, forced_of, Answers};
 ghost use Rattle.spec.specs.Game.{game_ok, forced_by, within as inside};
@@ -13,7 +14,7 @@ use models::tables::{PEER_LAST, PEER_SLOTS};
 const DISTANCE_MAX: u32 = 255;
 
 // Keepers can force the reach, spoilers can prevent it, or the game is refused.
-#[derive(Drop)]
+#[derive(Clone, Copy)]
 pub enum Reach {
     Forced,
     Prevented,

@@ -8,7 +8,7 @@ ghost use Rattle.inspector_counters.specs.Counts.{Few, no_counts, counting, Coun
 use crate::tests::{Passed, version_at};
 use models::tables::PEERS_MAX;
 
-#[derive(Drop)]
+#[derive(Clone, Copy)]
 pub struct PointCounts {
     pub found: u16,
     pub valid: u16,

@@ -10,7 +10,7 @@ use models::dag_point::DagPoint;
 use models::place::marks_at;
 
 // The inspector's tests of a point.
-#[derive(Drop)]
+#[derive(Clone, Copy)]
 pub enum PointTest {
     Found,
     Valid,
@@ -22,7 +22,7 @@ pub enum PointTest {
 }
 
 // A version of a peer's point at a round: what the tests read of it.
-#[derive(Drop)]
+#[derive(Clone, Copy)]
 pub struct Version {
     pub look: Look,
     pub certified: bool,
@@ -31,7 +31,7 @@ pub struct Version {
 }
 
 // Which tests it passes.
-#[derive(Drop)]
+#[derive(Clone, Copy)]
 pub struct Passed {
     pub found: bool,
     pub valid: bool,

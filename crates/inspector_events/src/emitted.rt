@@ -2,7 +2,7 @@
 // What an emitter takes and returns.
 
 // The next offset, and how many events (ids, digests) there are up to it.
-#[derive(Drop)]
+#[derive(Clone, Copy)]
 pub struct Emitted {
     pub at: usize,
     pub count: usize,

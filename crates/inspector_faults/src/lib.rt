@@ -20,7 +20,7 @@ use models::parts::Round;
 use models::tables::PEER_SLOTS;
 
 // The faults of points that remove's events tell of.
-#[derive(Drop)]
+#[derive(Clone, Copy)]
 pub enum Fault {
     TransInvalid,
     Invalid,

@@ -18,7 +18,7 @@ use stats::MempoolPeerCounters;
 
 // What is found at a round: the counters of peers 0 to 31, the signers that are reported, and where the events of kind 5 end, and their
 // number.
-#[derive(Drop)]
+#[derive(Clone, Copy)]
 pub struct Inspected {
     pub counters: [MempoolPeerCounters; PEERS_MAX],
     pub signers: u64,

@@ -71,7 +71,7 @@ pub fn signers_at(
 
 // What a round reports: the rows that it meets are the first `rows`, its trusted points are at the first `count` of the places, `sets` are
 // the signers that are reported by each row, `signers` by all.
-#[derive(Drop)]
+#[derive(Clone, Copy)]
 pub struct Reported {
     pub rows: usize,
     pub count: usize,

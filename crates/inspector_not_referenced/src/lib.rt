@@ -16,7 +16,7 @@ use models::tables::{
 };
 
 // The signers that are reported, of each row and of all.
-#[derive(Drop)]
+#[derive(Clone, Copy)]
 pub struct NotReferenced {
     pub sets: [u64; ROUND_POINTS_MAX],
     pub signers: u64,

@@ -21,7 +21,7 @@ use models::tables::{
 };
 
 // The places of a round's trusted points, by rising digest.
-#[derive(Drop)]
+#[derive(Clone, Copy)]
 pub struct Trusted {
     pub count: usize,
     pub places: [usize; ROUND_POINTS_MAX],

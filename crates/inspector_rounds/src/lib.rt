@@ -22,14 +22,14 @@ use stats::peer_stats::MempoolPeerStats;
 use stats::ranges::{Since, is_since};
 
 // The counters of all peers, and how many references are owed and how many bytes they take.
-#[derive(Drop)]
+#[derive(Clone, Copy)]
 pub struct Inspection {
     pub stats: [MempoolPeerStats; PEERS_MAX],
     pub owed: Emitted,
 }
 
 // With one round more, of which these signers are reported.
-#[derive(Drop)]
+#[derive(Clone, Copy)]
 struct Added {
     sum: Inspection,
     signers: u64,

@@ -10,7 +10,7 @@ use commit_state::state::State;
 use tables_test::counts_as_started;
 
 // What the last line says.
-#[derive(Drop)]
+#[derive(Clone, Copy)]
 struct Rounds {
     bottom: u32,
     top: u32,

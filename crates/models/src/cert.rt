@@ -18,7 +18,7 @@ const INIT_COMPLETED: u64 = 0x6000;
 
 const COMMITTED: u64 = 0x1000;
 
-#[derive(Drop)]
+#[derive(Clone, Copy)]
 pub struct Cert(pub u64);
 
 impl Cert {

@@ -4,7 +4,7 @@ ghost use Rattle.std.specs.Prelude.{◌≡◌};
 ghost use Rattle.models.specs.DagPoint.{case_of, has_info};
 
 // The cases of a resolved point.
-#[derive(Drop)]
+#[derive(Clone, Copy)]
 pub enum DagPoint {
     Valid,
     TransInvalid,
@@ -14,7 +14,7 @@ pub enum DagPoint {
 }
 
 // The case that a status number stands for, if it stands for one.
-#[derive(Drop)]
+#[derive(Clone, Copy)]
 pub enum Resolved {
     Case(DagPoint),
     Nothing,

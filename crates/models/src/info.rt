@@ -4,7 +4,7 @@ use crate::parts::PointId;
 
 // What a resolution gives. Its links stand beside it in a lent slice of five words a link, peer and digest: first the includes, then the
 // witness; here are their numbers.
-#[derive(Drop)]
+#[derive(Clone, Copy)]
 pub struct PointInfo {
     pub status: u32,
     pub proof: bool,

@@ -8,25 +8,25 @@ use crate::tables::DIGEST_WORDS;
 
 // A round's number.
 #[repr(C)]
-#[derive(Drop)]
+#[derive(Clone, Copy)]
 pub struct Round(pub u32);
 
 // A round or none (Option<Round>): the round plus 1, or 0. No enum, since the state crosses to C by value.
 #[repr(C)]
-#[derive(Drop)]
+#[derive(Clone, Copy)]
 pub struct OptionRound(pub u32);
 
 // A certificate's height, so that it never passes for a round.
-#[derive(Drop)]
+#[derive(Clone, Copy)]
 pub struct Height(pub u16);
 
 // Four words, the most significant first.
 #[repr(C)]
-#[derive(Drop)]
+#[derive(Clone, Copy)]
 pub struct Digest(pub [u64; DIGEST_WORDS]);
 
 #[repr(C)]
-#[derive(Drop)]
+#[derive(Clone, Copy)]
 pub struct PointId {
     pub round: Round,
     pub author: u32,

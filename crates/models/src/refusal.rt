@@ -86,7 +86,7 @@ pub const BAD_RECORD: u32 = 26;
 pub const UNKNOWN_RECORD: u32 = 27;
 
 // Document 01's number of a refusal; 13, the history conflict, holds its round.
-#[derive(Drop)]
+#[derive(Clone, Copy)]
 pub enum Refusal {
     Number(u32),
     Conflict(Round),
@@ -103,7 +103,7 @@ pub fn refusal_number(why: Refusal) -> u32
 }
 
 // A test: passed, or what it refuses with.
-#[derive(Drop)]
+#[derive(Clone, Copy)]
 pub enum Check {
     Passed,
     Failed(Refusal),

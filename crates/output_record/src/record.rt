@@ -86,7 +86,7 @@ fn put_round(
 }
 
 // After a round: the number of points, and the offset of the lists of the rounds above.
-#[derive(Drop)]
+#[derive(Clone, Copy)]
 struct Done {
     points: usize,
     end: usize,

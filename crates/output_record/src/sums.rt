@@ -11,7 +11,7 @@ use back_history::is_uncommitted;
 use models::tables::PLACES_MAX;
 
 // 02, N2: "their two 64-bit sums over its history".
-#[derive(Drop)]
+#[derive(Clone, Copy)]
 pub struct PayloadSums {
     pub len: u64,
     pub bytes: u64,

@@ -14,7 +14,7 @@ const MULTIPLIER_HIGH: u64 = 0x2360_ED05_1FC6_5DA4;
 const MULTIPLIER_LOW: u64 = 0x4385_DF64_9FCC_F645;
 
 #[repr(C)]
-#[derive(Drop)]
+#[derive(Clone, Copy)]
 pub struct Pcg {
     pub state: Wide,
     pub increment: Wide,
@@ -22,7 +22,7 @@ pub struct Pcg {
 
 // A draw, and the generator to draw the next one from.
 #[repr(C)]
-#[derive(Drop)]
+#[derive(Clone, Copy)]
 pub struct Drawn {
     pub value: u64,
     pub next: Pcg,

@@ -6,7 +6,7 @@ ghost use Rattle.pcg.specs.Wide.{number_of};
 use std::num::wrapping_add_u64;
 
 #[repr(C)]
-#[derive(Drop)]
+#[derive(Clone, Copy)]
 pub struct Wide {
     pub high: u64,
     pub low: u64,

@@ -21,7 +21,7 @@ use trace::head::record_at;
 
 // code: the number that the record is refused with, 0 for none. Its kind byte, what its call answered and the state after it, and where the
 // next record begins. A record that is refused has kind 0, and ends at its own offset.
-#[derive(Drop)]
+#[derive(Clone, Copy)]
 pub struct Played {
     pub code: u32,
     pub kind: u32,

@@ -12,7 +12,7 @@ use commit_state::state::State;
 
 // The state after some of the input, the offset of the first byte that was not played, how many such bytes are held, the number that the
 // record there is refused with (0 for none), and whether to go on.
-#[derive(Drop)]
+#[derive(Clone, Copy)]
 pub struct Turn {
     pub state: State,
     pub base: u64,

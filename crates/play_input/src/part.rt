@@ -13,7 +13,7 @@ use trace::head::least_left;
 
 // The state after the records that were played, the offset of the first that was not, the number that it is refused with (0 for none), and
 // where the lines end.
-#[derive(Drop)]
+#[derive(Clone, Copy)]
 pub struct Part {
     pub state: State,
     pub at: usize,

@@ -13,7 +13,7 @@ use play::one::play_one;
 use show::calls::write_call;
 
 // The state after a record, the number that it is refused with (0 for none), where it ends, and where the lines end.
-#[derive(Drop)]
+#[derive(Clone, Copy)]
 pub struct Step {
     pub state: State,
     pub code: u32,

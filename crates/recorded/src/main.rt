@@ -14,7 +14,7 @@ use show::text::{write, write_broken, write_number};
 use trace::bytes::number_of;
 
 // What stands next in the input: nothing, a run that is cut short or too long, or a run.
-#[derive(Drop)]
+#[derive(Clone, Copy)]
 enum Next {
     End,
     Cut,
@@ -22,7 +22,7 @@ enum Next {
 }
 
 // What stands next, and the number of its bytes, which are read if it is a run.
-#[derive(Drop)]
+#[derive(Clone, Copy)]
 struct Found {
     next: Next,
     n: usize,

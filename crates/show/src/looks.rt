@@ -9,7 +9,7 @@ use models::parts::Round;
 use trace::bytes::{id_of, number_of};
 
 // Which rounds an anchor's history has: above genesis, at most so many below the anchor, none below the bottom.
-#[derive(Drop)]
+#[derive(Clone, Copy)]
 pub struct Reach {
     pub genesis: Round,
     pub rounds: u32,

@@ -10,7 +10,7 @@ pub mod peer_stats;
 pub mod ranges;
 
 #[repr(C)]
-#[derive(Drop)]
+#[derive(Clone, Copy)]
 pub struct MempoolPeerCounters {
     pub was_leader: u16,
     pub skipped_rounds: u16,

@@ -7,7 +7,7 @@ use crate::{MempoolPeerCounters, merged};
 use models::parts::Round;
 
 // `filled_rounds` is 0 if the peer has no counters yet; the others then say nothing.
-#[derive(Drop)]
+#[derive(Clone, Copy)]
 pub struct MempoolPeerStats {
     pub first_round: Round,
     pub last_round: Round,

@@ -7,7 +7,7 @@ ghost use Rattle.stats.specs.Ranges.{since_of};
 use models::parts::Round;
 
 // `stats_since` of a remove: none suppresses all counters.
-#[derive(Drop)]
+#[derive(Clone, Copy)]
 pub enum Since {
     Nothing,
     From(Round),

@@ -17,8 +17,8 @@ top_at cs q = top_of (get_or cs q 0)
 unfoldable pub own_of : ℕ → ℕ → ℕ
 own_of T c = cond (top_of c) T 0
 
-abbrev pub field_own : ℕ → List ℕ → ℕ → ℕ
-field_own T cs q = own_of T (get_or cs q 0)
+abbrev pub own_at : ℕ → List ℕ → ℕ → ℕ
+own_at T cs q = own_of T (get_or cs q 0)
 
 pub own_top : (T c : ℕ) → top_of c ≡ true → own_of T c ≡ T
 unfolding own_of

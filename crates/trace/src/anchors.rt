@@ -12,7 +12,7 @@ use models::output::{
 use models::parts::PointId;
 
 // What stands before the points of a record.
-#[derive(Drop)]
+#[derive(Clone, Copy)]
 pub struct AnchorHead {
     pub anchor: PointId,
     pub proof: PointId,
@@ -41,7 +41,7 @@ pub fn anchor_head(b: &[u8], at: usize) -> AnchorHead
 }
 
 // What a record ends with: the sums over its points.
-#[derive(Drop)]
+#[derive(Clone, Copy)]
 pub struct AnchorSums {
     pub payload_len: u64,
     pub payload_bytes: u64,

@@ -11,7 +11,7 @@ use models::output::{
 use models::parts::Round;
 
 // What stands before the digests or ids of an event that is whole.
-#[derive(Drop)]
+#[derive(Clone, Copy)]
 pub enum Event {
     // Its kind, 1 to 3; its id follows, from byte 1 on.
     Single(u32),

@@ -73,14 +73,14 @@ pub const REF_BYTES: usize = REF_DIGEST_BYTE + DIGEST_BYTES;
 const REF_DIGEST_BYTE: usize = 1;
 
 // What adding a round takes.
-#[derive(Drop)]
+#[derive(Clone, Copy)]
 pub struct RoundFields {
     pub round: Round,
     pub peers: u32,
 }
 
 // What a remove takes.
-#[derive(Drop)]
+#[derive(Clone, Copy)]
 pub struct RemoveFields {
     pub round: Round,
     pub since: Since,

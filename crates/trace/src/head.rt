@@ -23,7 +23,7 @@ pub const HEAD_FIELDS: usize = 6;
 
 // The fields are bytes[from..end], and the next record begins at end. code: the number that the record is refused with, 0 for none. A record
 // that is refused has kind 0, and both offsets are its own.
-#[derive(Drop)]
+#[derive(Clone, Copy)]
 pub struct Record {
     pub code: u32,
     pub kind: u32,

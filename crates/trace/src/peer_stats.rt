@@ -10,7 +10,7 @@ use models::parts::Round;
 use stats::MempoolPeerCounters;
 
 // A peer with its counters over the rounds of a remove, the first and the last of them, and its score.
-#[derive(Drop)]
+#[derive(Clone, Copy)]
 pub struct PeerStats {
     pub peer: u32,
     pub first_round: Round,

@@ -24,7 +24,7 @@ pub const BYTE_MAX: u32 = 255;
 
 // refused: 26, 21 or 0 for none. length: of the record, 0 if refused.
 #[repr(C)]
-#[derive(Drop)]
+#[derive(Clone, Copy)]
 pub struct Written {
     pub refused: u32,
     pub length: usize,

@@ -1,0 +1,17 @@
+use Prim.Native.Nat.{ℕ, ◌≤◌, ◌<◌, ◌-◌}
+use mathlib.Core.Path.{◌≡◌, sym, ◌∙◌, ap}
+use mathlib.Core.Bool.{true}
+use native.Mathlib.Omega.{arith}
+use borrow.Author.Count.{below_none, below_more}
+use Rattle.laws.specs.Scan.{every_intro, every_not}
+use Rattle.tables_heights.specs.Model.{agrees, agrees_at, agrees-yes, agrees_no}
+use borrow.Author.Rules.{rules}
+use Rattle.models.specs.Tables.{place_at}
+use Rattle.tables_heights.proofs.agree.Given as goal
+
+-- `tables_heights::agree` meets its contract.
+abbrev pub invariant-loop-i : goal.invariant-loop-i
+invariant-loop-i l = (l.i ≤ l.n) × ((k : ℕ) → k < l.i → agrees_at l.cells l.certs (place_at l.order k) ≡ true)
+
+abbrev pub decreases-loop-i : goal.decreases-loop-i
+decreases-loop-i l = l.n - l.i

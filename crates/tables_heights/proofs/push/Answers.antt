@@ -1,0 +1,21 @@
+use Prim.Native.Nat.{◌≤◌, ◌-◌}
+use mathlib.Core.Path.{◌≡◌, refl, ◌∙◌, ap}
+use native.Mathlib.Omega.{arith}
+use lib.ListN.{length}
+use Rattle.tables_heights.specs.Model.{pushed, pushed_more, pushed_end, pushed-length, pushed_low}
+use borrow.Author.Rules.{rules}
+use Rattle.models.specs.Tables.{target_at}
+use Rattle.tables_heights.proofs.push.Goals as goal
+
+pub returns-then-v-lt2 : goal.returns-then-v-lt2
+returns-then-v-lt2 c = pushed_low _ _ _ _ c.if-v-lt2.true
+
+pub loop-k-init : goal.loop-k-init
+unfolding pushed
+loop-k-init c = (search rules, refl)
+
+pub loop-k-preserved : goal.loop-k-preserved
+loop-k-preserved c = (search rules, pushed_more _ _ _ _ _ _ _ _ c.loop-k.invariant.1 c.target.ensures c.raise.ensures c.less.ensures)
+
+pub returns : goal.returns
+returns c = pushed_end _ _ _ _ _ _ c.loop-k.invariant.1 (omega arith) c.loop-k-test.false

@@ -1,0 +1,8 @@
+use mathlib.Core.Path.{◌∙◌, ap}
+use lib.ListN.{length}
+use Rattle.tables_heights.specs.Model.{one_more, raised-length, pushed-length}
+use borrow.Author.Rules.{rules}
+use Rattle.tables_heights.proofs.push_one.Goals as goal
+
+pub returns : goal.returns
+returns c = one_more _ _ _ _ _ _ _ _ _ _ c.raise.ensures c.own.ensures c.push.ensures c.height.ensures
