@@ -73,6 +73,7 @@ class Turn:
             if a:
                 self.arms.append(a)
         self.said = []
+        self.ways = []
 
     def path(self, parts):
         """the fields after `c`, `before`s gone"""
@@ -117,11 +118,58 @@ class Turn:
             e = news[0][4]
             if len(e) > 1 and len(rest) > 1 and rest[0] == "ensures" and rest[1].isdigit() and int(rest[1]) < len(e):
                 rest = ["ensures", e[int(rest[1])]] + rest[2:]
+            rest = ["type_inv"] + rest[1:] if rest[:1] == ["type-inv"] else rest
             return ".".join(["c", new] + rest)
         self.said.append(parts[0])
         return ".".join(["c"] + parts)
 
-    def body(self, text):
+    def joins(self, text):
+        """`⊎_elim (λ w. ..) (λ w. ..) c.if1.branch` as an `elim` on the ways into the join"""
+        while True:
+            m = re.search(r"⊎_elim\s+\(λ (\w+)\.", text)
+            if not m:
+                return text
+            parts, at = [], text.index("(", m.start())
+            for _ in range(2):
+                depth, k = 0, at
+                while True:
+                    depth += {"(": 1, ")": -1}.get(text[k], 0)
+                    k += 1
+                    if depth == 0:
+                        break
+                parts.append(text[at + 1: k - 1])
+                at = k + len(text[k:]) - len(text[k:].lstrip())
+            n = re.match(rf"c((?:\.before)*)\.({WORD})\.branch", text[at:])
+            if not n or norm(n.group(2)) not in self.steps:
+                return text
+            name = self.steps[norm(n.group(2))][0][1]
+            arms = []
+            for way, p in zip(("then", "else"), parts):
+                w, b = re.match(r"λ (\w+)\.\s*(.*)$", p, re.S).groups()
+                b = re.sub(rf"(?<![\w.]){w}\.0\.taken", f"{w}.{name}.true", b)
+                b = re.sub(rf"(?<![\w.]){w}(\.0)?\.left", f"{w}.{name}.false", b)
+                b = re.sub(rf"(?<![\w.]){w}\.taken", f"{w}.{name}.true", b)
+                way += name[2:]
+                self.ways.append(way)
+                arms.append(f"{way} {w} ↦ {b.strip()}")
+            text = text[: m.start()] + f"elim c{n.group(1)}.{n.group(2)}.branch [ " + " | ".join(arms) + " ]" + text[at + n.end():]
+
+    def body(self, text, raw=None):
+        # the steps' names as the older form has them
+        if raw is not None:
+            old = re.findall(r"(?<![\w'.-])c((?: \.[^\s.(){},;\]]+)+)", raw)
+            new = list(re.finditer(rf"(?<![\w'.-])c((?:\.{WORD})+)", text))
+            if len(old) == len(new):
+                for o, m in reversed(list(zip(old, new))):
+                    op = [x.strip() for x in o.split(" .") if x.strip()]
+                    np = m.group(1).split(".")[1:]
+                    ob = [x for x in op if x != "before"]
+                    k = 0
+                    while k < len(np) and np[k] == "before":
+                        k += 1
+                    if k < len(np) and ob and np[k] not in ("args", "requires", "lifetimes", "well_formed", "ranges") and norm(ob[0]) in self.steps and norm(np[k]) != norm(ob[0]):
+                        np[k] = ob[0]
+                        text = text[: m.start(1)] + "." + ".".join(np) + text[m.end(1):]
         # names bound to a place of the walk: `let s = c.before.before in`
         alias = {}
         for m in re.finditer(rf"let ({WORD}) = (c(?:\.{WORD})+) in", text):
@@ -145,6 +193,7 @@ class Turn:
             full = turned(bound[v].split(".")[1:] + parts)
             return v + full[len(base):] if full.startswith(base + ".") else full
 
+        text = self.joins(text)
         heads = "|".join(["c"] + [re.escape(v) for v in bound])
         return re.sub(rf"(?<![\w'.-])({heads})(?:\.{WORD})+", one, text)
 
@@ -212,6 +261,7 @@ def convert(path):
         if re.match(r"(pub )?\S+[-_]spec :", cs):
             continue
         text = "\n".join(cl).rstrip("\n")
+        rtext = "\n".join(rl).rstrip("\n")
         m = re.search(r": tie\.Need-(\S+)", rs)
         if m:
             raw_need = norm(m.group(1))
@@ -223,10 +273,10 @@ def convert(path):
                 continue
             if new is None:
                 print(f"{path}: no goal for {m.group(1)}")
-                answers.append((cc, "-- LEFT " + m.group(1), cn, text))
+                answers.append((cc, "-- LEFT " + m.group(1), cn, text, rtext))
                 continue
             rename[cn] = new
-            answers.append((cc, new, cn, text))
+            answers.append((cc, new, cn, text, rtext))
         elif re.search(r": tie\.(InvT|MeasureT|Inv|Measure)", rs) or "tie.invariant" in cs or "tie.decreases" in cs:
             invariants.append((cc, rn, cn, text))
         else:
@@ -242,11 +292,11 @@ def convert(path):
         out = [u for u in uses] + [f"use {module}.Goals as goal", ""]
         for cc, cn, cs, text in helpers:
             out += cc + [cs] + ([turn.body(text)] if text else []) + [""]
-        for cc, new, cn, text in answers:
+        for cc, new, cn, text, rtext in answers:
             if new.startswith("-- LEFT"):
                 out += [new] + ["-- " + x for x in turn.body(text).split("\n")] + [""]
                 continue
-            t = turn.body(text)
+            t = turn.body(text, rtext)
             lines = t.split("\n")
             head = [l for l in lines if l.startswith("unfolding")]
             rest = "\n".join(l for l in lines if not l.startswith("unfolding")).rstrip()
@@ -263,12 +313,17 @@ def convert(path):
             if clauses:
                 lets, tail = split_let(body)
                 parts = top_tuple(tail)
+                while parts and len(parts) < len(clauses) and top_tuple(parts[-1]):
+                    parts = parts[:-1] + top_tuple(parts[-1])
                 if parts and len(parts) == len(clauses):
                     body = lets + " record {" + "; ".join(f"{c} = {p}" for c, p in zip(clauses, parts)) + "}"
                 else:
                     print(f"{path}: {new}: clauses {clauses}")
+                    body = lets + " let told = " + tail.strip() + " in record {" + "; ".join(f"{c} = told.{k}" for k, c in enumerate(clauses)) + "}"
             args = re.sub(r" κs\b", "", args)
             out += cc + [f"pub {new} : goal.{new}"] + head + [f"{new}{args} ={body}", ""]
+        if turn.ways:
+            out.insert(len(uses) + 1, f"use {module}.Goals." + "{" + ", ".join(dict.fromkeys(turn.ways)) + "}")
         open(os.path.join(base, "Answers.antt"), "w", encoding="utf-8").write("\n".join(out).rstrip("\n") + "\n")
     if turn.said:
         print(f"{path}: steps not known: {sorted(set(turn.said))}")

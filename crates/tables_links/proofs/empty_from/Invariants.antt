@@ -1,0 +1,16 @@
+use Prim.Native.Nat.{ℕ, ◌≤◌, ◌<◌, ◌-◌}
+use mathlib.Core.Path.{◌≡◌, sym, ◌∙◌}
+use mathlib.Core.Bool.{true}
+use native.Mathlib.Omega.{arith}
+use borrow.Author.Count.{below_more}
+use Rattle.laws.specs.Scan.{every_intro, every_not}
+use Rattle.tables_links.specs.Bare.{empty_at, empty_from, empty_below, empty_more, empty_fails}
+use borrow.Author.Rules.{rules}
+use Rattle.tables_links.proofs.empty_from.Given as goal
+
+-- `tables_links::empty_from` meets its contract.
+abbrev pub invariant-loop-k : goal.invariant-loop-k
+invariant-loop-k l = (l.m ≤ l.k) × (l.k ≤ 64) × ((j : ℕ) → j < l.k → empty_at l.links l.q l.m j ≡ true)
+
+abbrev pub decreases-loop-k : goal.decreases-loop-k
+decreases-loop-k l = 64 - l.k

@@ -1,0 +1,9 @@
+use Rattle.tables_links.specs.Words.{resolution_given, resolution_named}
+use borrow.Author.Rules.{rules}
+use Rattle.tables_links.proofs.told_fits.Goals as goal
+
+pub returns-in-Case : goal.returns-in-Case
+returns-in-Case c = resolution_given _ _ _ _ c.case_at-case.ensures _ _ _ _ _ c.in-Case.is c.head_word-e.ensures c.head_word-r.ensures c.head_word-a.ensures c.resolution_in_range.ensures
+
+pub returns-in-Nothing : goal.returns-in-Nothing
+returns-in-Nothing c = resolution_named _ _ _ _ c.case_at-case.ensures c.in-Nothing.is

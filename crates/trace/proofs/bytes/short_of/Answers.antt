@@ -1,0 +1,6 @@
+use Rattle.trace.specs.Numbers.{number-two}
+use borrow.Author.Rules.{rules}
+use Rattle.trace.proofs.bytes.short_of.Goals as goal
+
+pub returns : goal.returns
+returns c = number-two _ _ _ _ c.byte_of-a.ensures.0 c.byte_of-b.ensures.0
