@@ -80,6 +80,11 @@ class Turn:
         if not parts:
             return "c"
         x, rest = norm(parts[0]), parts[1:]
+        if x in ("args", "ranges") and rest:
+            for a, b in self.info["args"]:
+                if a.replace(" ", "").split(".")[1:] == [x, rest[0]]:
+                    rest = [b.replace(" ", "").split(".")[2]] + rest[1:]
+                    break
         if x in ("args", "lifetimes", "well_formed", "ranges"):
             return ".".join(["c", x] + rest)
         if x == "requires":

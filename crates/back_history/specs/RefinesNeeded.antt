@@ -80,7 +80,7 @@ module _ (s : State) (ks ls cs os : List ℕ) (fk : Fit ks) (fl : Fit ls) (t : S
 
   -- used places are of retained rounds
   low_round : (q : ℕ) → Used os n q → b ≤ round_at ks q
-  low_round = whole.low-of s ks ls cs os fk fl t.shaped t.facts.ids
+  low_round = whole.low_of_lem s ks ls cs os fk fl t.shaped t.facts.ids
 
   -- and have statuses that 01 has
   fine : (q : ℕ) → Used os n q → status_at ks q ≤ 5
@@ -88,19 +88,19 @@ module _ (s : State) (ks ls cs os : List ℕ) (fk : Fit ks) (fl : Fit ls) (t : S
 
   -- a used place is a named one
   pub named_used : (q : ℕ) → (v.pt q).named ≡ true → Used os n q
-  named_used = heights_are.named-used b n ks ls cs os t.facts.sorted t.facts.right low_round fine fk fl v sized sees
+  named_used = heights_are.named_used b n ks ls cs os t.facts.sorted t.facts.right low_round fine fk fl v sized sees
 
   -- its point is that of its words
   pub used_point : (q : ℕ) → Used os n q → v.pt q ≡ point_at ks ls cs q
-  used_point = heights_are.used-point b n ks ls cs os t.facts.sorted t.facts.right low_round fine fk fl v sized sees
+  used_point = heights_are.used_point b n ks ls cs os t.facts.sorted t.facts.right low_round fine fk fl v sized sees
 
   -- it is named
   pub used_named : (q : ℕ) → Used os n q → (v.pt q).named ≡ true
-  used_named = heights_are.used-named b n ks ls cs os t.facts.sorted t.facts.right low_round fine fk fl v sized sees
+  used_named = heights_are.used_named b n ks ls cs os t.facts.sorted t.facts.right low_round fine fk fl v sized sees
 
   -- its round
   pub used_round : (q : ℕ) → Used os n q → store.round_at v q ≡ round_at ks q
-  used_round = heights_are.used-round b n ks ls cs os t.facts.sorted t.facts.right low_round fine fk fl v sized sees
+  used_round = heights_are.used_round b n ks ls cs os t.facts.sorted t.facts.right low_round fine fk fl v sized sees
 
   -- its committed bit
   pub used_done : (q : ℕ) → Used os n q → (v.pt q).flags.committed ≡ is_done cs q
@@ -110,14 +110,14 @@ module _ (s : State) (ks ls cs os : List ℕ) (fk : Fit ks) (fl : Fit ls) (t : S
   -- its stored height is the one by paths
   pub used_height : (q : ℕ) → Used os n q → height_of (get_or cs q 0) ≡ height v q
   unfolding view conf_of height_of
-  used_height q u = heights_are.heightsAre-elim b n ks ls cs os t.facts.sorted t.facts.right low_round fine fk fl v sized sees t.facts.heights q u
+  used_height q u = heights_are.heights_are_elim b n ks ls cs os t.facts.sorted t.facts.right low_round fine fk fl v sized sees t.facts.heights q u
 
   -- the links of points are the live links of their words
   pub leads-link : (p q : ℕ) → Leads b ks ls os n p q → LinkedTo v p q
-  leads-link = heights_are.link-intro b n ks ls cs os t.facts.sorted t.facts.right low_round fine fk fl v sized sees
+  leads-link = heights_are.link_intro b n ks ls cs os t.facts.sorted t.facts.right low_round fine fk fl v sized sees
 
   pub link-leads : (p q : ℕ) → LinkedTo v p q → Leads b ks ls os n p q
-  link-leads = heights_are.link-elim b n ks ls cs os t.facts.sorted t.facts.right low_round fine fk fl v sized sees
+  link-leads = heights_are.link_elim b n ks ls cs os t.facts.sorted t.facts.right low_round fine fk fl v sized sees
 
   -- a used place is one of 4,096
   pub used_small : (q : ℕ) → Used os n q → q < 4096

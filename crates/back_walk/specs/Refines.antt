@@ -94,11 +94,11 @@ from_id t p r a = rw (none p, two p, three p) refl
 -- their words fit
 pub previous_fit : (ks ls : List ℕ) (q r : ℕ) → Fit ks → Fit ls → r < 2 ^ 64 → Fit (id_words (previous_id ks ls q r))
 unfolding previous_id id_words id_from id.id_from
-previous_fit ks ls q r fk fl l = id.from-fit ls (q * 328 + 72 + author_at ks q * 4) r (author_at ks q) fl l (fk (q * 8 + 1))
+previous_fit ks ls q r fk fl l = id.from_fit ls (q * 328 + 72 + author_at ks q * 4) r (author_at ks q) fl l (fk (q * 8 + 1))
 
 pub top_fit : (ls : List ℕ) (q : ℕ) → Fit ls → Fit (id_words (top_id ls q))
 unfolding top_id id_words id_from id.id_from
-top_fit ls q f = id.from-fit ls (q * 328 + 3) _ _ f (f (q * 328 + 1)) (f (q * 328 + 2))
+top_fit ls q f = id.from_fit ls (q * 328 + 3) _ _ f (f (q * 328 + 1)) (f (q * 328 + 2))
 
 -- ---- the include under an author
 

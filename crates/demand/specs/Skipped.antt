@@ -82,4 +82,4 @@ pub skipped_of_code : Skipped
 skipped_of_code f = of_code (SameLists f) (proofs.skipped f)
 
 pub skipped_in_row_of_code : SkippedInRow
-skipped_in_row_of_code = of_code SameInRow proofs.skipped-in-row
+skipped_in_row_of_code = of_code SameInRow proofs.skipped_in_row

@@ -87,7 +87,7 @@ module _ (s : State) (ks ls cs os : List ℕ) (fk : Fit ks) (fl : Fit ls) (sh : 
 
   height_at_lem : (q : ℕ) → Used os s.count q → v.heights q ≡ height_at cs q
   unfolding view height_of
-  height_at_lem q u = rw ((tables.used-is os s.count q).1 u) refl
+  height_at_lem q u = rw ((tables.used_is os s.count q).1 u) refl
 
   -- the rounds from bottom to top, and the peers of their records
   peers_is : (r : ℕ) → s.bottom.0 ≤ r → r ≤ s.top.0 → (v.rounds r).peers ≡ (record_of s.rounds r).peers
