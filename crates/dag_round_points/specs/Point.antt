@@ -89,16 +89,16 @@ point-found s ks os i k d p r f = found-next k (id_code s i) (missing ks os s.co
 
 module _ (s : State) (ks os : List ℕ) (i : PointId) (z : point_code s ks os i ≡ 0) where
   -- the point has a position
-  point_at : position_for ks os s.count (id_words i) < s.count
+  found_position : position_for ks os s.count (id_words i) < s.count
   unfolding point_code
-  point_at = missing-zero ks os s.count (id_words i) (else_zero _ _ z).1
+  found_position = missing-zero ks os s.count (id_words i) (else_zero _ _ z).1
 
   -- its place is used
   pub point_used : Used os s.count (place_for s ks os i)
   unfolding place_for
-  point_used = (position_for ks os s.count (id_words i), point_at, refl)
+  point_used = (position_for ks os s.count (id_words i), found_position, refl)
 
   -- the point there is of the id's round
   pub point-round : round_at ks (place_for s ks os i) ≡ i.round.0
   unfolding place_for id_words
-  point-round = found-round ks os s.count (id_words i) point_at
+  point-round = found-round ks os s.count (id_words i) found_position

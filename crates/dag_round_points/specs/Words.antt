@@ -13,7 +13,7 @@ use Rattle.models.specs.Digest.{Fit, each_fit}
 use Rattle.dag_round_points.specs.Model.{id_words}
 
 -- the array itself
-array_fit : (n : ℕ) (xs : List ℕ) (vs : List Val) → Is (Array (UInt w64) n) (map (λ v. v) xs) vs → Fit xs
+array_fit : (n : ℕ) (xs : List ℕ) (vs : List Val) → Is (Array (UInt w64) n) xs vs → Fit xs
 array_fit n xs vs e = each_fit xs e.0 e.1.1
 
 -- the words of an id, from its parts

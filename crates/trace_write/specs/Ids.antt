@@ -30,7 +30,7 @@ pub digest_small : (t : List ℕ) (p : ℕ) → Fit t → digest_at t p < 256 ^ 
 unfolding digest_at
 digest_small t p f = let h = number_fits (2 ^ 64) 0 1 (words t p 4) (words-below t p 4 f) (omega arith) in subst (λ (n : ℕ). digest_at t p < 1 * (2 ^ 64) ^ n) (words-length t p 4) h
 
-array_fit : (xs : List ℕ) (vs : List Val) → Is (Array (UInt w64) 4) (map (λ v. v) xs) vs → Fit xs
+array_fit : (xs : List ℕ) (vs : List Val) → Is (Array (UInt w64) 4) xs vs → Fit xs
 array_fit xs vs e = each_fit xs e.0 e.1.1
 
 array_length : (xs : List ℕ) → length (map (λ v. v) xs) ≡ 4 → length xs ≡ 4
