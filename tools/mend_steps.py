@@ -24,3 +24,29 @@ for m in re.finditer(r"(\./\S+\.antt):(\d+):(\d+): error: `[^`]*`: record `[^`]*
     L[line - 1] = s[:k] + "." + fields[n] + s[end:]
     open(p, "w", encoding="utf-8").write("\n".join(L))
     print(p, line, n, fields[n])
+
+# ways into a join: the names that the check gives
+for m in re.finditer(r"help: `Goals` has no `([^`]*)`; its ways into a join: ((?:`[^`]*`(?:, )?)+)", t):
+    wrong, ways = m.group(1), re.findall(r"`([^`]*)`", m.group(2))
+    fit = [w for w in ways if w.startswith(wrong + "+")]
+    f = re.search(r"(\./\S+\.antt):\d+:\d+: error: module `[^`]*` has no `" + re.escape(wrong) + "`", t)
+    if len(fit) == 1 and f:
+        p = f"crates/{crate}/{f.group(1)[2:]}"
+        s = open(p, encoding="utf-8").read()
+        new = re.sub(r"(?<![\w'.-])" + re.escape(wrong) + r"(?![\w'+-])", fit[0], s)
+        if new != s:
+            open(p, "w", encoding="utf-8").write(new)
+            print(p, wrong, fit[0])
+
+# the older form's words for an `if`'s two facts
+for m in re.finditer(r"(\./\S+\.antt):(\d+):(\d+): error: `[^`]*`: record `[^`]*` has no field `(left|taken)`[^\n]*\n\s+the fields that can be named here are ([^\n]*)", t):
+    f, line, col, w, fields = m.group(1), int(m.group(2)), int(m.group(3)), m.group(4), re.findall(r"`([^`]*)`", m.group(5))
+    want = {"left": "false", "taken": "true"}[w]
+    want = want + "-raw" if want + "-raw" in fields else want
+    p = f"crates/{crate}/{f[2:]}"
+    L = open(p, encoding="utf-8").read().split("\n")
+    k = L[line - 1].find("." + w, col - 1)
+    if k >= 0 and want in fields:
+        L[line - 1] = L[line - 1][:k] + "." + want + L[line - 1][k + 1 + len(w):]
+        open(p, "w", encoding="utf-8").write("\n".join(L))
+        print(p, line, w, want)

@@ -1,0 +1,14 @@
+use borrow.Author.Rules.{rules}
+use Prim.Native.Nat.{◌≤◌, ◌-◌}
+use mathlib.Core.Path.{◌≡◌}
+use native.Mathlib.Omega.{arith}
+use Rattle.back_history.specs.Down.{down_none, down_end}
+use Rattle.back_history.specs.Supposing.{supposing}
+use Rattle.back_history.specs.Model.{swept, swept_hit, swept_miss}
+use Rattle.back_history.proofs.sweep.Given as goal
+
+abbrev pub invariant-loop-p : goal.invariant-loop-p
+invariant-loop-p l = (l.low ≤ l.p) × (l.p ≤ l.high) × (l.marks ≡ swept l.bottom.0 l.keys l.links (supposing l.taken l.certs) l.order l.initial.marks l.high (l.high - l.p))
+
+abbrev pub decreases-loop-p : goal.decreases-loop-p
+decreases-loop-p l = l.p

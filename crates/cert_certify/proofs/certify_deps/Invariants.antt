@@ -1,0 +1,18 @@
+use Prim.Native.Nat.{◌≤◌, ◌-◌}
+use mathlib.Core.Path.{◌≡◌, refl, ◌∙◌, ap}
+use native.Mathlib.Omega.{arith}
+use lib.ListN.{length}
+use borrow.Author.Rules.{rules}
+use Rattle.models.specs.Tables.{target_at}
+use Rattle.models.specs.Cert.{height_of}
+use Rattle.tables_heights.specs.View.{height_at}
+use Rattle.cert_certify.specs.Model.{work, handed, handed-more, handed_end, handed-length, open_at}
+use Rattle.cert_certify.proofs.certify_deps.Given as goal
+
+-- Link after link.
+abbrev pub invariant-loop-k : goal.invariant-loop-k
+invariant-loop-k l =
+    (l.k ≤ l.m) × (work l.certs l.queue l.end ≡ handed (target_at l.links l.p) (height_at l.initial.certs l.p) (work l.initial.certs l.initial.queue l.tail) l.k)
+
+abbrev pub decreases-loop-k : goal.decreases-loop-k
+decreases-loop-k l = l.m - l.k

@@ -1,0 +1,19 @@
+use borrow.Author.Rules.{rules}
+use Rattle.tables_test.specs.View.{view}
+use Rattle.commit_start.specs.Start.{places_view, start_range, start-twice, start-passed}
+use Rattle.commit_start.proofs.check_start.Goals as goal
+
+pub returns-then-not-begins : goal.returns-then-not-begins
+returns-then-not-begins c =
+    let a = c.args in
+    start_range (view a.s a.keys.now a.links.now a.certs.now a.order.now) a.with _ _ (places_view _ _ _ _ _ _ c.places_of-places.ensures) c.begins.ensures c.if-not-begins.true-raw
+
+pub returns-then-counts_as_started : goal.returns-then-counts_as_started
+returns-then-counts_as_started c =
+    let a = c.args in
+    start-twice (view a.s a.keys.now a.links.now a.certs.now a.order.now) a.with _ _ (places_view _ _ _ _ _ _ c.places_of-places.ensures) c.begins.ensures c.if-not-begins.false-raw _ c.counts_as_started.ensures c.if-counts_as_started.true
+
+pub returns : goal.returns
+returns c =
+    let a = c.args in
+    start-passed (view a.s a.keys.now a.links.now a.certs.now a.order.now) a.with _ _ (places_view _ _ _ _ _ _ c.places_of-places.ensures) c.begins.ensures c.if-not-begins.false-raw _ c.counts_as_started.ensures c.if-counts_as_started.false

@@ -1,0 +1,11 @@
+use Prim.Native.Nat.{◌+◌, ◌≤◌, ◌-◌}
+use mathlib.Core.Path.{◌≡◌}
+use Rattle.info_checks.specs.Form.{rises_from, rise_start, rise_low, rise_high, rise_more, rise_end}
+use borrow.Author.Rules.{rules}
+use Rattle.info_checks.proofs.rises.Given as goal
+
+abbrev pub invariant-loop-i : goal.invariant-loop-i
+invariant-loop-i l = (l.i ≤ l.m) × (l.low ≤ 32) × (rises_from l.refs 0 l.from l.m ≡ rises_from l.refs l.low (l.from + l.i) (l.m - l.i))
+
+abbrev pub decreases-loop-i : goal.decreases-loop-i
+decreases-loop-i l = l.m - l.i
