@@ -1,0 +1,14 @@
+use Prim.Native.Nat.{◌≤◌, ◌-◌}
+use mathlib.Core.Path.{◌≡◌, sym, subst}
+use native.Mathlib.Omega.{arith}
+use lib.ListN.{length}
+use Rattle.back_history.specs.Down.{down_none, down_end}
+use Rattle.back_behind.specs.Model.{Sourced, note_down, down_hit, down_miss, links_sourced}
+use borrow.Author.Rules.{rules}
+use Rattle.back_behind.proofs.note_down.Given as goal
+
+abbrev pub invariant-loop-p : goal.invariant-loop-p
+invariant-loop-p l = (l.low ≤ l.p) × (l.p ≤ l.high) × (l.by ≡ note_down l.bottom.0 l.keys l.links l.certs l.order l.marks l.initial.by l.high (l.high - l.p)) × Sourced (length l.keys) l.by
+
+abbrev pub decreases-loop-p : goal.decreases-loop-p
+decreases-loop-p l = l.p

@@ -1,0 +1,10 @@
+use mathlib.Core.Path.{◌∙◌, ap}
+use Rattle.dag_round_order.specs.Span.{below}
+use Rattle.back_committable.specs.Model.{span_by}
+use borrow.Author.Rules.{rules}
+use Rattle.back_committable.proofs.anchor.span_of.Goals as goal
+
+pub returns : goal.returns
+returns c =
+    let a = c.args in
+    span_by a.s a.keys.now a.order.now a.round.0 _ _ _ _ c.history_limit-limit.ensures c.max-lowest.ensures c.cut-low.ensures (c.cut-high.ensures ∙ ap (below a.keys.now a.order.now a.s.count) c.plus.ensures)

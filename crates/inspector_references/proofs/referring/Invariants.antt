@@ -1,0 +1,17 @@
+use Prim.Native.Nat.{ℕ, ◌-◌, ◌^◌, ◌≤◌}
+use mathlib.Core.Path.{◌≡◌, ◌∙◌, ap}
+use mathlib.Core.Logic.{⊎_elim}
+use lib.ListN.{get_or}
+use Rattle.models.specs.Tables.{author_at}
+use Rattle.laws.specs.Peers.{with_peer}
+use Rattle.inspector_references.specs.Sets.{union_of, union_none, union_yes, union_no, union_end}
+use Rattle.inspector_references.specs.Referring.{refers_row, referring_by}
+use borrow.Author.Rules.{rules}
+use Rattle.inspector_references.proofs.referring.Given as goal
+
+abbrev pub invariant-loop-j : goal.invariant-loop-j
+invariant-loop-j l =
+    (l.j ≤ l.n) × (l.peers ≡ union_of (λ i. refers_row l.links (get_or l.places i 0) l.first l.live l.rows l.k) (λ i. 2 ^ author_at l.keys (get_or l.places i 0)) l.j)
+
+abbrev pub decreases-loop-j : goal.decreases-loop-j
+decreases-loop-j l = l.n - l.j

@@ -1,0 +1,7 @@
+use Rattle.inspector_rows.specs.Memory.{entry_row}
+use borrow.Author.Rules.{rules}
+use Rattle.inspector_rows.proofs.entry_row.Goals as goal
+
+pub returns : goal.returns
+unfolding entry_row
+returns c = c.row_of.ensures
