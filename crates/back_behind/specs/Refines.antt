@@ -12,8 +12,9 @@ use Rattle.spec.specs.Store.{Store, id_at}
 use Rattle.spec.specs.Paths.{LinkedTo}
 use Rattle.spec.specs.WellFormed.{Wf}
 use Rattle.spec.specs.History.{lowest, in_history, behind}
-use Rattle.spec.specs.Behind.{Rather, Behind, linkers_in, anchor-alone, behind_is, behind-one}
-use Rattle.spec.specs.Extension.{fits_in}
+use Rattle.spec.specs.Behind.{Rather, Behind}
+use Rattle.spec.proofs.Behind.{linkers_in, anchor-alone, behind_is, behind-one}
+use Rattle.spec.proofs.Extension.{fits_in}
 use Rattle.models.specs.Digest.{Fit}
 use Rattle.models.specs.Tables.{round_at, place_at, target_at, Used}
 use Rattle.models.specs.Live.{reach}

@@ -9,7 +9,7 @@ use Rattle.spec.specs.Rules.{counts_as_started}
 use Rattle.spec.specs.Chain.{number, Out, bad, good, EnqueuedAnchor, lowest_walked, anchors_of}
 use Rattle.spec.specs.Walk.{Rising, rising_less}
 use Rattle.spec.specs.WellFormed.{Wf, counts_as_started_elim}
-use Rattle.spec.specs.Preservation.{anchors_rising}
+use Rattle.spec.proofs.Preservation.{anchors_rising}
 use Rattle.models.specs.Digest.{Fit}
 use Rattle.models.specs.Refusal.{refusal_of}
 use Rattle.models.specs.declared.refusal.Refusal.{Refusal}

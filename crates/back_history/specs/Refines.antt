@@ -18,7 +18,8 @@ use Rattle.spec.specs.Ids.{Id}
 use Rattle.spec.specs.Store.{Point, Store, id_at}
 use Rattle.spec.specs.Paths.{height}
 use Rattle.spec.specs.History.{limit, needed, in_history, history, rounds_missing, any_uncertified}
-use Rattle.spec.specs.Order.{Before, history_elim, history_intro, history-rises}
+use Rattle.spec.specs.Order.{Before}
+use Rattle.spec.proofs.Order.{history_elim, history_intro, history-rises}
 use Rattle.spec.specs.WellFormed.{Wf}
 use Rattle.models.specs.Cert.{height_of}
 use Rattle.models.specs.Digest.{Fit}

@@ -14,7 +14,7 @@ use Rattle.spec.specs.Paths.{LinkedTo, height}
 use Rattle.spec.specs.Links.{linked, down}
 use Rattle.spec.specs.HeightEquations.{Sized}
 use Rattle.spec.specs.History.{limit, lowest, Need, anchor, hand, needed}
-use Rattle.spec.specs.Sweep.{needed_is}
+use Rattle.spec.proofs.Sweep.{needed_is}
 use Rattle.spec.specs.Order.{need_named}
 use Rattle.models.specs.Cert.{height_of}
 use Rattle.models.specs.Digest.{Fit}

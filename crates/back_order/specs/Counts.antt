@@ -6,7 +6,7 @@ use Rattle.std.proofs.lemmas.List.{map-append}
 use Rattle.laws.specs.Test.{both, and_no, and_yes}
 use Rattle.laws.specs.Lists.{weigh, weigh-append}
 use Rattle.spec.specs.History.{down_from, each_once, lists_ok}
-use Rattle.spec.specs.OrderInRound.{lists-more, down_more}
+use Rattle.spec.proofs.OrderInRound.{lists-more, down_more}
 use Rattle.models.specs.Tables.{Inside}
 use Rattle.dag_round_keys.specs.Sorted.{Sorted}
 use Rattle.dag_round_order.specs.Span.{below, below-le, span_of, span-rises}

@@ -5,7 +5,7 @@ use mathlib.Core.List.{List, [], ◌∷◌, ◌++◌, map, reverse, reverse-cons
 use Rattle.laws.specs.Test.{by_test}
 use Rattle.laws.specs.Lists.{keep, weigh}
 use Rattle.spec.specs.History.{lists_ok}
-use Rattle.spec.specs.OrderInRound.{lists_head}
+use Rattle.spec.proofs.OrderInRound.{lists_head}
 use Rattle.dag_round_order.specs.Span.{below}
 use Rattle.back_history.specs.Model.{is_done}
 use Rattle.back_order.specs.Linked.{linked_by}

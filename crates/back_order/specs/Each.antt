@@ -8,7 +8,7 @@ use Rattle.std.proofs.lemmas.List.{length-replicate, get_or-replicate}
 use Rattle.laws.specs.Test.{by_test, clash, same_or, le_or, and_no}
 use Rattle.laws.specs.Lists.{NoDup, get_d_in, in_get_d, get_d_apart}
 use Rattle.spec.specs.History.{each_once}
-use Rattle.spec.specs.OrderInRound.{each-length, each_below, each_nodup, each_intro}
+use Rattle.spec.proofs.OrderInRound.{each-length, each_below, each_nodup, each_intro}
 
 -- the first k bytes from `from` on are below n, none twice; `seen` marks them and no other
 pub record Seen (l : List ℕ) (from n k : ℕ) (seen : List Bool) : Type 0 where

@@ -12,7 +12,7 @@ use Rattle.std.proofs.Math.ListN.{length, get_or, drop}
 use Rattle.laws.specs.Test.{le_or, and_l}
 use Rattle.laws.specs.Lists.{Pairs, weigh, keep_same, mem_map, get_d_in}
 use Rattle.spec.specs.History.{needed, in_history, linked_in, down_from, rounds_of, counts_in, linked_counts, each_once, lists_ok, round_out, drawn, in_order, after_lists, lowest}
-use Rattle.spec.specs.OrderInRound.{linked_elim, linked_intro, linked-rises as needed_rise, each_below, lists_head, drawn_elim}
+use Rattle.spec.proofs.OrderInRound.{linked_elim, linked_intro, linked-rises as needed_rise, each_below, lists_head, drawn_elim}
 use Rattle.spec.specs.Store as store
 use Rattle.spec.specs.Store.{Store, id_at}
 use Rattle.models.specs.Digest.{Fit}

@@ -3,9 +3,9 @@ use Rattle.std.specs.Prelude.{ℕ, ◌≡◌, List, ◌++◌}
 use Rattle.std.proofs.Common.{sym, subst}
 use Rattle.spec.specs.Ids.{Id}
 use Rattle.spec.specs.Demand.{read_records, finished}
-use Rattle.spec.specs.Invariant.{Inv}
-use Rattle.spec.specs.Demand3First.{all_ids, finishes}
-use Rattle.spec.specs.Demand3.{as_histories, AllByPaths, commit_paths}
+use Rattle.spec.proofs.Invariant.{Inv}
+use Rattle.spec.proofs.Demand3First.{all_ids, finishes}
+use Rattle.spec.proofs.Demand3.{as_histories, AllByPaths, commit_paths}
 use Rattle.spec.specs.Calls as calls
 use Rattle.commit_answer.specs.Answer.{Tables, view_of, Left, outcome_of, answer_of, Did}
 

@@ -11,8 +11,8 @@ use Rattle.spec.specs.Chain as chain
 use Rattle.spec.specs.Chain.{bad, good}
 use Rattle.spec.specs.History.{record_bytes, test_anchor, Finished, commit_all}
 use Rattle.spec.specs.Walk.{Anchored, Rising, rising_less}
-use Rattle.spec.specs.Preservation.{rising_mark}
-use Rattle.spec.specs.Extension.{commit-step}
+use Rattle.spec.proofs.Preservation.{rising_mark}
+use Rattle.spec.proofs.Extension.{commit-step}
 use Rattle.commit_state.specs.declared.state.State.{State}
 use Rattle.tables_test.specs.View.{view}
 use Rattle.back_walk.specs.declared.EnqueuedAnchor.{EnqueuedAnchor}

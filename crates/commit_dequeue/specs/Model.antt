@@ -7,7 +7,7 @@ use Rattle.laws.specs.Test.{by_test}
 use Rattle.laws.specs.Bytes.{written}
 use Rattle.spec.specs.Chain.{EnqueuedAnchor}
 use Rattle.spec.specs.History.{lists_ok}
-use Rattle.spec.specs.OrderInRound.{lists_long}
+use Rattle.spec.proofs.OrderInRound.{lists_long}
 use Rattle.models.specs.Tables.{round_at, author_at, Inside}
 use Rattle.models.specs.Refusal.{failed, or_next, not_failed}
 use Rattle.models.specs.declared.refusal.Refusal.{Refusal}

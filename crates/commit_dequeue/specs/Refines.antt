@@ -13,9 +13,10 @@ use Rattle.spec.specs.Store.{Store}
 use Rattle.spec.specs.Rules.{counts_as_started}
 use Rattle.spec.specs.Chain.{Out, good, then, refuse, EnqueuedAnchor}
 use Rattle.spec.specs.History.{in_history, linked_counts, lists_ok, after_lists, tested, gap_pending, test_anchor, link_bytes, record_bytes, dequeued}
-use Rattle.spec.specs.OrderInRound.{lists_long}
+use Rattle.spec.proofs.OrderInRound.{lists_long}
 use Rattle.spec.specs.Links.{resolved-named}
-use Rattle.spec.specs.Walk.{Anchored, Tested, test_good}
+use Rattle.spec.specs.Walk.{Anchored, Tested}
+use Rattle.spec.proofs.Walk.{test_good}
 use Rattle.models.specs.Digest.{Fit}
 use Rattle.models.specs.Refusal.{refusal_of, unless_failed, or_next, not_failed}
 use Rattle.models.specs.declared.refusal.Refusal.{Refusal}

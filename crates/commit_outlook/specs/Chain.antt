@@ -12,10 +12,11 @@ use Rattle.spec.specs.Rules.{counts_as_started}
 use Rattle.spec.specs.Chain as chain
 use Rattle.spec.specs.Chain.{Out, bad, good, then, refuse}
 use Rattle.spec.specs.History.{tested, dequeued, outlook_bytes, outlook_all}
-use Rattle.spec.specs.Outlook.{tests, tests-first, look_size, outlook-length, looks}
-use Rattle.spec.specs.OutlookCounts.{outlook-good}
+use Rattle.spec.specs.Outlook.{tests, tests-first, look_size, looks}
+use Rattle.spec.proofs.Outlook.{outlook-length}
+use Rattle.spec.proofs.OutlookCounts.{outlook-good}
 use Rattle.spec.specs.Walk.{Rising, rising_less, Tested, tested-good}
-use Rattle.spec.specs.Preservation.{rising_mark}
+use Rattle.spec.proofs.Preservation.{rising_mark}
 use Rattle.models.specs.Digest.{Fit}
 use Rattle.models.specs.Tables.{Used}
 use Rattle.models.specs.Refusal.{refusal_of, unless_failed, not_failed}

@@ -11,7 +11,7 @@ use Rattle.spec.specs.Rules.{used_ok, conf_ok, places_ok, counts_as_started, is_
 use Rattle.spec.specs.Chain.{refuse, good}
 use Rattle.spec.specs.Calls as calls
 use Rattle.spec.specs.Calls.{call, start, perform, is_start, buffer_of, start_ok, memory_kept, do_start, finish}
-use Rattle.spec.specs.Preservation.{call-start}
+use Rattle.spec.proofs.Preservation.{call-start}
 use Rattle.models.specs.Tables.{place_at, Inside, is_used, used_is}
 use Rattle.dag_round_keys.specs.Sorted.{is_inside, inside_is}
 use Rattle.commit_state.specs.declared.state.State.{State}

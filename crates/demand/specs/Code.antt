@@ -11,8 +11,8 @@ use Rattle.spec.specs.Calls as calls
 use Rattle.spec.specs.Calls.{Call, StartArgs, start, commit, call, done, flag, anchors, refused}
 use Rattle.spec.specs.Demand.{AllInList, after, History, wrote, histories, Given, gave, resolutions, AllExact, AsSaid, AllAsSaid, AllArrive, Summed, LinksTold}
 use Rattle.spec.specs.HeightEquations.{Sized}
-use Rattle.spec.specs.Demand3.{demand_3, sums_follow}
-use Rattle.spec.specs.LinksFollow.{links_follow}
+use Rattle.spec.proofs.Demand3.{demand_3, sums_follow}
+use Rattle.spec.proofs.LinksFollow.{links_follow}
 use Rattle.models.specs.Digest.{Fit}
 use Rattle.tables_test.specs.Whole.{sized}
 use Rattle.tables_test.specs.Refines.{counted}

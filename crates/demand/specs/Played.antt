@@ -10,8 +10,8 @@ use Rattle.spec.specs.Store.{Store, retained}
 use Rattle.spec.specs.Chain.{Out, bad, good, refuse}
 use Rattle.spec.specs.Calls.{Call, StartArgs, start, call, done}
 use Rattle.spec.specs.Demand.{AllInList, after, History, histories, resolutions, Given, AllExact, AllAsSaid, Summed, LinksTold}
-use Rattle.spec.specs.Demand3.{demand_3, sums_follow}
-use Rattle.spec.specs.LinksFollow.{links_follow}
+use Rattle.spec.proofs.Demand3.{demand_3, sums_follow}
+use Rattle.spec.proofs.LinksFollow.{links_follow}
 use Rattle.commit_answer.specs.Answer.{Tables, view_of}
 use Rattle.trace.specs.Kinds.{kind_of, kind_ok, kind_known}
 use Rattle.trace.specs.Head.{fields_fit, whole_at, rest_at, fields_at, version_ok, kind_code, code_at, by_zero, code_whole, whole_elim}

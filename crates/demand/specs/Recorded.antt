@@ -10,7 +10,7 @@ use Rattle.spec.specs.Store.{Store, retained}
 use Rattle.spec.specs.Rules.{counts_as_started}
 use Rattle.spec.specs.Calls as calls
 use Rattle.spec.specs.Calls.{Call, StartArgs, start, reset_all, round, name, resolve, certify, gap_question, commit, outlook, remove, drop, call, is_start, done, flag, anchors, refused}
-use Rattle.spec.specs.Preservation.{is_reset_call}
+use Rattle.spec.proofs.Preservation.{is_reset_call}
 use Rattle.spec.specs.Demand.{InList, AllInList, History, AllExact, Given, AllArrive, Summed, LinksTold}
 use Rattle.models.specs.Digest.{Fit}
 use Rattle.commit_answer.specs.Answer.{Tables, view_of, Left, outcome_of, answer_of, Did, by_tables, call_by_lem}

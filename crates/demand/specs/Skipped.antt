@@ -9,7 +9,7 @@ use Rattle.spec.specs.Rules.{counts_as_started}
 use Rattle.spec.specs.Chain.{anchors_of, good}
 use Rattle.spec.specs.Calls as calls
 use Rattle.spec.specs.Calls.{commit, call, anchors}
-use Rattle.spec.specs.Preservation.{is_reset_call, rules_kept}
+use Rattle.spec.proofs.Preservation.{is_reset_call, rules_kept}
 use Rattle.skipped.specs.Skipped as skipped
 use Rattle.skipped.specs.Skipped.{Passes, SameLists, SameInRow, records_in}
 use Rattle.skipped.specs.Proof as proofs

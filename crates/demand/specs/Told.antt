@@ -11,9 +11,10 @@ use Rattle.spec.specs.Calls.{Call, outlook, commit, call, anchors, refused, numb
 use Rattle.spec.specs.Demand.{History, read_records, Told, read_told}
 use Rattle.spec.specs.HeightEquations.{Sized}
 use Rattle.spec.specs.WellFormed.{Wf, counts_as_started_elim}
-use Rattle.spec.specs.Demand3First.{outlook_store}
-use Rattle.spec.specs.Outlook.{Lists, outlook-call}
-use Rattle.spec.specs.OutlookCounts.{counts-agree, lists-told, commit-told}
+use Rattle.spec.proofs.Demand3First.{outlook_store}
+use Rattle.spec.specs.Outlook.{Lists}
+use Rattle.spec.proofs.Outlook.{outlook-call}
+use Rattle.spec.proofs.OutlookCounts.{counts-agree, lists-told, commit-told}
 use Rattle.models.specs.Digest.{Fit}
 use Rattle.tables_test.specs.Whole.{sized}
 use Rattle.tables_test.specs.Refines.{counted}

@@ -10,7 +10,7 @@ use Rattle.laws.specs.Peers.{member, ones_members, ones_most}
 use Rattle.laws.specs.Tally.{tally, tally_split, xor_ones}
 use Rattle.spec.specs.Game.{Game, keeps, spoils, game_ok, forced_by, forced}
 use Rattle.spec.specs.GameRefusal.{GameOk, ok_is, Within, within_ones}
-use Rattle.spec.specs.GameDetermined.{exactly}
+use Rattle.spec.proofs.GameDetermined.{exactly}
 use Rattle.game.specs.declared.Reach.TheVariants.{Forced, Prevented, Refused}
 use Rattle.game.specs.declared.Reach.{Reach}
 use Rattle.game.specs.Model.{refusal_of, forced_of, Answers, Numbers}

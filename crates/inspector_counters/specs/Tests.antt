@@ -9,7 +9,8 @@ use Rattle.spec.specs.Store as store
 use Rattle.spec.specs.Store.{Point, Store, resolved}
 use Rattle.spec.specs.Paths.{height, certified, proved}
 use Rattle.spec.specs.Inspect.{of, is_found, is_valid, is_proved, is_trans_invalid, is_invalid, is_ill_formed, is_trusted}
-use Rattle.spec.specs.Inspection.{found_at, proved_at}
+use Rattle.spec.specs.Inspection.{proved_at}
+use Rattle.spec.proofs.Inspection.{found_at}
 use Rattle.models.specs.Cert.{bit_of, flags_of, height_of, has_proof}
 use Rattle.models.specs.DagPoint.{case_of}
 use Rattle.models.specs.Digest.{Fit}

@@ -12,7 +12,8 @@ use Rattle.laws.specs.Peers.{member}
 use Rattle.spec.specs.Store.{Store, Entry}
 use Rattle.spec.specs.Rules.{counts_as_started}
 use Rattle.spec.specs.Inspect.{is_trusted, places_in, witnessed_by, reported}
-use Rattle.spec.specs.Inspection.{Ascending, is_unreferenced, is_last_unreferenced, reported_at}
+use Rattle.spec.specs.Inspection.{Ascending, is_unreferenced, is_last_unreferenced}
+use Rattle.spec.proofs.Inspection.{reported_at}
 use Rattle.models.specs.Digest.{Fit}
 use Rattle.commit_state.specs.declared.state.State.{State}
 use Rattle.tables_test.specs.View.{view}

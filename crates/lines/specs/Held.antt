@@ -13,7 +13,8 @@ use Rattle.spec.specs.History.{in_order, Finished, commit_all}
 use Rattle.spec.specs.Calls as calls
 use Rattle.spec.specs.Calls.{Call, start, reset_all, round, name, resolve, certify, gap_question, commit, outlook, remove, drop as drop_to, Outcome, call, perform, unstarted, do_commit, commit_end, is_start}
 use Rattle.spec.specs.Demand.{read_id, read_ids, read_records, finished, wrote}
-use Rattle.spec.specs.Records.{Event, passed, bytes_of, number_at_lem, record_size_lem, commit_buffer, every-commit}
+use Rattle.spec.specs.Records.{Event, passed, bytes_of, number_at_lem, every-commit}
+use Rattle.spec.proofs.Records.{record_size_lem, commit_buffer}
 use Rattle.lines.specs.Lines.{line_of, lines_of, refusal_lines, field, points_at, record_length, next_at, line_at, lines_at, said_anchors, said_lines, HoldsFrom, Holds}
 
 -- ---- reading

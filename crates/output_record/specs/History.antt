@@ -10,8 +10,9 @@ use Rattle.laws.specs.Test.{by_test, clash, both, and_l, and_r, or_cases}
 use Rattle.laws.specs.Lists.{Pairs, NoDup, map_mem, mem_map, map_pairs, weigh, weigh_by}
 use Rattle.spec.specs.Store.{Point, Resolution, Store, id_at, resolved}
 use Rattle.spec.specs.History.{in_history, history, summed}
-use Rattle.spec.specs.OrderInRound.{summed-over}
-use Rattle.spec.specs.Order.{Before, history_named, history_elim, history_intro, history-rises}
+use Rattle.spec.proofs.OrderInRound.{summed-over}
+use Rattle.spec.specs.Order.{Before}
+use Rattle.spec.proofs.Order.{history_named, history_elim, history_intro, history-rises}
 use Rattle.spec.specs.WellFormed.{Wf}
 use Rattle.models.specs.Digest.{Fit}
 use Rattle.models.specs.Tables.{status_at, place_at, Used}

@@ -8,8 +8,9 @@ use Rattle.laws.specs.Test.{same_or}
 use Rattle.spec.specs.Ids.{id_bytes}
 use Rattle.spec.specs.Store.{Point, Store, id_at}
 use Rattle.spec.specs.History.{in_history, behind, includes_word, witness_word, word_for, link_bytes}
-use Rattle.spec.specs.Behind.{Behind, behind_is, behind-own, word-own, word-round}
-use Rattle.spec.specs.Extension.{fits_in}
+use Rattle.spec.specs.Behind.{Behind, behind-own, word-own}
+use Rattle.spec.proofs.Behind.{behind_is, word-round}
+use Rattle.spec.proofs.Extension.{fits_in}
 use Rattle.models.specs.Digest.{Fit}
 use Rattle.models.specs.Tables.{Used}
 use Rattle.commit_state.specs.View.{point_at}
@@ -19,7 +20,7 @@ use Rattle.tables_test.specs.Refines.{Started}
 use Rattle.answer_bytes.specs.Bytes.{place_id}
 use Rattle.back_history.specs.RefinesNeeded.{named_used, used_named, used_point, used_round, used_small}
 use Rattle.back_history.specs.Refines.{well}
-use Rattle.spec.specs.Order.{history_named}
+use Rattle.spec.proofs.Order.{history_named}
 use Rattle.back_behind.specs.Refines.{sources_of, source_own, source_behind}
 use Rattle.output_record.specs.Links.{told_for, word_of, link_of, told-some, word_some}
 

@@ -11,7 +11,7 @@ use Rattle.laws.specs.Test.{cond_yes, cond_no, le_or}
 use Rattle.laws.specs.Lists.{weigh, weigh-append, get_d_in}
 use Rattle.laws.specs.Bytes.{written}
 use Rattle.spec.specs.History.{down_from, each_once, lists_ok}
-use Rattle.spec.specs.OrderInRound.{each-length, each_below, lists_head}
+use Rattle.spec.proofs.OrderInRound.{each-length, each_below, lists_head}
 use Rattle.models.specs.Tables.{Inside}
 use Rattle.dag_round_keys.specs.Sorted.{Sorted}
 use Rattle.back_history.specs.Model.{is_done}

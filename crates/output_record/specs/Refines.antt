@@ -16,11 +16,11 @@ use Rattle.spec.specs.Store.{Resolution, Store, id_at}
 use Rattle.spec.specs.Rules.{is_peer, counts_as_started}
 use Rattle.spec.specs.Chain.{EnqueuedAnchor}
 use Rattle.spec.specs.History.{is_executable, is_first_executable, prev_anchor, down_from, linked_counts, lists_ok, in_order, summed, sum_bytes, link_bytes, tail_bytes, record_bytes, in_history, history, set_committed, gap_after, use_proof, dequeued}
-use Rattle.spec.specs.OrderInRound.{order_length}
-use Rattle.spec.specs.Records.{record_length_lem}
+use Rattle.spec.proofs.OrderInRound.{order_length}
+use Rattle.spec.proofs.Records.{record_length_lem}
 use Rattle.spec.specs.WellFormed.{Wf, counts_as_started_elim, counts_as_started_intro}
 use Rattle.spec.specs.Walk.{Anchored, Tested}
-use Rattle.spec.specs.Preservation.{mark_kept}
+use Rattle.spec.proofs.Preservation.{mark_kept}
 use Rattle.models.specs.Digest.{Fit}
 use Rattle.models.specs.Cert.{height_of, committed_word}
 use Rattle.models.specs.Tables.{round_at, author_at, place_at, Inside, Used, is_used, used_is}

@@ -20,8 +20,9 @@ use Rattle.spec.specs.Rules.{is_peer}
 use Rattle.spec.specs.Chain.{Out, good, EnqueuedAnchor, enqueue, walk, or_zero, lowest_walked, unlinked, anchors_of}
 use Rattle.spec.specs.History.{set_committed, use_proof, dequeued}
 use Rattle.spec.specs.WellFormed.{Wf}
-use Rattle.spec.specs.Walk.{Found, find-some, Valid, Visited, over, used_up, ends, goes, visit-good, visit_back}
-use Rattle.spec.specs.Demand3Second.{good-same, Chained, Fires, fires, fires_back}
+use Rattle.spec.specs.Walk.{Found, find-some, Valid, Visited, over, used_up, ends, goes}
+use Rattle.spec.proofs.Walk.{visit-good, visit_back}
+use Rattle.spec.proofs.Demand3Second.{good-same, Chained, Fires, fires, fires_back}
 use Rattle.spec.specs.Outlook.{supposed, supposed-append}
 use Rattle.skipped.specs.Skipped.{previous_id, top_proof_of, sought, Passes}
 

@@ -12,12 +12,13 @@ use Rattle.spec.specs.History.{linked_in, rounds_of, counts_in, linked_counts, l
 use Rattle.spec.specs.Calls.{anchors, Outcome, commit, call}
 use Rattle.spec.specs.HeightEquations.{Sized}
 use Rattle.spec.specs.WellFormed.{Wf, counts_as_started_elim}
-use Rattle.spec.specs.OrderInRound.{each-length, lists_head}
-use Rattle.spec.specs.Preservation.{is_reset_call, rules_kept}
+use Rattle.spec.proofs.OrderInRound.{each-length, lists_head}
+use Rattle.spec.proofs.Preservation.{is_reset_call, rules_kept}
 use Rattle.spec.specs.Demand.{tail_size}
 use Rattle.spec.specs.Outlook.{supposed, supposed-append, Listed}
-use Rattle.spec.specs.Records.{record_size_lem, points_at_lem, Event, bytes_of}
-use Rattle.spec.specs.Handed.{events, events-length, points_out, Handed, handed}
+use Rattle.spec.specs.Records.{points_at_lem, Event, bytes_of}
+use Rattle.spec.proofs.Records.{record_size_lem}
+use Rattle.spec.proofs.Handed.{events, events-length, points_out, Handed, handed}
 use Rattle.skipped.specs.Skipped.{Passes, pieces, lists_read, lists_by, chain_of, Lent, bytes_read, record_size, records_in, Skipped, SkippedInRow}
 use Rattle.skipped.specs.Chain.{chain_splits}
 

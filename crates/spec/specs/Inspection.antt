@@ -29,22 +29,16 @@ use Rattle.spec.specs.Rules.{is_peer, version, versions}
 use Rattle.spec.specs.Calls.{Outcome, refused, done, new_bottom, drained, removing, do_remove}
 use Rattle.spec.specs.WellFormed.{Wf}
 use Rattle.spec.specs.Order.{Before, strict}
-use Rattle.spec.specs.Preservation.{new_bottom_lem}
-
 -- ---- what the look-up says of a version
 
 -- a test of resolved points holds of those that are resolved
-look-test : (s : Store) (f : ℕ → Bool) (q : ℕ) → elim (look_at s q) as (λ l. Bool) [ resolved_at p ↦ f p | named_at p ↦ false | never ↦ false ] ≡ (resolved (s.pt q) && f q)
+pub look-test : (s : Store) (f : ℕ → Bool) (q : ℕ) → elim (look_at s q) as (λ l. Bool) [ resolved_at p ↦ f p | named_at p ↦ false | never ↦ false ] ≡ (resolved (s.pt q) && f q)
 unfolding look_at
 look-test s f q = go (resolved (s.pt q))
   where
     go : (b : Bool) → elim (elim b as (λ b. Look) [ true ↦ resolved_at q | false ↦ named_at q ]) as (λ l. Bool) [ resolved_at p ↦ f p | named_at p ↦ false | never ↦ false ] ≡ (b && f q)
     go true = refl
     go false = refl
-
-pub found_at : (s : Store) (q : ℕ) → is_found s q ≡ (resolved (s.pt q) && ltb (status_at s q) 5)
-unfolding is_found
-found_at s q = look-test s (λ p. ltb (status_at s p) 5) q
 
 pub proved_at : (s : Store) (q : ℕ) → is_proved s q ≡ (resolved (s.pt q) && proved s q)
 unfolding is_proved
@@ -228,45 +222,6 @@ module _ (s : Store) (r : ℕ) where
   unfolding round_data entry_of
   data_rises w = picked_pairs (LowerAt s) Lower (is_trusted s) (entry_of s r) (λ p q l. l) (places_in s r) (places_rise w)
 
--- ---- the greatest is the last
-
--- none passes and there is none, or it is the digest of one that passes
-greatest_cases : (f : Entry → Bool) (es : List Entry) → ((has f es ≡ false) × (greatest f es ≡ none)) ⊎ ((e : Entry) × Memᴰ e es × (f e ≡ true) × (greatest f es ≡ some e.digest))
-unfolding has greatest larger
-greatest_cases f [] = inl (refl, refl)
-greatest_cases f (x ∷ xs) =
-    by_test (f x)
-    (λ t. rw t (⊎_elim
-    (λ (n, g). inr (x, Memᴰ.head refl, t, rw g refl))
-    (λ (e, m, u, g). le_or e.digest x.digest
-    (λ l. let d : max x.digest e.digest ≡ x.digest = omega arith in inr (x, Memᴰ.head refl, t, rw (g, d) refl))
-    (λ l. let d : max x.digest e.digest ≡ e.digest = omega arith in inr (e, Memᴰ.tail m, u, rw (g, d) refl)))
-    (greatest_cases f xs)))
-    (λ n. rw n (⊎_elim inl (λ (e, m, u, g). inr (e, Memᴰ.tail m, u, g)) (greatest_cases f xs)))
-
-module _ (f : Entry → Bool) where
-  -- a digest before greater ones, of which one passes, changes nothing
-  larger_skips : (d : ℕ) (es : List Entry) → ((e : Entry) → Memᴰ e es → d < e.digest) → has f es ≡ true → larger d (greatest f es) ≡ greatest f es
-  unfolding larger
-  larger_skips d es h t =
-      ⊎_elim
-      (λ (n, g). absurd (clash t n))
-      (λ (e, m, u, g). let l : d < e.digest = h e m in let k : max d e.digest ≡ e.digest = omega arith in rw (g, k) refl)
-      (greatest_cases f es)
-
-  -- where digests rise, an entry that passes is the greatest exactly if no later one passes
-  pub greatest_last : (xs : List Entry) (e : Entry) (ys : List Entry) → Ascending (xs ++ (e ∷ ys)) → f e ≡ true → holds (greatest f (xs ++ (e ∷ ys))) e.digest ≡ not (has f ys)
-  unfolding holds greatest larger
-  greatest_last [] e ys p t =
-      rw t (⊎_elim
-      (λ (n, g). rw (g, n, eq-eqb e.digest e.digest refl) refl)
-      (λ (x, m, u, g). let l : e.digest < x.digest = p.0 x m in rw (g, has_intro f ys x m u, ne_eqb (max e.digest x.digest) e.digest (λ k. omega arith)) refl)
-      (greatest_cases f ys))
-  greatest_last (x ∷ xs) e ys p t =
-      by_test (f x)
-      (λ u. rw (u, larger_skips x.digest (xs ++ (e ∷ ys)) p.0 (has_intro f (xs ++ (e ∷ ys)) e (Memᴰ.append_right xs (Memᴰ.head refl)) t)) (greatest_last xs e ys p.1 t))
-      (λ u. rw u (greatest_last xs e ys p.1 t))
-
 -- by e, peer a still has to refer to the digest d
 abbrev pub is_unreferenced : ℕ → ℕ → Entry → Bool
 is_unreferenced a d e = e.unreferenced_by a && holds e.previous d
@@ -277,41 +232,14 @@ is_last_unreferenced s r a ys none = false
 is_last_unreferenced s r a ys (some d) = not (witnessed_by s r a d) && not (has (is_unreferenced a d) ys)
 
 -- without a previous digest nothing is reported
-reported-none : (es : List Entry) (s : Store) (r a : ℕ) (e : Entry) → e.previous ≡ none → reported es s r a e ≡ (e.unreferenced_by a && false)
+pub reported-none : (es : List Entry) (s : Store) (r a : ℕ) (e : Entry) → e.previous ≡ none → reported es s r a e ≡ (e.unreferenced_by a && false)
 unfolding reported
 reported-none es s r a e h = rw h refl
 
 -- with one, if its digest is the one that is due
-reported-some : (es : List Entry) (s : Store) (r a : ℕ) (e : Entry) (d : ℕ) → e.previous ≡ some d → reported es s r a e ≡ (e.unreferenced_by a && holds (due es s r a d) e.digest)
+pub reported-some : (es : List Entry) (s : Store) (r a : ℕ) (e : Entry) (d : ℕ) → e.previous ≡ some d → reported es s r a e ≡ (e.unreferenced_by a && holds (due es s r a d) e.digest)
 unfolding reported
 reported-some es s r a e d h = rw h refl
-
--- where digests rise, exactly that one is reported
-pub reported_last : (s : Store) (r a : ℕ) (xs : List Entry) (e : Entry) (ys : List Entry) → Ascending (xs ++ (e ∷ ys)) → reported (xs ++ (e ∷ ys)) s r a e ≡ (e.unreferenced_by a && is_last_unreferenced s r a ys e.previous)
-unfolding due holds is_last_unreferenced
-reported_last s r a xs e ys p = go e.previous refl
-  where
-    es : List Entry
-    es = xs ++ (e ∷ ys)
-
-    last : (d : ℕ) → e.previous ≡ some d → e.unreferenced_by a ≡ true → holds (greatest (is_unreferenced a d) es) e.digest ≡ not (has (is_unreferenced a d) ys)
-    last d h t = greatest_last (is_unreferenced a d) xs e ys p (both t (rw h (eq-eqb d d refl)))
-
-    by_due : (d : ℕ) → e.previous ≡ some d → (e.unreferenced_by a && holds (due es s r a d) e.digest) ≡ (e.unreferenced_by a && is_last_unreferenced s r a ys (some d))
-    by_due d h =
-        by_test (e.unreferenced_by a)
-        (λ t. by_test (witnessed_by s r a d) (λ u. rw (t, u) refl) (λ u. rw (t, u) (last d h t)))
-        (λ n. rw n refl)
-
-    go : (o : Option ℕ) → e.previous ≡ o → reported es s r a e ≡ (e.unreferenced_by a && is_last_unreferenced s r a ys e.previous)
-    go none h = reported-none es s r a e h ∙ ap (λ o. e.unreferenced_by a && is_last_unreferenced s r a ys o) (sym h)
-    go (some d) h = reported-some es s r a e d h ∙ (by_due d h ∙ ap (λ o. e.unreferenced_by a && is_last_unreferenced s r a ys o) (sym h))
-
--- the same of the entry at k
-pub reported_at : (s : Store) (r a : ℕ) (es : List Entry) (k : ℕ) (z : Entry) → k < length es → Ascending es → reported es s r a (get_or es k z) ≡ ((get_or es k z).unreferenced_by a && is_last_unreferenced s r a (drop (suc k) es) (get_or es k z).previous)
-reported_at s r a es k z l p =
-    let e : es ≡ take k es ++ (get_or es k z ∷ drop (suc k) es) = split_at es k z l in
-    ap (λ x. reported x s r a (get_or es k z)) e ∙ reported_last s r a (take k es) (get_or es k z) (drop (suc k) es) (subst Ascending e p)
 
 -- no entry stands twice where digests rise
 pub ascending_once : (es : List Entry) → Ascending es → NoDup es
@@ -400,37 +328,10 @@ module _ (s : Store) (w : Wf s) (r : ℕ) where
 -- ---- what a remove leaves
 
 -- what holds of a memory and of what every round leaves, holds after any rounds
-after-all : (P : Memory → Type 0) (s : Store) → ((x : ℕ) → P (round_data s x)) → (m : Memory) (rs : List ℕ) → P m → P (memory_after s m rs)
+pub after-all : (P : Memory → Type 0) (s : Store) → ((x : ℕ) → P (round_data s x)) → (m : Memory) (rs : List ℕ) → P m → P (memory_after s m rs)
 unfolding memory_after
 after-all P s f m [] h = h
 after-all P s f m (r ∷ rs) h = after-all P s f (round_data s r) rs (f r)
-
--- what holds of the store's memory and of what every round leaves, holds of the memory after a remove
-pub after-keeps : (P : Memory → Type 0) (s : Store) (r : ℕ) (from : Option ℕ) (b : List ℕ) → P s.memory → ((x : ℕ) → P (round_data s x)) → P (do_remove s r from b).store.memory
-unfolding do_remove with_numbers
-after-keeps P s r from b h f = go (removing s r b (remove_bytes s low from))
-  where
-    low : ℕ
-    low = new_bottom s (r - s.conf.history_rounds)
-
-    go : (o : Out (List ℕ)) → P (elim o as (λ x. Outcome) [
-      | bad n ↦ record { answer = refused n 0; store = s; buffer = b }
-      | good bytes ↦ record { answer = done; store = with_memory (drained s low) (memory_after s s.memory (inspected s low)); buffer = written b 0 bytes }
-    ]).store.memory
-    go (bad n) = h
-    go (good bytes) = after-all P s f s.memory (inspected s low) h
-
--- its entries rise, if they rose before
-pub after-rises : (s : Store) → Wf s → (r : ℕ) (from : Option ℕ) (b : List ℕ) → Ascending s.memory.entries → Ascending (do_remove s r from b).store.memory.entries
-after-rises s w r from b h = after-keeps (λ m. Ascending m.entries) s r from b h (λ x. data_rises s x w)
-
--- it has at most 128 entries, if it had no more before
-pub after-few : (s : Store) → Wf s → (r : ℕ) (from : Option ℕ) (b : List ℕ) → length s.memory.entries ≤ 128 → length (do_remove s r from b).store.memory.entries ≤ 128
-after-few s w r from b h = after-keeps (λ m. length m.entries ≤ 128) s r from b h (data_few s w)
-
--- they are of peers below 32, if they were before
-pub after_low : (s : Store) → Wf s → (r : ℕ) (from : Option ℕ) (b : List ℕ) → ((e : Entry) → Memᴰ e s.memory.entries → e.author < 32) → (e : Entry) → Memᴰ e (do_remove s r from b).store.memory.entries → e.author < 32
-after_low s w r from b h = after-keeps (λ m. (e : Entry) → Memᴰ e m.entries → e.author < 32) s r from b h (data_low s w)
 
 -- ---- the reported rounds
 
@@ -524,7 +425,7 @@ ListsRise (equivocation a r ds) = Pairs ◌<◌ ds
 ListsRise (no_inclusion a xs ys) = Pairs Before xs × Pairs Before ys
 
 -- an event of these is that of a peer at a round
-over_elim : (f : InspectedRound → ℕ → List Event) (vs : List InspectedRound) (e : Event) → Memᴰ e (over f vs) → (v : InspectedRound) × Memᴰ v vs × ((a : ℕ) × Memᴰ e (f v a))
+pub over_elim : (f : InspectedRound → ℕ → List Event) (vs : List InspectedRound) (e : Event) → Memᴰ e (over f vs) → (v : InspectedRound) × Memᴰ v vs × ((a : ℕ) × Memᴰ e (f v a))
 unfolding over
 over_elim f vs e m =
     let (v, k, n) = (joined_in (λ v. up_to 32 (f v)) vs e).0 m in
@@ -532,69 +433,20 @@ over_elim f vs e m =
     (v, k, (a, h))
 
 -- the one event, if the test passes
-onlyif_elim : (t : Bool) (x e : Event) → Memᴰ e (only_if t x) → (t ≡ true) × (x ≡ e)
+pub onlyif_elim : (t : Bool) (x e : Event) → Memᴰ e (only_if t x) → (t ≡ true) × (x ≡ e)
 unfolding only_if
 onlyif_elim true x e m = (refl, ⊎_elim sym (λ k. absurd (Memᴰ.not-nil k)) (Memᴰ.cases_cons m))
 onlyif_elim false x e m = absurd (Memᴰ.not-nil m)
 
 -- ids of one round and author rise with their digests
-ids_rise : (r a : ℕ) (ds : List ℕ) → Pairs ◌<◌ ds → Pairs Before (ids_of r a ds)
+pub ids_rise : (r a : ℕ) (ds : List ℕ) → Pairs ◌<◌ ds → Pairs Before (ids_of r a ds)
 ids_rise r a ds h = map_pairs ◌<◌ Before (λ d. record { round = r; author = a; digest = d }) (λ x y l. inr (refl, l)) ds h
 
 -- their round
-ids-round : (r a : ℕ) (ds : List ℕ) (i : Id) → Memᴰ i (ids_of r a ds) → i.round ≡ r
+pub ids-round : (r a : ℕ) (ds : List ℕ) (i : Id) → Memᴰ i (ids_of r a ds) → i.round ≡ r
 ids-round r a ds i m =
     let (d, k, e) = mem_map (λ (d : ℕ). let x : Id = record { round = r; author = a; digest = d } in x) ds i m in
     sym (ap (λ (x : Id). x.round) e)
-
-module _ (s : Store) (w : Wf s) where
-  -- an event with an id has no list
-  single-rises : (kind : ℕ) (f : Store → ℕ → Bool) (v : InspectedRound) (a : ℕ) (e : Event) → Memᴰ e (singles kind f s v a) → ListsRise e
-  unfolding singles
-  single-rises kind f v a e m = let (q, k, h) = mem_map (λ q. single kind (id_at s q)) (keep (of (f s) s a) (places_in s v.round)) e m in subst ListsRise h tt
-
-  -- the digests of an equivocation
-  equivocation-rises : (v : InspectedRound) (a : ℕ) (e : Event) → Memᴰ e (equivocations s v a) → ListsRise e
-  unfolding equivocations
-  equivocation-rises v a e m =
-      let (t, h) = onlyif_elim _ _ e m in
-      subst ListsRise h (picked_pairs (LowerAt s) ◌<◌ (of (is_found s) s a) (λ q. (id_at s q).digest) (λ p q l. l) (places_in s v.round) (places_rise s v.round w))
-
-  -- the proofs and the blamed ids of a round that meets rising entries
-  blame_rises : (v : InspectedRound) (a : ℕ) (e : Event) → 0 < v.round → Ascending v.memory.entries → Memᴰ e (no_inclusions s v a) → ListsRise e
-  unfolding no_inclusions proofs authored_then authored_now not_referenced
-  blame_rises v a e l p m = let (t, h) = onlyif_elim _ _ e m in subst ListsRise h (blamed (eqb-true _ _ (and_l _ _ t)), proofs_rise)
-    where
-      r : ℕ
-      r = v.round
-
-      es : List Entry
-      es = v.memory.entries
-
-      blamed : v.memory.last ≡ prev r → Pairs Before (ids_of v.memory.last a (authored_then es a) ++ ids_of r a (authored_now s r a))
-      blamed h =
-          append_pairs Before (ids_of v.memory.last a (authored_then es a)) (ids_of r a (authored_now s r a))
-          (ids_rise v.memory.last a (authored_then es a) (picked_pairs Lower ◌<◌ (λ e. eqb e.author a) (λ e. e.digest) (λ x y l. l) es p))
-          (ids_rise r a (authored_now s r a) (picked_pairs (LowerAt s) ◌<◌ (of (is_trusted s) s a) (λ q. (id_at s q).digest) (λ p q l. l) (places_in s r) (places_rise s r w)))
-          (λ x y i j. inl (omega (arith, ids-round v.memory.last a (authored_then es a) x i, ids-round r a (authored_now s r a) y j)))
-
-      proofs_rise : Pairs Before (map (λ e. record { round = v.memory.last; author = e.author; digest = e.digest }) (proofs es s r a))
-      proofs_rise = picked_pairs Lower Before (reported es s r a) (λ e. record { round = v.memory.last; author = e.author; digest = e.digest }) (λ x y l. inr (refl, l)) es p
-
-  -- "inside a round all lists rise by digest", "Blamed ids have the earlier round first": every list of every event
-  pub lists_rise : Ascending s.memory.entries → (b : ℕ) (e : Event) → Memᴰ e (events s b) → ListsRise e
-  unfolding events
-  lists_rise p b e m =
-      part (single-rises 1 is_trans_invalid) m (λ m. part (single-rises 2 is_invalid) m (λ m. part (single-rises 3 is_ill_formed) m (λ m. part equivocation-rises m (λ m. blame m))))
-    where
-      part : {f : InspectedRound → ℕ → List Event} {es : List Event} → ((v : InspectedRound) (a : ℕ) (e : Event) → Memᴰ e (f v a) → ListsRise e) → Memᴰ e (over f (shown s b) ++ es) → (Memᴰ e es → ListsRise e) → ListsRise e
-      part {f} h m g = ⊎_elim (λ k. let (v, n, (a, i)) = over_elim f (shown s b) e k in h v a e i) g (Memᴰ.append_cases (over f (shown s b)) m)
-
-      blame : Memᴰ e (over (no_inclusions s) (shown s b)) → ListsRise e
-      blame k =
-          let (v, n, (a, i)) = over_elim (no_inclusions s) (shown s b) e k in
-          let (x, y, z) = shown_elim s b v n in
-          blame_rises v a e (omega arith) (subst (λ (m : Memory). Ascending m.entries) (sym x) (before-keeps (λ m. Ascending m.entries) s v.round p (λ x. data_rises s x w))) i
 
 -- ---- counts fit
 
@@ -706,7 +558,3 @@ counts_fit s w l b h from a =
     few v m =
         let (x, y, z) = shown_elim s b v ((keep_in picks (shown s b) v).0 m).0 in
         subst (λ (m : Memory). length m.entries ≤ 128) (sym x) (before-keeps (λ m. length m.entries ≤ 128) s v.round l (data_few s w))
-
--- the same for the bottom that a remove moves to
-pub remove-fits : (s : Store) → Wf s → length s.memory.entries ≤ 128 → (r : ℕ) (from : Option ℕ) (a : ℕ) → StatsMost 65_408 (stats_of s (new_bottom s r) from a)
-remove-fits s w l r from a = counts_fit s w l (new_bottom s r) (new_bottom_lem s w r).1 from a

@@ -7,7 +7,8 @@ use Rattle.laws.specs.Test.{by_test, clash, zero_or_more}
 use Rattle.laws.specs.Scan.{any, any_intro, any_elim, every_elim, every_intro}
 use Rattle.spec.specs.Paths.{Path, IsHeight}
 use Rattle.spec.specs.Graph.{Down, along}
-use Rattle.spec.specs.Heights.{Why, none, self, link, Local, local→paths, paths→local}
+use Rattle.spec.specs.Heights.{Why, none, self, link, Local}
+use Rattle.spec.proofs.Heights.{local→paths, paths→local}
 use Rattle.tables_heights.specs.View.{height_at, top_at, own_at, own_top, own-none}
 use Rattle.models.specs.Live.{reach}
 use Rattle.tables_heights.specs.Model.{pushed_all, blank, agrees, heights_hold}

@@ -4,7 +4,8 @@ use mathlib.Core.List.{List, Memᴰ}
 use Rattle.spec.specs.Rules.{counts_as_started}
 use Rattle.spec.specs.WellFormed.{counts_as_started_elim}
 use Rattle.spec.specs.Inspect.{Event, events}
-use Rattle.spec.specs.Inspection.{ListsRise, lists_rise}
+use Rattle.spec.specs.Inspection.{ListsRise}
+use Rattle.spec.proofs.Inspection.{lists_rise}
 use Rattle.models.specs.Digest.{Fit}
 use Rattle.commit_state.specs.Memory.{memory_rises}
 use Rattle.commit_state.specs.declared.state.State.{State}

@@ -17,7 +17,7 @@ use Rattle.spec.specs.Ids.{Id, Ref}
 use Rattle.spec.specs.Store.{Resolution, bit}
 use Rattle.spec.specs.Chain.{Out, good}
 use Rattle.spec.specs.Walk.{then-good, refuse-good, refuse_back}
-use Rattle.spec.specs.Demand3Second.{good-same}
+use Rattle.spec.proofs.Demand3Second.{good-same}
 use Rattle.spec.specs.Calls.{Call, StartArgs, start, reset_all, round, name, resolve, certify, gap_question, commit, outlook, remove, drop as drop_to}
 use Rattle.models.specs.Digest.{words}
 use Rattle.trace.specs.Numbers.{number_at, id_at}

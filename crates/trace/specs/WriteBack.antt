@@ -11,7 +11,7 @@ use Rattle.spec.specs.Store.{bit}
 use Rattle.spec.specs.Chain.{good}
 use Rattle.spec.specs.Walk.{refuse-good, refuse_back}
 use Rattle.spec.specs.Calls.{Call}
-use Rattle.spec.specs.Demand3Second.{good-same}
+use Rattle.spec.proofs.Demand3Second.{good-same}
 use Rattle.models.specs.Digest.{words, words-length}
 use Rattle.trace.specs.Numbers.{number_at, id_at, words_append}
 use Rattle.trace.specs.Head.{links_in, size_of, fields_fit, fits-length, version_ok, rest_at, whole_at, part, fields_at, whole_elim}

@@ -22,13 +22,14 @@ use Rattle.spec.specs.History.{limit, lowest, Need, anchor, hand, needed, in_his
 use Rattle.spec.specs.Graph.{carry}
 use Rattle.spec.specs.Links.{linked, link_made, Linked, fits_elim, resolved-named, down}
 use Rattle.spec.specs.HeightEquations.{inside, height_is, Sized}
-use Rattle.spec.specs.Sweep.{needed_is}
+use Rattle.spec.proofs.Sweep.{needed_is}
 use Rattle.spec.specs.WellFormed.{Wf, Leads}
 use Rattle.spec.specs.Order.{need_named, history-needed}
-use Rattle.spec.specs.Behind.{linkers_in}
-use Rattle.spec.specs.OrderInRound.{each_below, lists_head, linked_elim, drawn_elim}
-use Rattle.spec.specs.Preservation.{mark_kept, rising_mark}
-use Rattle.spec.specs.Walk.{refuse_back, Found, id_same, find-some, Valid, Visited, over, used_up, ends, goes, visit-good, visit_back, Anchored, Rising, Tested, tested_back, test_good}
+use Rattle.spec.proofs.Behind.{linkers_in}
+use Rattle.spec.proofs.OrderInRound.{each_below, lists_head, linked_elim, drawn_elim}
+use Rattle.spec.proofs.Preservation.{mark_kept, rising_mark}
+use Rattle.spec.specs.Walk.{refuse_back, Found, id_same, find-some, Valid, Visited, over, used_up, ends, goes, Anchored, Rising, Tested, tested_back}
+use Rattle.spec.proofs.Walk.{visit-good, visit_back, test_good}
 
 -- p with another top mark
 abbrev pub re_top : Bool → Point → Point

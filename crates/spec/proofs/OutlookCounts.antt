@@ -16,14 +16,16 @@ use Rattle.spec.specs.Calls.{anchors, refused, number_of, Outcome, do_outlook, c
 use Rattle.spec.specs.Links.{resolved-named}
 use Rattle.spec.specs.WellFormed.{Wf, counts_as_started_elim}
 use Rattle.spec.specs.Order.{history-few}
-use Rattle.spec.specs.OrderInRound.{down_length, lists-append, linked-few}
+use Rattle.spec.proofs.OrderInRound.{down_length, lists-append, linked-few}
 use Rattle.spec.specs.Walk.{not_good, then-good, refuse-good, Rising}
-use Rattle.spec.specs.Preservation.{mark_kept, rising_mark, anchors_rising}
+use Rattle.spec.proofs.Preservation.{mark_kept, rising_mark, anchors_rising}
 use Rattle.spec.specs.Demand.{read_id, History, read_records, Told, read_counts, read_told, CountsAgree}
-use Rattle.spec.specs.Demand3Second.{good-same, not_handed, same-handed}
-use Rattle.spec.specs.Records.{skip, as_read, read_id_lem, id-length, Event, read_bytes, read_bytes_lem}
-use Rattle.spec.specs.Outlook.{tests, tests-first, fours, looks, outlook-bad, Listed, Lists, outlook_was, outlook-call}
-use Rattle.spec.specs.Handed.{events, events-length, points_held, handed}
+use Rattle.spec.proofs.Demand3Second.{good-same, not_handed, same-handed}
+use Rattle.spec.specs.Records.{skip, as_read, read_id_lem, id-length, Event, read_bytes}
+use Rattle.spec.proofs.Records.{read_bytes_lem}
+use Rattle.spec.specs.Outlook.{tests, tests-first, fours, looks, Listed, Lists, outlook_was}
+use Rattle.spec.proofs.Outlook.{outlook-bad, outlook-call}
+use Rattle.spec.proofs.Handed.{events, events-length, points_held, handed}
 
 -- ---- an outlook's records read back
 

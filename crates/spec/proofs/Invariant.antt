@@ -12,11 +12,11 @@ use Rattle.spec.specs.Chain.{EnqueuedAnchor, or_zero}
 use Rattle.spec.specs.History.{limit, lowest, Need, anchor, hand, needed, in_history, history, dequeued, set_committed}
 use Rattle.spec.specs.Graph.{snoc, path_down}
 use Rattle.spec.specs.Links.{down, resolved-named}
-use Rattle.spec.specs.Sweep.{needed_is}
+use Rattle.spec.proofs.Sweep.{needed_is}
 use Rattle.spec.specs.WellFormed.{Wf}
-use Rattle.spec.specs.Order.{history_named, history_elim, history_intro}
+use Rattle.spec.proofs.Order.{history_named, history_elim, history_intro}
 use Rattle.spec.specs.Walk.{Anchored, Tested}
-use Rattle.spec.specs.Preservation.{mark_kept}
+use Rattle.spec.proofs.Preservation.{mark_kept}
 
 -- the lowest round in which committed points are closed under links
 abbrev pub floor : Store → ℕ

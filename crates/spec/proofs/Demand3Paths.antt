@@ -15,12 +15,12 @@ use Rattle.spec.specs.Chain.{EnqueuedAnchor}
 use Rattle.spec.specs.History.{dequeued, set_committed}
 use Rattle.spec.specs.Calls.{done, add_round, new_point, name_at, with_path_heights, resolved_as, resolve_at, set_top, certify_at, drained}
 use Rattle.spec.specs.Links.{Linked, linked, link_made, fits_elim, fits_intro, resolved-named}
-use Rattle.spec.specs.Changes.{res_off, drain-stays, drain_was}
+use Rattle.spec.proofs.Changes.{res_off, drain-stays, drain_was}
 use Rattle.spec.specs.WellFormed.{Wf, Leads}
 use Rattle.spec.specs.Walk.{id_path, find-some}
-use Rattle.spec.specs.Accepted.{Naming, Resolving}
+use Rattle.spec.proofs.Accepted.{Naming, Resolving}
 use Rattle.spec.specs.Demand.{Given, Edge}
-use Rattle.spec.specs.Preservation.{name_at_lem, name_off}
+use Rattle.spec.proofs.Preservation.{name_at_lem, name_off}
 
 -- what a resolved point was given
 abbrev pub given_of : Point → Given

@@ -25,10 +25,11 @@ use Rattle.spec.specs.Graph.{carry, last_link}
 use Rattle.spec.specs.Heights.{height_unique, height-rises}
 use Rattle.spec.specs.Links.{linked, Linked, fits_elim, resolved-named, source_named}
 use Rattle.spec.specs.HeightEquations.{Sized, inside, height_is}
-use Rattle.spec.specs.Changes.{link_res, settled_height, drain-stays, drain_was, drain_sized, drain-height, mark-height}
+use Rattle.spec.proofs.Changes.{link_res, settled_height, drain-stays, drain_was, drain_sized, drain-height, mark-height}
 use Rattle.spec.specs.WellFormed.{Leads, Wf, tame, counts_as_started_elim, counts_as_started_intro}
-use Rattle.spec.specs.Refusals.{Ends, refuse-ends, if_ends, then-ends, Sound, refuse_sound, then_sound, is_other, other_is, place-ends, anchors_sound, tested_sound, outlook_sound}
-use Rattle.spec.specs.Walk.{not_good, if_good, then-good, refuse-good, Anchored, Tested, Rising, rising_less, walk_rising, test_good}
+use Rattle.spec.proofs.Refusals.{Ends, refuse-ends, if_ends, then-ends, Sound, refuse_sound, then_sound, is_other, other_is, place-ends, anchors_sound, tested_sound, outlook_sound}
+use Rattle.spec.specs.Walk.{not_good, if_good, then-good, refuse-good, Anchored, Tested, Rising, rising_less}
+use Rattle.spec.proofs.Walk.{walk_rising, test_good}
 
 -- ---- progress, memory and rounds
 

@@ -20,15 +20,17 @@ use Rattle.spec.specs.History.{limit, history, linked_counts, lists_ok, in_order
 use Rattle.spec.specs.Calls.{anchors, refused, Outcome, finish, StartArgs, do_start, add_round, do_round, new_point, name_at, do_name, with_path_heights, resolved_as, resolve_at, do_resolve, set_top, certify_at, do_certify, commit_end, do_commit, do_outlook, drained, new_bottom, Call, start, reset_all, round, name, resolve, certify, gap_question, commit, outlook, remove, drop, perform}
 use Rattle.spec.specs.Links.{linked, resolved-named}
 use Rattle.spec.specs.HeightEquations.{inside}
-use Rattle.spec.specs.Changes.{res_off, res_link, drain-gone, drain-stays, drain_was, drain-link}
-use Rattle.spec.specs.Order.{history-needed, history_named}
-use Rattle.spec.specs.OrderInRound.{order_mem}
-use Rattle.spec.specs.Walk.{find-some, Anchored, Rising, rising_less, Tested, test_good}
-use Rattle.spec.specs.Accepted.{finish_store, gap_question_way, remove_way, drop_way, round_way, Naming, name_way, Resolving, resolve_way, certify_way}
+use Rattle.spec.proofs.Changes.{res_off, res_link, drain-gone, drain-stays, drain_was, drain-link}
+use Rattle.spec.specs.Order.{history-needed}
+use Rattle.spec.proofs.Order.{history_named}
+use Rattle.spec.proofs.OrderInRound.{order_mem}
+use Rattle.spec.specs.Walk.{find-some, Anchored, Rising, rising_less, Tested}
+use Rattle.spec.proofs.Walk.{test_good}
+use Rattle.spec.proofs.Accepted.{finish_store, gap_question_way, remove_way, drop_way, round_way, Naming, name_way, Resolving, resolve_way, certify_way}
 use Rattle.spec.specs.Demand.{InList}
 use Rattle.spec.specs.Records.{Event, passed, every-commit}
-use Rattle.spec.specs.Preservation.{name_at_lem, name_off, name-link, name_kept, round_kept, res_kept, cert_kept, drain_kept, numbers_kept, rising_mark, anchors_rising, start-same, new_bottom_lem}
-use Rattle.spec.specs.Invariant.{Inv, floor, Next, mark_inv}
+use Rattle.spec.proofs.Preservation.{name_at_lem, name_off, name-link, name_kept, round_kept, res_kept, cert_kept, drain_kept, numbers_kept, rising_mark, anchors_rising, start-same, new_bottom_lem}
+use Rattle.spec.proofs.Invariant.{Inv, floor, Next, mark_inv}
 
 -- ---- changes of the store
 

@@ -17,10 +17,10 @@ use Rattle.spec.specs.Calls.{Answer, anchors, refused, Outcome, add_round, do_ro
 use Rattle.spec.specs.Links.{resolved-named}
 use Rattle.spec.specs.WellFormed.{Wf, counts_as_started_elim}
 use Rattle.spec.specs.Walk.{not_good, if_good, then-good, refuse-good, refuse_back, find-some, place_at_lem}
-use Rattle.spec.specs.Accepted.{finish_store, round_way, place-good, name_way, resolve_way, certify_way}
+use Rattle.spec.proofs.Accepted.{finish_store, round_way, place-good, name_way, resolve_way, certify_way}
 use Rattle.spec.specs.Demand.{after, Arrives, AllArrive, SecondHalf}
-use Rattle.spec.specs.Preservation.{anchors_rising, not_reset, perform_kept, call-perform}
-use Rattle.spec.specs.Extension.{re_top, Late, late_refl, late_trans, same-resolved, find-late, walk-late, commit-late}
+use Rattle.spec.proofs.Preservation.{anchors_rising, not_reset, perform_kept, call-perform}
+use Rattle.spec.proofs.Extension.{re_top, Late, late_refl, late_trans, same-resolved, find-late, walk-late, commit-late}
 
 -- ---- what arrives
 

@@ -19,18 +19,20 @@ use Rattle.spec.specs.Calls.{done, Outcome, finish, StartArgs, start_ok, memory_
 use Rattle.spec.specs.Graph.{snoc, path_down}
 use Rattle.spec.specs.Links.{down, linked, resolved-named}
 use Rattle.spec.specs.WellFormed.{Wf}
-use Rattle.spec.specs.Order.{history_elim, history_named, history-few}
-use Rattle.spec.specs.OrderInRound.{order_mem, order_once, order_length, order_sum}
+use Rattle.spec.specs.Order.{history-few}
+use Rattle.spec.proofs.Order.{history_elim, history_named}
+use Rattle.spec.proofs.OrderInRound.{order_mem, order_once, order_length, order_sum}
 use Rattle.spec.specs.Walk.{same_id_lem, id_same}
-use Rattle.spec.specs.Accepted.{finish_store, name_way, resolve_way, certify_way}
+use Rattle.spec.proofs.Accepted.{finish_store, name_way, resolve_way, certify_way}
 use Rattle.spec.specs.Demand.{InList, AllInList, History, read_records, finished, wrote, histories, Given, accepted, gave, resolutions, Edge, Exact, AllExact, Writes, StartRefused, AsSaid, AllAsSaid, FirstHalf, Demand3, paid, Summed, SumsFollow}
-use Rattle.spec.specs.Demand3Second.{commit_is, second_half}
-use Rattle.spec.specs.Records.{Fits, links-length, drawn-ids, Event, passed, bytes_of, every-commit, commit_buffer, Readable, read_all, read_as}
-use Rattle.spec.specs.Preservation.{begun_kept, call-perform, start-begun}
-use Rattle.spec.specs.Invariant.{Inv, hist_paths, history_is}
-use Rattle.spec.specs.Demand3First.{ids, all_ids, Right, AllRight, split_max, finishes_by, commit_by, finishes, events_of, Keeps, call-keeps}
-use Rattle.spec.specs.Demand3Calls.{Frame, frame_mark, changes_point, steady, anchor_id, commit_writes, start-refused, perform_retains, begun_retains}
-use Rattle.spec.specs.Demand3Paths.{given_of, given, Log, edge_down, path_under, edge_link, ids→places, places→ids, numbers_log, round_log, cert_log, mark_log, drain_log, name_log, res_log, res_first}
+use Rattle.spec.proofs.Demand3Second.{commit_is, second_half}
+use Rattle.spec.specs.Records.{Fits, drawn-ids, Event, passed, bytes_of, every-commit, Readable, read_as}
+use Rattle.spec.proofs.Records.{links-length, commit_buffer, read_all}
+use Rattle.spec.proofs.Preservation.{begun_kept, call-perform, start-begun}
+use Rattle.spec.proofs.Invariant.{Inv, hist_paths, history_is}
+use Rattle.spec.proofs.Demand3First.{ids, all_ids, Right, AllRight, split_max, finishes_by, commit_by, finishes, events_of, Keeps, call-keeps}
+use Rattle.spec.proofs.Demand3Calls.{Frame, frame_mark, changes_point, steady, anchor_id, commit_writes, start-refused, perform_retains, begun_retains}
+use Rattle.spec.proofs.Demand3Paths.{given_of, given, Log, edge_down, path_under, edge_link, ids→places, places→ids, numbers_log, round_log, cert_log, mark_log, drain_log, name_log, res_log, res_first}
 
 -- ---- one history
 

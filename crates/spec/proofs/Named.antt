@@ -19,13 +19,13 @@ use Rattle.spec.specs.Calls.{Answer, refused, done, number_of, Outcome, do_commi
 use Rattle.spec.specs.HeightEquations.{inside}
 use Rattle.spec.specs.WellFormed.{Wf}
 use Rattle.spec.specs.Walk.{same_id_lem, id_same, find-some}
-use Rattle.spec.specs.Refusals.{Sound, is_other, other_is, tested_sound}
+use Rattle.spec.proofs.Refusals.{Sound, is_other, other_is, tested_sound}
 use Rattle.spec.specs.Outlook.{commit_was}
-use Rattle.spec.specs.Accepted.{finish_store, Naming, name_way, resolve_way, certify_way}
+use Rattle.spec.proofs.Accepted.{finish_store, Naming, name_way, resolve_way, certify_way}
 use Rattle.spec.specs.Demand.{InList, AllInList, after, is_done}
-use Rattle.spec.specs.Preservation.{FineStop, commit_sound, not_reset, name_at_lem, name_off, begun_kept, perform_kept, call-perform, start-begun}
-use Rattle.spec.specs.Demand3Calls.{changes_point, steady}
-use Rattle.spec.specs.Demand3Paths.{LogOf, numbers_log, round_log, drain_log, name_bottom}
+use Rattle.spec.proofs.Preservation.{FineStop, commit_sound, not_reset, name_at_lem, name_off, begun_kept, perform_kept, call-perform, start-begun}
+use Rattle.spec.proofs.Demand3Calls.{changes_point, steady}
+use Rattle.spec.proofs.Demand3Paths.{LogOf, numbers_log, round_log, drain_log, name_bottom}
 
 -- ---- the look-up's laws
 

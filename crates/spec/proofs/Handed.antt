@@ -13,11 +13,13 @@ use Rattle.spec.specs.Calls.{anchors, Outcome, commit_end, do_commit, commit, ca
 use Rattle.spec.specs.Links.{resolved-named}
 use Rattle.spec.specs.WellFormed.{Wf}
 use Rattle.spec.specs.Order.{history-few}
-use Rattle.spec.specs.OrderInRound.{order_length}
-use Rattle.spec.specs.Walk.{Rising, tested_back, test_good}
-use Rattle.spec.specs.Preservation.{mark_kept, rising_mark, anchors_rising}
-use Rattle.spec.specs.Demand3Second.{handed-anchors, commit_is, commit-answer}
-use Rattle.spec.specs.Records.{Event, passed, bytes_of, every-commit, commit_buffer}
+use Rattle.spec.proofs.OrderInRound.{order_length}
+use Rattle.spec.specs.Walk.{Rising, tested_back}
+use Rattle.spec.proofs.Walk.{test_good}
+use Rattle.spec.proofs.Preservation.{mark_kept, rising_mark, anchors_rising}
+use Rattle.spec.proofs.Demand3Second.{handed-anchors, commit_is, commit-answer}
+use Rattle.spec.specs.Records.{Event, passed, bytes_of, every-commit}
+use Rattle.spec.proofs.Records.{commit_buffer}
 use Rattle.spec.specs.Outlook.{tests, supposed, none-some, Listed}
 
 -- the anchors of a chain, each with the store and the lists that those before it left

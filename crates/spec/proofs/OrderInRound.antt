@@ -17,9 +17,10 @@ use Rattle.spec.specs.History.{lowest, Need, anchor, hand, marks, needed, in_his
 use Rattle.spec.specs.Inspect.{places_in}
 use Rattle.spec.specs.Links.{down}
 use Rattle.spec.specs.HeightEquations.{inside}
-use Rattle.spec.specs.Sweep.{marked→need, needed_is}
+use Rattle.spec.proofs.Sweep.{marked→need, needed_is}
 use Rattle.spec.specs.WellFormed.{Wf}
-use Rattle.spec.specs.Order.{need_named, history_named, history_elim, history_intro, history_once}
+use Rattle.spec.specs.Order.{need_named}
+use Rattle.spec.proofs.Order.{history_named, history_elim, history_intro, history_once}
 use Rattle.spec.specs.Inspection.{LowerAt, digest_elim, digest_rises, round-few}
 
 -- ---- lists of places

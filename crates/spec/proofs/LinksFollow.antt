@@ -12,15 +12,17 @@ use Rattle.spec.specs.Store.{Store, id_at, round_at}
 use Rattle.spec.specs.Paths.{LinkedTo}
 use Rattle.spec.specs.History.{lowest, in_history, rounds_of, in_order, sum_bytes, behind, word_for, link_bytes, tail_bytes}
 use Rattle.spec.specs.Links.{linked, fits_intro}
-use Rattle.spec.specs.Order.{history_elim, history_intro, history_named}
-use Rattle.spec.specs.OrderInRound.{drawn_elim}
-use Rattle.spec.specs.Behind.{Rather, Behind, behind_is, behind-own, word-own, word_is}
-use Rattle.spec.specs.Extension.{fits_in}
+use Rattle.spec.proofs.Order.{history_elim, history_intro, history_named}
+use Rattle.spec.proofs.OrderInRound.{drawn_elim}
+use Rattle.spec.specs.Behind.{Rather, Behind, behind-own, word-own}
+use Rattle.spec.proofs.Behind.{behind_is, word_is}
+use Rattle.spec.proofs.Extension.{fits_in}
 use Rattle.spec.specs.Demand.{read_id, History, Given, Edge, ToldLink, read_links, LinkBehind, ToldOf, AllToldOf, LinksTold, LinksFollow}
-use Rattle.spec.specs.Records.{Fits, read_id_lem, as_read_lem, id-length, word-length, link-length, link-shape, drawn-ids, Event, read_as}
-use Rattle.spec.specs.Demand3First.{ids, Right}
-use Rattle.spec.specs.Demand3Paths.{given_of, Log, edge_link}
-use Rattle.spec.specs.Demand3.{New, ids_mem, fits-named, places_of, after-start}
+use Rattle.spec.specs.Records.{Fits, read_id_lem, as_read_lem, id-length, link-shape, drawn-ids, Event, read_as}
+use Rattle.spec.proofs.Records.{word-length, link-length}
+use Rattle.spec.proofs.Demand3First.{ids, Right}
+use Rattle.spec.proofs.Demand3Paths.{given_of, Log, edge_link}
+use Rattle.spec.proofs.Demand3.{New, ids_mem, fits-named, places_of, after-start}
 
 -- ---- read back
 

@@ -16,11 +16,12 @@ use Rattle.spec.specs.History.{after_lists, record_bytes, test_anchor, set_commi
 use Rattle.spec.specs.Inspect.{inspected, memory_after, remove_bytes}
 use Rattle.spec.specs.Calls.{done, anchors, refused, Outcome, finish, StartArgs, start_ok, memory_kept, begun, do_start, add_round, do_round, name_at, do_name, with_path_heights, resolve_at, do_resolve, certify_at, do_certify, do_gap_question, commit_end, do_commit, do_outlook, drained, new_bottom, removing, do_remove, do_drop, Call, start, reset_all, round, name, resolve, certify, gap_question, commit, outlook, remove, drop as drop_to, perform}
 use Rattle.spec.specs.WellFormed.{Wf, counts_as_started_intro}
-use Rattle.spec.specs.Accepted.{finish_store, gap_question_way, remove_way, drop_way, round_way, name_way, resolve_way, certify_way}
+use Rattle.spec.proofs.Accepted.{finish_store, gap_question_way, remove_way, drop_way, round_way, name_way, resolve_way, certify_way}
 use Rattle.spec.specs.Demand.{InList, History, read_records, finished, test_after, Stops, OneForEach, Writes, StartRefused, is_done, adds, drains, Retains}
-use Rattle.spec.specs.Records.{Event, passed, room-left, every-commit, commit_buffer}
-use Rattle.spec.specs.Preservation.{start-same, new_bottom_lem}
-use Rattle.spec.specs.Demand3First.{finishes_by, commit_by, finishes, outlook_store}
+use Rattle.spec.specs.Records.{Event, passed, room-left, every-commit}
+use Rattle.spec.proofs.Records.{commit_buffer}
+use Rattle.spec.proofs.Preservation.{start-same, new_bottom_lem}
+use Rattle.spec.proofs.Demand3First.{finishes_by, commit_by, finishes, outlook_store}
 
 -- ---- what a commit keeps
 
