@@ -3,6 +3,7 @@
 // round, then with the lowest digest". One pass over the history's positions, downwards: rounds fall, and inside a round digests. So the
 // first round that links to a point is the highest, and the last of that round has the lowest digest.
 #![tactic(auto)]
+
 ghost use Rattle.std.specs.Prelude.{◌≡◌, ◌+◌, ◌*◌, ◌-◌, ◌<◌, ◌≤◌, length};
 ghost use Rattle.back_history.specs.Model.{Range};
 ghost use Rattle.back_behind.specs.Model.{goes_before, note_at, note_links, note_down, sources, Sourced};

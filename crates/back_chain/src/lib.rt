@@ -1,6 +1,7 @@
 // Origin: dag/commit/back.rs (anchor_chain), dag/commit/mod.rs (commit up to the chain, filter, EnqueuedAnchor).
 // The tests of a trigger, and the chain of anchors that it yields.
 #![tactic(auto)]
+
 ghost use Rattle.std.specs.Prelude.{◌≡◌, ◌+◌, ◌*◌, ◌-◌, ◌<◌, ◌≤◌, [], true, length};
 ghost use Rattle.spec.specs.Rules.{counts_as_started};
 ghost use Rattle.spec.specs.Chain.{then, check_oldest, anchors_of};

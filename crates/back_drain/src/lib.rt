@@ -1,6 +1,7 @@
 // Origin: dag/commit/back.rs (drain_upto).
 // The rounds below a new bottom go: their points' places are zeroed and free again.
 #![tactic(auto)]
+
 ghost use Rattle.std.specs.Prelude.{◌≡◌, ◌*◌, ◌≤◌, length};
 ghost use Rattle.models.specs.Tables.{Inside};
 ghost use Rattle.dag_round_order.specs.Shift.{drained};

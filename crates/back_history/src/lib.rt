@@ -3,6 +3,7 @@
 // are not committed, by rising position. An outlook supposes that older anchors have been committed, without a mark in the tables: the
 // places `taken` by them count as committed. A commit has no such place.
 #![tactic(auto)]
+
 ghost use Rattle.std.specs.Prelude.{◌≡◌, ◌+◌, ◌*◌, ◌-◌, ◌<◌, ◌≤◌, length};
 ghost use Rattle.laws.specs.Scan.{any, those};
 ghost use Rattle.back_history.specs.Model.{limit_of, missing, put, marked, is_uncommitted, swept, marks, Range};

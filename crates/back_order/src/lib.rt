@@ -2,6 +2,7 @@
 // The order inside a round: how many points of a round an anchor needs, their places by rising digest, and whether the lent lists
 // say an order of each round.
 #![tactic(auto)]
+
 ghost use Rattle.std.specs.Prelude.{◌≡◌, true, ◌+◌, ◌*◌, ◌-◌, ◌<◌, ◌≤◌, length, get_or, take, drop};
 ghost use Rattle.laws.specs.Lists.{weigh};
 ghost use Rattle.spec.specs.History.{down_from, each_once, lists_ok};

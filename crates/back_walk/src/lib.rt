@@ -1,6 +1,7 @@
 // Origin: dag/commit/back.rs (anchor_chain, chained_proof, ready_valid_point), dag/commit/mod.rs (EnqueuedAnchor).
 // One round of the walk from a trigger down to its anchors.
 #![tactic(auto)]
+
 ghost use Rattle.std.specs.Prelude.{◌≡◌, ◌+◌, ◌*◌, ◌<◌};
 ghost use Rattle.models.specs.Tables.{Used};
 ghost use Rattle.back_walk.specs.Model.{judge_of, needed, proof_at, anchor_at, used_at, step_at, Walkable, Linked};

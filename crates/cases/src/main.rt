@@ -1,6 +1,7 @@
 // Origin: none.
 // Cases of document 01 that go through the code. Each line written is what one call answered, or a number that it left.
 #![tactic(auto)]
+
 use commit_answer::answer::Answer;
 use commit_points::certify::certify;
 use commit_points::name::add_dependency;

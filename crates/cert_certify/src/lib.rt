@@ -2,6 +2,7 @@
 // A certified point becomes a top. A height that rose is handed on along the links: each place that rises is queued once, and no other
 // place is touched.
 #![tactic(auto)]
+
 ghost use Rattle.std.specs.Prelude.{◌≡◌, ◌+◌, ◌*◌, ◌<◌, ◌≤◌, length};
 ghost use Rattle.models.specs.Tables.{target_at};
 ghost use Rattle.tables_heights.specs.View.{height_at};

@@ -1,6 +1,7 @@
 // Origin: dag/commit/mod.rs (commit).
 // The call commit: the chain of a trigger's anchors, then each of them, oldest first.
 #![tactic(auto)]
+
 ghost use Rattle.std.specs.Prelude.{◌≡◌, true, ◌≤◌};
 ghost use Rattle.spec.specs.Calls as calls;
 ghost use Rattle.spec.specs.Rules.{counts_as_started};

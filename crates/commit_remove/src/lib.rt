@@ -1,6 +1,7 @@
 // Origin: dag/commit/mod.rs (remove_committed).
 // Committed rounds are removed: the inspector reports what their peers did, then they go.
 #![tactic(auto)]
+
 ghost use Rattle.std.specs.Prelude.{◌≡◌};
 ghost use Rattle.spec.specs.Calls as calls;
 ghost use Rattle.spec.specs.Calls.{beyond};

@@ -1,6 +1,7 @@
 // Origin: dag/commit/mod.rs (is_once_after_gap, extend_from_ahead, drop_upto), dag/commit/back.rs (extend_from_front, drain_upto).
 // The gap question, a round added, rounds dropped.
 #![tactic(auto)]
+
 ghost use Rattle.std.specs.Prelude.{◌≡◌, ◌≤◌, []};
 ghost use Rattle.spec.specs.Calls as calls;
 ghost use Rattle.commit_answer.specs.Answer.{Did, tables, left};

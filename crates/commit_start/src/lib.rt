@@ -1,6 +1,7 @@
 // Origin: dag/commit/mod.rs (init, reset), dag/commit/back.rs (init), dag/front.rs (DagFront::new).
 // The calls start and reset.
 #![tactic(auto)]
+
 ghost use Rattle.std.specs.Prelude.{◌≡◌, cond, length, []};
 ghost use Rattle.spec.specs.Rules.{counts_as_started};
 ghost use Rattle.spec.specs.Calls as calls;

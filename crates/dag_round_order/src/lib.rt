@@ -2,6 +2,7 @@
 // `order` holds the used places in its first n cells. A place is put in, the first are taken out, a free one is found, a point is written,
 // the used places are marked; the positions of a round are found (span).
 #![tactic(auto)]
+
 ghost use Rattle.std.specs.Prelude.{◌≡◌, ◌+◌, ◌*◌, ◌/◌, ◌<◌, ◌≤◌, length};
 ghost use Rattle.dag_round_keys.specs.Key.{key};
 ghost use Rattle.dag_round_keys.specs.Sorted.{Sorted, place_of};

@@ -1,6 +1,7 @@
 // Origin: dag/dag_round.rs (add_dependency, view).
 // An id is tested, a point is found by it, and a point that may be named is put into the lowest free place, with nothing but its id.
 #![tactic(auto)]
+
 ghost use Rattle.std.specs.Prelude.{◌≡◌, ◌+◌, ◌*◌, ◌<◌, ◌≤◌, length};
 ghost use Rattle.laws.specs.Scan.{those};
 ghost use Rattle.models.specs.Refusal.{numbered};

@@ -1,6 +1,7 @@
 // Origin: none.
 // Solved games of keepers and spoilers, a line each, and games that are refused.
 #![tactic(auto)]
+
 use game::{Reach, reach_of};
 use models::tables::{PEER_LAST, PEER_SLOTS};
 

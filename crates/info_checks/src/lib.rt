@@ -1,6 +1,7 @@
 // Origin: models/point/info.rs (PointInfo), models/dag_point.rs (DagPoint).
 // What a resolution gives is tested before anything is written: its form (11), then that its links lead to named points (12).
 #![tactic(auto)]
+
 ghost use Rattle.std.specs.Prelude.{◌≡◌, ◌+◌, ◌*◌, ◌≤◌, eqb, length, ◌&&◌};
 ghost use Rattle.spec.specs.Rules.{peers_ascend, refs_ok, well_formed};
 ghost use Rattle.models.specs.Info.{refs_of, info_of};

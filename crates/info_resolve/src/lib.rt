@@ -1,6 +1,7 @@
 // Origin: models/cert.rs (set_deps), models/point/info.rs (PointInfo).
 // A resolution: its tests, then its words and flags, and the point's height handed on.
 #![tactic(auto)]
+
 ghost use Rattle.std.specs.Prelude.{◌≡◌, ◌+◌, ◌*◌, ◌<◌, ◌≤◌, length, get_or};
 ghost use Rattle.models.specs.Refusal.{numbered};
 ghost use Rattle.models.specs.Tables.{round_at};

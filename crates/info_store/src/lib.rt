@@ -1,6 +1,7 @@
 // Origin: models/point/info.rs (PointInfo), models/dag_point.rs (DagPoint).
 // What a resolution gives is written into the place of its point, each link with the place that it leads to.
 #![tactic(auto)]
+
 ghost use Rattle.std.specs.Prelude.{◌≡◌, true, ◌+◌, ◌-◌, ◌*◌, ◌<◌, ◌≤◌, length};
 ghost use Rattle.spec.specs.Store.{bit};
 ghost use Rattle.spec.specs.Rules.{well_formed};

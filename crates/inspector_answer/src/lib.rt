@@ -2,6 +2,7 @@
 // The answer of a remove, as bytes: the stats of the peers (peers), then the number of events and the events, first those of the
 // points' faults (faults).
 #![tactic(auto)]
+
 ghost use Rattle.std.specs.Prelude.{◌≡◌, true, ◌++◌, ◌≤◌, length};
 ghost use Rattle.laws.specs.Bytes.{written};
 ghost use Rattle.laws.specs.Lists.{joined};

@@ -1,6 +1,7 @@
 // Origin: dag/commit/inspector.rs (take_events).
 // The faults of the points of a round, and of rounds.
 #![tactic(auto)]
+
 ghost use Rattle.std.specs.Prelude.{◌≡◌, ℕ, ◌+◌, ◌*◌, ◌-◌, ◌<◌, ◌≤◌, length};
 ghost use Rattle.laws.specs.Lists.{up_to};
 ghost use Rattle.spec.specs.Inspect.{event_bytes};

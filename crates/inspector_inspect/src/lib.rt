@@ -1,6 +1,7 @@
 // Origin: dag/commit/inspector.rs (inspect, last_round_data_map).
 // The rounds that a remove drains: the rows that each meets and leaves, what one reports (round), and all that is found at one (inspect).
 #![tactic(auto)]
+
 ghost use Rattle.std.specs.Prelude.{◌≡◌, true, ◌≤◌, length};
 ghost use Rattle.spec.specs.Rules.{counts_as_started};
 ghost use Rattle.spec.specs.Inspection.{first_shown};

@@ -2,6 +2,7 @@
 // Which signers of the rows' previous points are reported, and by which rows. The rows are those of the round below, as `inspector_rows`
 // fills them; the places are those of the round's trusted points.
 #![tactic(auto)]
+
 ghost use Rattle.std.specs.Prelude.{◌≡◌, ℕ, ◌+◌, ◌*◌, ◌<◌, ◌≤◌, length, get_or};
 ghost use Rattle.models.specs.Tables.{author_at};
 ghost use Rattle.models.specs.Ids.{Placed};

@@ -3,6 +3,7 @@
 // A row has 11 words: author, digest (four), previous, previous digest (four), the peers that signed the previous point and did not include
 // it. Previous is 0 without a previous point; of a row made from a place it is the target word of the link to that point.
 #![tactic(auto)]
+
 ghost use Rattle.std.specs.Prelude.{◌≡◌, ℕ, ◌+◌, ◌*◌, ◌-◌, ◌<◌, ◌≤◌, length, get_or};
 ghost use Rattle.laws.specs.Peers.{with_peer};
 ghost use Rattle.models.specs.Digest.{digest_at};

@@ -1,6 +1,7 @@
 // Origin: dag/commit/inspector.rs (inspect, take_stats), dag/commit/mod.rs (remove_committed).
 // The rounds that a remove inspects: the counters of their peers, and the references that signers owe.
 #![tactic(auto)]
+
 ghost use Rattle.std.specs.Prelude.{◌≡◌, true, ◌+◌, ◌<◌, ◌≤◌, length};
 ghost use Rattle.spec.specs.Rules.{counts_as_started};
 ghost use Rattle.spec.specs.Inspect.{no_inclusions, shown, over, event_bytes};

@@ -2,6 +2,7 @@
 // The trusted points of a round as rows of 11 words, as `inspector_references` reads them: filled from the tables or from the state's
 // memory, and written back as memory.
 #![tactic(auto)]
+
 ghost use Rattle.std.specs.Prelude.{◌≡◌, ℕ, ◌+◌, ◌*◌, ◌^◌, ◌<◌, ◌≤◌, length, get_or};
 ghost use Rattle.models.specs.Ids.{Placed};
 ghost use Rattle.inspector_references.specs.Referring.{row_author, row_peers};

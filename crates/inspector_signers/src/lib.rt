@@ -2,6 +2,7 @@
 // Kind 5, the references that a signer owes: the ids of its own points, of the memory's round first, then the ids of the proofs.
 // The memory's entries are rows of 11 words: author, digest (four), and six that aren't read here.
 #![tactic(auto)]
+
 ghost use Rattle.std.specs.Prelude.{◌≡◌, [], ◌∷◌, true, false, ◌+◌, ◌*◌, ◌≤◌, ◌<◌, length};
 ghost use Rattle.spec.specs.Ids.{id_bytes};
 ghost use Rattle.spec.specs.Inspect.{event_bytes};

@@ -1,6 +1,7 @@
 // Origin: none.
 // The lines of a play (02: N5), put into a lent buffer. Each function returns the next offset.
 #![tactic(auto)]
+
 pub mod end;
 pub mod line;
 mod put;

@@ -3,6 +3,7 @@
 // (dag_point), what a call is refused with (refusal), the words of the lent tables (tables) and of a place in them (place), sizes of answers
 // (output).
 #![tactic(auto)]
+
 pub mod cert;
 pub mod dag_point;
 pub mod info;

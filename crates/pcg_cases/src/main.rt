@@ -1,6 +1,7 @@
 // Origin: none.
 // Draws of a few digests, a line each, and products modulo 2^128.
 #![tactic(auto)]
+
 use models::parts::Digest;
 use models::tables::DIGEST_WORDS;
 use pcg::pcg::{Pcg, draw, seed};

@@ -1,4 +1,5 @@
 // Origin: none.
 // Plays recorded calls: reads a record, makes its call, and says what the call answered.
 #![tactic(auto)]
+
 pub mod one;

@@ -1,6 +1,7 @@
 // Origin: none.
 // An input of any length played: step plays one record, part those of a buffer, input fills the buffer again.
 #![tactic(auto)]
+
 pub mod input;
 pub mod part;
 pub mod step;

@@ -1,6 +1,7 @@
 // Origin: none.
 // Plays the trace of standard input and writes a line for each anchor record and each refusal, then one for the rounds.
 #![tactic(auto)]
+
 use lines::end::put_end;
 use models::tables::{KEY_WORDS, LINK_WORDS};
 use play_input::input::play_input;

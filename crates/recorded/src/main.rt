@@ -2,6 +2,7 @@
 // Plays recorded runs from standard input, each on tables of zeros with 20 places and an answer buffer of 4,096 bytes. A run is its
 // length (4 bytes, at most 65,536) and that many bytes of recorded calls.
 #![tactic(auto)]
+
 ghost use Rattle.std.specs.Prelude.{◌≤◌, length};
 
 use commit_state::back::unstarted;

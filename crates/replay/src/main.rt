@@ -2,6 +2,7 @@
 // Plays the recorded calls of standard input and writes a line for what each answered, then lines for the state and the points.
 // Its argument is the number of places of the tables, 1 to 256; without one there are 20.
 #![tactic(auto)]
+
 ghost use Rattle.std.specs.Prelude.{◌≤◌, ◌≡◌};
 ghost use Rattle.replay.specs.Places.{most_places, number_said, places_said};
 

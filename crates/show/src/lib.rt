@@ -1,6 +1,7 @@
 // Origin: none.
 // The bench's lines: of what each call answered, then of the state and the points.
 #![tactic(auto)]
+
 pub mod anchors;
 pub mod calls;
 pub mod looks;

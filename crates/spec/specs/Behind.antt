@@ -16,6 +16,7 @@ use Rattle.spec.specs.Links.{Linked, linked, fits_elim, fits_intro, dist_pos, do
 use Rattle.spec.specs.HeightEquations.{Sized, inside}
 use Rattle.spec.specs.WellFormed.{Wf}
 use Rattle.spec.specs.Order.{falls_elim, falls-total, falls_trans, history-needed}
+
 -- ---- the kind of a link
 
 -- 01: "Includes lead one round down, witness two": the kind follows from the rounds, so no point links to another by both

@@ -29,6 +29,7 @@ use Rattle.spec.specs.Rules.{is_peer, version, versions}
 use Rattle.spec.specs.Calls.{Outcome, refused, done, new_bottom, drained, removing, do_remove}
 use Rattle.spec.specs.WellFormed.{Wf}
 use Rattle.spec.specs.Order.{Before, strict}
+
 -- ---- what the look-up says of a version
 
 -- a test of resolved points holds of those that are resolved

@@ -28,6 +28,7 @@ use Rattle.spec.specs.WellFormed.{Wf}
 use Rattle.spec.specs.Order.{need_named, falls-total, falls_trans}
 use Rattle.spec.specs.Records.{id-length}
 use Rattle.spec.specs.Walk.{not_good, then-good, refuse_back, checked_at, checked_back, Anchored, Rising, Tested, tested-good}
+
 -- ---- lists put in order, and some of their elements left out
 
 pub those-keep : (n : ℕ) (f g : ℕ → Bool) → ((i : ℕ) → i < n → g i ≡ true → f i ≡ true) → those n g ≡ keep g (those n f)

@@ -16,6 +16,7 @@ use Rattle.spec.specs.Store.{Store, id_at, round_at}
 use Rattle.spec.specs.History.{needed, linked_in}
 use Rattle.spec.specs.WellFormed.{Wf}
 use Rattle.spec.specs.Inspection.{LowerAt}
+
 -- ---- definitions
 
 -- "the needed point .. not yet picked": q is one of round r; done: the places picked so far

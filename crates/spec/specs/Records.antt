@@ -16,6 +16,7 @@ use Rattle.spec.specs.Chain.{Refusal, Out, bad, good, EnqueuedAnchor}
 use Rattle.spec.specs.History.{history, linked_counts, lists_ok, is_executable, prev_anchor, rounds_of, drawn, in_order, after_lists, summed, sum_bytes, links_by, behind, word_for, link_bytes, tail_bytes, record_bytes, test_anchor, dequeued, Finished, commit_all}
 use Rattle.spec.specs.Demand.{read_id, read_ids, History, tail_size, read_records}
 use Rattle.spec.specs.WellFormed.{Wf}
+
 -- ---- ids
 
 -- the id fits its 37 bytes

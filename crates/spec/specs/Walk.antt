@@ -17,6 +17,7 @@ use Rattle.spec.specs.Store.{Store, Look, resolved_at, named_at, never, id_at, r
 use Rattle.spec.specs.Paths.{height, certified}
 use Rattle.spec.specs.Chain.{Refusal, number, conflict, Out, bad, good, then, refuse, usable_in_walk, is_committable, checked_as, checked_by, checked, ready_valid_point, place_of, EnqueuedAnchor, Onward, enqueue, to_anchor, to_previous, at_proof, at_used, visit, walk}
 use Rattle.spec.specs.History.{needed, in_history, first_fault, faults, rounds_missing, any_uncertified, tested, gap_pending, lists_ok, linked_counts, test_anchor}
+
 -- ---- tests that came out well
 
 pub not_good : {A : Type 0} (r : Refusal) (l : A) → ◌≡◌ {A = Out A} (bad r) (good l) → ⊥

@@ -2,6 +2,7 @@
 // The nine counters of a peer, their sum, and the score that document 01 adds. The Rust's `last_round` stands beside the counters, in
 // MempoolPeerStats (peer_stats). From which round on peers are counted is in ranges.
 #![tactic(auto)]
+
 ghost use Rattle.std.specs.Prelude.{◌≡◌, ◌+◌, ◌*◌, ◌<◌, ◌≤◌, min};
 ghost use Rattle.spec.specs.Inspect.{band, weight, counter_list, score};
 ghost use Rattle.stats.specs.Counters.{counters_of, no_counters, merge_of, with_skipped};

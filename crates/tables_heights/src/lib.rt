@@ -1,6 +1,7 @@
 // Origin: models/cert.rs (max_height_published).
 // The stored heights tested in one pass over the links.
 #![tactic(auto)]
+
 ghost use Rattle.std.specs.Prelude.{◌≡◌, ◌+◌, ◌*◌, ◌-◌, ◌/◌, ◌<◌, ◌≤◌, length};
 ghost use Rattle.tables_heights.specs.View.{own_of};
 ghost use Rattle.tables_heights.specs.Model.{raised, pushed, pushed_one, pushed_all, agrees, heights_hold};

@@ -2,6 +2,7 @@
 // At most four points for each author and round, counted in one pass; the ids of the used places as naming tests them: a retained round,
 // a peer of that round.
 #![tactic(auto)]
+
 ghost use Rattle.std.specs.Prelude.{◌≡◌, ◌+◌, ◌*◌, ◌<◌, ◌≤◌, length, get_or, ltb};
 ghost use Rattle.tables_ids.specs.Model.{cell_of, cell_at, counted, versions_hold, Tallied};
 ghost use Rattle.models.specs.Tables.{place_at, Inside};

@@ -1,6 +1,7 @@
 // Origin: none.
 // The stored links and words of the used places.
 #![tactic(auto)]
+
 ghost use Rattle.std.specs.Prelude.{◌≡◌, ℕ, ◌+◌, ◌*◌, ◌-◌, ◌/◌, ◌%◌, ◌<◌, ◌≤◌, length};
 ghost use Rattle.tables_links.specs.Links.{fits, link_right, links_right};
 ghost use Rattle.tables_links.specs.Bare.{empty_from, bare_at};

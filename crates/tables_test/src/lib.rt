@@ -1,6 +1,7 @@
 // Origin: none.
 // Whether the tables count as started: document 01, 'Forms of the Rust', first point. The Rust has no tables to test.
 #![tactic(auto)]
+
 ghost use Rattle.std.specs.Prelude.{◌≡◌, ◌*◌, ◌<◌, ◌≤◌, length, eqb};
 ghost use Rattle.models.specs.Tables.{Inside};
 ghost use Rattle.spec.specs.Rules.{places_ok};

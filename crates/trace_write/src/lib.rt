@@ -2,6 +2,7 @@
 // Calls written as records of a trace: what all records share (head), the calls of rounds (rounds), of points (points) and a resolution
 // (resolve).
 #![tactic(auto)]
+
 pub mod head;
 pub mod points;
 pub mod resolve;

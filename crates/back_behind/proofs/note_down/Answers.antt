@@ -12,13 +12,13 @@ unfolding note_down
 loop-p-init c = (c.requires.range.0, omega arith, down_none _ _ _, c.requires.keys_len.2)
 
 pub place-q-requires : goal.place-q-requires
-place-q-requires c =  record {i_lt_n = search rules; inside = c.requires.range.4}
+place-q-requires c = record { i_lt_n = search rules; inside = c.requires.range.4 }
 
 pub note_links-requires : goal.note_links-requires
 note_links-requires c =
     let s = c.requires in
     let q = c.place-q.ensures in
-     record {m_bound = (c.live_links.ensures.upper_bound, omega (arith, q, s.range, s.keys_len.0, s.keys_len.1)); q_bound = (omega (arith, q, s.range), omega (arith, q, s.range, s.keys_len.0), c.loop-p.invariant.3)}
+    record { m_bound = (c.live_links.ensures.upper_bound, omega (arith, q, s.range, s.keys_len.0, s.keys_len.1)); q_bound = (omega (arith, q, s.range), omega (arith, q, s.range, s.keys_len.0), c.loop-p.invariant.3) }
 
 pub loop-p-preserved-then-is_uncommitted : goal.loop-p-preserved-then-is_uncommitted
 loop-p-preserved-then-is_uncommitted c =

@@ -14,7 +14,7 @@ pub loop-k-init : goal.loop-k-init
 loop-k-init c = (search rules, search rules, ap (λ (z : Chain). length z.list) c.no_anchors-empty.ensures, walked_start _ _ _ _ _ _ _ _ _)
 
 pub visit-step-requires : goal.visit-step-requires
-visit-step-requires c =  record {walkable = c.requires.walkable; linked = c.requires.linked}
+visit-step-requires c = record { walkable = c.requires.walkable; linked = c.requires.linked }
 
 pub loop-k-preserved-in-Pass : goal.loop-k-preserved-in-Pass
 loop-k-preserved-in-Pass c =
@@ -22,10 +22,10 @@ loop-k-preserved-in-Pass c =
     (search rules, search rules, l.invariant.2, walked-pass _ _ _ _ _ _ _ _ _ _ (omega arith) _ c.plus-x.ensures _ c.visit-step.ensures c.in-Pass.is ∙ l.invariant.3)
 
 pub returns-in-End : goal.returns-in-End
-returns-in-End c =  record {result_value = walked_end _ _ _ _ _ _ _ _ _ _ (omega arith) _ c.plus-x.ensures _ c.visit-step.ensures c.in-End.is _ refl refl ∙ c.loop-k.invariant.3; count_bound = omega arith}
+returns-in-End c = record { result_value = walked_end _ _ _ _ _ _ _ _ _ _ (omega arith) _ c.plus-x.ensures _ c.visit-step.ensures c.in-End.is _ refl refl ∙ c.loop-k.invariant.3; count_bound = omega arith }
 
 pub returns-in-Bad : goal.returns-in-Bad
-returns-in-Bad c =  record {result_value = walked-bad _ _ _ _ _ _ _ _ _ _ (omega arith) _ c.plus-x.ensures _ c.visit-step.ensures _ c.in-Bad.is _ refl ∙ c.loop-k.invariant.3; count_bound = omega arith}
+returns-in-Bad c = record { result_value = walked-bad _ _ _ _ _ _ _ _ _ _ (omega arith) _ c.plus-x.ensures _ c.visit-step.ensures _ c.in-Bad.is _ refl ∙ c.loop-k.invariant.3; count_bound = omega arith }
 
 pub bounds-list-count : goal.bounds-list-count
 bounds-list-count c = let i = c.loop-k.invariant.1 in let t = c.loop-k-test.true in let p = c.requires.span_bound.0 in search rules
@@ -41,4 +41,4 @@ loop-k-preserved c =
     (search rules, search rules, simp length-set l.invariant.2, walked-found _ _ _ _ _ _ _ _ _ _ (omega arith) _ c.plus-x.ensures _ c.visit-step.ensures _ c.in-Anchor.is _ _ c.top_proof-sought.ensures (chain_more _ _ _ (omega (arith, c.loop-k.invariant.1, c.loop-k.invariant.2, c.loop-k-test.true, c.requires.span_bound.0))) ∙ l.invariant.3)
 
 pub returns : goal.returns
-returns c =  record {result_value = walked_none _ _ _ _ _ _ _ _ _ (omega arith) _ refl refl ∙ c.loop-k.invariant.3; count_bound = omega arith}
+returns c = record { result_value = walked_none _ _ _ _ _ _ _ _ _ (omega arith) _ refl refl ∙ c.loop-k.invariant.3; count_bound = omega arith }

@@ -15,7 +15,7 @@ unfolding any
 loop-k-init c = (search rules, refl)
 
 pub place-q-requires : goal.place-q-requires
-place-q-requires c =  record {i_lt_n = search rules; inside = c.requires.4}
+place-q-requires c = record { i_lt_n = search rules; inside = c.requires.4 }
 
 pub returns-then-not-is_certified : goal.returns-then-not-is_certified
 returns-then-not-is_certified c = flat_hit _ _ _ _ _ _ _ _ _ c.loop-k-test.true c.place-q.ensures.value c.is_fresh.ensures c.if-is_fresh.true (certified_by _ _ _ (search rules) _ c.is_certified.ensures) c.if-not-is_certified.true-raw

@@ -15,7 +15,7 @@ unfolding those
 loop-k-init c = (search rules, search rules, refl)
 
 pub place-q-requires : goal.place-q-requires
-place-q-requires c =  record {i_lt_n = search rules; inside = c.requires.4}
+place-q-requires c = record { i_lt_n = search rules; inside = c.requires.4 }
 
 pub loop-k-preserved : goal.loop-k-preserved
 loop-k-preserved c =

@@ -12,7 +12,7 @@ unfolding swept
 loop-p-init c = (search rules, search rules, down_none _ _ _)
 
 pub place-q-requires : goal.place-q-requires
-place-q-requires c =  record {i_lt_n = search rules; inside = c.requires.range.4}
+place-q-requires c = record { i_lt_n = search rules; inside = c.requires.range.4 }
 
 pub loop-p-preserved-then-is_fresh : goal.loop-p-preserved-then-is_fresh
 loop-p-preserved-then-is_fresh c = (search rules, search rules, swept_hit _ _ _ _ _ _ _ _ _ _ _ _ _ c.loop-p.invariant.2 (omega arith) (omega arith) c.place-q.ensures.value c.is_fresh.ensures c.if-is_fresh.true c.live_links.ensures.value c.mark_links.ensures)

@@ -12,7 +12,7 @@ pub loop-k-init : goal.loop-k-init
 loop-k-init c = (search rules, search rules, count_none _ _ _)
 
 pub place-q-requires : goal.place-q-requires
-place-q-requires c =  record {i_lt_n = search rules; inside = c.requires.3}
+place-q-requires c = record { i_lt_n = search rules; inside = c.requires.3 }
 
 pub loop-k-preserved : goal.loop-k-preserved
 loop-k-preserved c =

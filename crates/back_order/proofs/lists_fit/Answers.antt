@@ -13,12 +13,15 @@ pub loop-k-init : goal.loop-k-init
 loop-k-init c = (search rules, search rules, fits-none _ _ _ _ _ _ _)
 
 pub count_round-count-requires : goal.count_round-count-requires
-count_round-count-requires c = let p = c.requires in  record {keys_len = p.keys_len; sorted = (p.sorted.0, omega (arith, p.sorted.1, c.minus-r.ensures))}
+count_round-count-requires c = let p = c.requires in record { keys_len = p.keys_len; sorted = (p.sorted.0, omega (arith, p.sorted.1, c.minus-r.ensures)) }
 
 pub returns-then-not-each_once : goal.returns-then-not-each_once
 returns-then-not-each_once c =
-    let l = c.loop-k in  record {ok_value = fits_not _ _ _ _ _ _ _ l.k l.end _ _ _ l.invariant.2 c.minus-r.ensures c.count_round-count.ensures c.each_once.ensures _ (not-true _ c.if-not-each_once.true-raw)
-          (omega (arith, c.loop-k-test.true, c.minus-rounds.ensures, c.plus-above.ensures)); end_value = λ t. absurd (false≢true t)}
+    let l = c.loop-k in record {
+      ok_value = fits_not _ _ _ _ _ _ _ l.k l.end _ _ _ l.invariant.2 c.minus-r.ensures c.count_round-count.ensures c.each_once.ensures _ (not-true _ c.if-not-each_once.true-raw)
+          (omega (arith, c.loop-k-test.true, c.minus-rounds.ensures, c.plus-above.ensures));
+      end_value = λ t. absurd (false≢true t);
+    }
 
 pub overflow_add-end : goal.overflow_add-end
 overflow_add-end c =
@@ -41,4 +44,4 @@ returns c =
     let l = c.loop-k in
     let a = c.args in
     let f = fits_end _ _ _ _ _ _ _ l.k (a.round.0 + 1 - a.lowest.0) _ l.invariant.2 (omega (arith, l.invariant.0, c.loop-k-test.false, c.minus-rounds.ensures, c.plus-above.ensures)) in
-     record {ok_value = sym f.right; end_value = λ t. f.ends}
+    record { ok_value = sym f.right; end_value = λ t. f.ends }

@@ -12,7 +12,7 @@ pub loop-passed-init : goal.loop-passed-init
 loop-passed-init c = (search rules, λ j l. absurd (omega arith))
 
 pub place-q-requires : goal.place-q-requires
-place-q-requires c =  record {i_lt_n = search rules; inside = c.requires.3}
+place-q-requires c = record { i_lt_n = search rules; inside = c.requires.3 }
 
 pub returns-then-marks-q : goal.returns-then-marks-q
 returns-then-marks-q c =

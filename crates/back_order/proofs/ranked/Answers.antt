@@ -20,7 +20,7 @@ loop-k-preserved c =
 pub place-requires : goal.place-requires
 place-requires c =
     let h = c.requires.run in
-     record {i_lt_n = (c.loop-k.invariant.1.within, h.1); inside = h.3}
+    record { i_lt_n = (c.loop-k.invariant.1.within, h.1); inside = h.3 }
 
 pub returns : goal.returns
-returns c = let l = c.loop-k in  record {value = rank_end _ _ _ _ _ _ _ _ l.invariant.1 (omega arith) c.place.ensures.value; upper_bound = c.place.ensures.upper_bound}
+returns c = let l = c.loop-k in record { value = rank_end _ _ _ _ _ _ _ _ l.invariant.1 (omega arith) c.place.ensures.value; upper_bound = c.place.ensures.upper_bound }

@@ -7,7 +7,7 @@ use Rattle.back_walk.proofs.ready_valid_point.Goals as goal
 
 pub look_up-look-requires : goal.look_up-look-requires
 look_up-look-requires c =
-     let told = searchable c.args.s c.args.keys.now c.args.order.now c.args.id _ c.requires.0 c.id_words-words.ensures in record {n_in_bounds = told.0; sorted = told.1}
+    let told = searchable c.args.s c.args.keys.now c.args.order.now c.args.id _ c.requires.0 c.id_words-words.ensures in record { n_in_bounds = told.0; sorted = told.1 }
 
 pub offset_bounds-certs-q : goal.offset_bounds-certs-q
 offset_bounds-certs-q c =

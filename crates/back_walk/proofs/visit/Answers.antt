@@ -18,7 +18,7 @@ unfolding record_of
 returns-then-x-low c = let a = c.args in step_low a.s a.keys.now a.links.now a.certs.now a.order.now a.low.0 a.x.0 a.id c.if-round-x.false c.if-x-round.false c.if-used-ne0.false _ c.chained_proof-found.ensures _ c.in-At.is c.if-x-low.true
 
 pub anchor_at-requires : goal.anchor_at-requires
-anchor_at-requires c = let a = c.args in  record {walkable = c.requires.walkable; linked = c.requires.linked; used = proof_used a.s a.keys.now a.certs.now a.order.now a.id a.links.now _ c.chained_proof-found.ensures _ c.in-At.is}
+anchor_at-requires c = let a = c.args in record { walkable = c.requires.walkable; linked = c.requires.linked; used = proof_used a.s a.keys.now a.certs.now a.order.now a.id a.links.now _ c.chained_proof-found.ensures _ c.in-At.is }
 
 pub returns-in-Refused : goal.returns-in-Refused
 unfolding record_of

@@ -20,7 +20,7 @@ certify_deeper-end-requires c =
     let pre = c.requires in
     let high = c.height-h.ensures in
     let size = ap (λ w. length w.certs) c.loop-k.invariant.1 ∙ (handed-length _ _ _ _).0 in
-     record {queue_len = (ap (λ w. length w.queue) c.loop-k.invariant.1 ∙ ((handed-length _ _ _ _).1 ∙ pre.m_bound.3), omega (arith, high), omega arith, omega (arith, size, pre.m_bound.4)); fits = open_at a.links.now (work a.certs.now a.queue.now a.tail) _ a.p _ _ _ _ pre.fact c.loop-k.invariant.1 high c.target-word.ensures c.loop-k-test.true}
+    record { queue_len = (ap (λ w. length w.queue) c.loop-k.invariant.1 ∙ ((handed-length _ _ _ _).1 ∙ pre.m_bound.3), omega (arith, high), omega arith, omega (arith, size, pre.m_bound.4)); fits = open_at a.links.now (work a.certs.now a.queue.now a.tail) _ a.p _ _ _ _ pre.fact c.loop-k.invariant.1 high c.target-word.ensures c.loop-k-test.true }
 
 pub loop-k-preserved : goal.loop-k-preserved
 unfolding height_of

@@ -22,7 +22,7 @@ pub certify_deps-tail-requires : goal.certify_deps-tail-requires
 certify_deps-tail-requires c =
     let r = ready_at _ _ _ _ _ _ _ c.requires.ready c.loop-head.invariant.1 c.loop-head-test.true c.slot-p.ensures in
     let size = ap (λ w. length w.certs) c.loop-head.invariant.1 ∙ (visited-length _ _ _ _ _).0 in
-     record {m_bound = search (rules, size); fact = ready_open _ _ _ _ _ _ _ _ c.requires.ready c.loop-head.invariant.1 c.loop-head-test.true c.slot-p.ensures c.live_links-m.ensures.value}
+    record { m_bound = search (rules, size); fact = ready_open _ _ _ _ _ _ _ _ c.requires.ready c.loop-head.invariant.1 c.loop-head-test.true c.slot-p.ensures c.live_links-m.ensures.value }
 
 pub loop-head-smaller : goal.loop-head-smaller
 loop-head-smaller c =

@@ -12,7 +12,7 @@ unfolding start
 certify_queued-requires c =
     let p = c.requires in
     let a = c.args in
-     record {keys_len = search (rules, placed_low _ _ _ _ _ p.placed); ready = start_ready a.bottom.0 a.keys.now a.links.now a.certs.now a.q p.placed}
+    record { keys_len = search (rules, placed_low _ _ _ _ _ p.placed); ready = start_ready a.bottom.0 a.keys.now a.links.now a.certs.now a.q p.placed }
 
 pub returns : goal.returns
 unfolding start traversed

@@ -11,7 +11,7 @@ unfolding marked
 loop-i-init c = (search rules, refl)
 
 pub place-p-requires : goal.place-p-requires
-place-p-requires c =  record {i_lt_n = search rules; inside = c.requires.inside}
+place-p-requires c = record { i_lt_n = search rules; inside = c.requires.inside }
 
 pub bounds-marks-p : goal.bounds-marks-p
 bounds-marks-p c = omega (arith, ap length c.loop-i.invariant.1 ∙ marked-length _ _ _, c.place-p.ensures.upper_bound)

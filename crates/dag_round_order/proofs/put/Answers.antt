@@ -17,4 +17,4 @@ insert-requires c =
 pub returns : goal.returns
 returns c =
     let a = c.args in
-     record {words = c.copy_words.ensures; order = c.insert.ensures ∙ ap (λ (at : ℕ). inserted a.order.now a.n at a.s) c.seek-at.ensures}
+    record { words = c.copy_words.ensures; order = c.insert.ensures ∙ ap (λ (at : ℕ). inserted a.order.now a.n at a.s) c.seek-at.ensures }

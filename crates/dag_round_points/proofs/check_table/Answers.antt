@@ -7,7 +7,7 @@ use Rattle.dag_round_points.proofs.check_table.Goals as goal
 
 pub find-at-requires : goal.find-at-requires
 find-at-requires c =
-     let told = searched c.args.keys.now c.args.order.now c.args.n c.args.id _ c.requires.keys_len.0 c.requires.keys_len.2 c.requires.inside c.requires.sorted c.id_words-words.ensures in record {n_in_bounds = told.0; sorted = told.1}
+    let told = searched c.args.keys.now c.args.order.now c.args.n c.args.id _ c.requires.keys_len.0 c.requires.keys_len.2 c.requires.inside c.requires.sorted c.id_words-words.ensures in record { n_in_bounds = told.0; sorted = told.1 }
 
 pub returns-then-at-n : goal.returns-then-at-n
 returns-then-at-n c =

@@ -4,7 +4,7 @@ use Rattle.dag_round_points.proofs.find_id.Goals as goal
 
 pub look_up-look-requires : goal.look_up-look-requires
 look_up-look-requires c =
-     let told = searched c.args.keys.now c.args.order.now c.args.n c.args.id _ c.requires.keys_len.0 c.requires.keys_len.1 c.requires.keys_len.2 c.requires.sorted c.id_words-words.ensures in record {n_in_bounds = told.0; sorted = told.1}
+    let told = searched c.args.keys.now c.args.order.now c.args.n c.args.id _ c.requires.keys_len.0 c.requires.keys_len.1 c.requires.keys_len.2 c.requires.sorted c.id_words-words.ensures in record { n_in_bounds = told.0; sorted = told.1 }
 
 pub returns-in-Resolved : goal.returns-in-Resolved
 unfolding found_by

@@ -21,7 +21,7 @@ pub any_dangling-requires : goal.any_dangling-requires
 any_dangling-requires c =
     let a = c.args in
     let (i, w, e) = info_shaped a.s a.keys.now a.order.now a.q a.info a.refs.now _ c.requires.q_in_bounds.1 (sym c.status-word.ensures ∙ c.if-word-ne0.false) _ c.well_formed-2.ensures c.if-not-well_formed.false-raw in
-     record {ready = c.requires.ready; m_in_bounds = (omega arith, omega arith)}
+    record { ready = c.requires.ready; m_in_bounds = (omega arith, omega arith) }
 
 pub returns-then-any_dangling : goal.returns-then-any_dangling
 unfolding numbered
@@ -33,7 +33,7 @@ pub any_dangling-requires-2 : goal.any_dangling-requires-2
 any_dangling-requires-2 c =
     let a = c.args in
     let (i, w, e) = info_shaped a.s a.keys.now a.order.now a.q a.info a.refs.now _ c.requires.q_in_bounds.1 (sym c.status-word.ensures ∙ c.if-word-ne0.false) _ c.well_formed-2.ensures c.if-not-well_formed.false-raw in
-     record {ready = c.requires.ready; m_in_bounds = (omega arith, omega arith)}
+    record { ready = c.requires.ready; m_in_bounds = (omega arith, omega arith) }
 
 pub returns-then-any_dangling-2 : goal.returns-then-any_dangling-2
 unfolding numbered

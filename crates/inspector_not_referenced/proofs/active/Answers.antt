@@ -7,10 +7,10 @@ pub returns-then-not-adjacent : goal.returns-then-not-adjacent
 returns-then-not-adjacent c = active_not _ _ _ _ _ _ c.if-not-adjacent.true-raw
 
 pub row_authors-then-requires : goal.row_authors-then-requires
-row_authors-then-requires c = let p = c.requires in  record {n_in_bounds = p.m_in_bounds.1; by_index = p.by_index_2}
+row_authors-then-requires c = let p = c.requires in record { n_in_bounds = p.m_in_bounds.1; by_index = p.by_index_2 }
 
 pub place_authors-now-requires : goal.place_authors-now-requires
-place_authors-now-requires c = let p = c.requires in  record {m_in_bounds = p.m_in_bounds.0; by_index = p.by_index}
+place_authors-now-requires c = let p = c.requires in record { m_in_bounds = p.m_in_bounds.0; by_index = p.by_index }
 
 pub returns : goal.returns
 returns c = active_by _ _ _ _ _ _ _ _ _ c.if-not-adjacent.false-raw c.row_authors-then.ensures c.place_authors-now.ensures refl

@@ -11,7 +11,7 @@ returns-then-previous-eq0 c = excluded-none _ _ _ _ _ _ _ _ c.if-peers-eq0.false
 pub referring-seen-requires : goal.referring-seen-requires
 referring-seen-requires c =
     let p = c.requires in
-     record {n_in_bounds = (p.m_in_bounds.0, search rules, (search rules, p.m_in_bounds.3)); by_index = p.by_index}
+    record { n_in_bounds = (p.m_in_bounds.0, search rules, (search rules, p.m_in_bounds.3)); by_index = p.by_index }
 
 pub returns : goal.returns
 returns c =

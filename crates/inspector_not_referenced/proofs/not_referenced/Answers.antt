@@ -7,7 +7,7 @@ use borrow.Author.Rules.{rules}
 use Rattle.inspector_not_referenced.proofs.not_referenced.Goals as goal
 
 pub active-both-requires : goal.active-both-requires
-active-both-requires c = let p = c.requires in  record {m_in_bounds = (p.m_in_bounds.0, p.m_in_bounds.2); by_index = (λ j l. ((p.by_index j l).0, (p.by_index j l).2)); by_index_2 = p.by_index_2}
+active-both-requires c = let p = c.requires in record { m_in_bounds = (p.m_in_bounds.0, p.m_in_bounds.2); by_index = (λ j l. ((p.by_index j l).0, (p.by_index j l).2)); by_index_2 = p.by_index_2 }
 
 pub loop-k-init : goal.loop-k-init
 loop-k-init c = (search rules, cells_none _)
@@ -15,7 +15,7 @@ loop-k-init c = (search rules, cells_none _)
 pub exclude_witness-requires : goal.exclude_witness-requires
 exclude_witness-requires c =
     let p = c.requires in
-     record {m_in_bounds = (p.m_in_bounds.0, search rules, p.m_in_bounds.2, p.by_index_2 _ c.loop-k-test.true); by_index = p.by_index}
+    record { m_in_bounds = (p.m_in_bounds.0, search rules, p.m_in_bounds.2, p.by_index_2 _ c.loop-k-test.true); by_index = p.by_index }
 
 pub loop-k-preserved : goal.loop-k-preserved
 loop-k-preserved c =

@@ -10,7 +10,7 @@ pub loop-k-init : goal.loop-k-init
 loop-k-init c = (search rules, search rules, listed_none _ _ _ _)
 
 pub place-q-requires : goal.place-q-requires
-place-q-requires c =  record {i_lt_n = search rules; inside = c.requires.range.4}
+place-q-requires c = record { i_lt_n = search rules; inside = c.requires.range.4 }
 
 pub loop-k-preserved : goal.loop-k-preserved
 loop-k-preserved c =

@@ -10,7 +10,7 @@ pub loop-k-init : goal.loop-k-init
 loop-k-init c = (search rules, refl, stacked-none _ _)
 
 pub must_row-row-requires : goal.must_row-row-requires
-must_row-row-requires c = let p = c.requires in  record {n_in_bounds = (p.n_in_bounds.0, p.by_index _ c.loop-k-test.true); by_index = p.by_index}
+must_row-row-requires c = let p = c.requires in record { n_in_bounds = (p.n_in_bounds.0, p.by_index _ c.loop-k-test.true); by_index = p.by_index }
 
 pub loop-k-preserved : goal.loop-k-preserved
 loop-k-preserved c =

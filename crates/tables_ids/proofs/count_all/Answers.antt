@@ -13,7 +13,7 @@ pub loop-i-init : goal.loop-i-init
 loop-i-init c = (search rules, below_none _, c.requires.tallied)
 
 pub place-q-requires : goal.place-q-requires
-place-q-requires c =  record {i_lt_n = search rules; inside = c.requires.inside}
+place-q-requires c = record { i_lt_n = search rules; inside = c.requires.inside }
 
 pub count_one-requires : goal.count_one-requires
 count_one-requires c = (c.loop-i.invariant.2.0, search rules)

@@ -6,4 +6,4 @@ use Rattle.tables_ids.proofs.versions_hold.Goals as goal
 pub count_all-requires : goal.count_all-requires
 count_all-requires c =
     let at-args = c.args in
-     record {keys_len = search rules; inside = c.requires.inside; tallied = none_tallied at-args.keys.now at-args.order.now}
+    record { keys_len = search rules; inside = c.requires.inside; tallied = none_tallied at-args.keys.now at-args.order.now }

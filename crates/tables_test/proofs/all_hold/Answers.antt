@@ -25,7 +25,7 @@ pub points_hold-requires : goal.points_hold-requires
 points_hold-requires c =
     let sh = shape_says _ _ _ _ (passed _ _ c.shape_holds.ensures c.if-not-shape_holds.false-raw) in
     let st = state_says _ _ (passed _ _ c.state_holds.ensures c.if-not-state_holds.false-raw) in
-     record {order_len_bound = (st.0, sh.0, sh.1, sh.2, st.1, st.3); inside = order_says _ _ _ (passed _ _ c.order_holds.ensures c.if-not-order_holds.false-raw)}
+    record { order_len_bound = (st.0, sh.0, sh.1, sh.2, st.1, st.3); inside = order_says _ _ _ (passed _ _ c.order_holds.ensures c.if-not-order_holds.false-raw) }
 
 pub returns : goal.returns
 unfolding tested

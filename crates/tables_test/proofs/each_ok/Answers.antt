@@ -16,7 +16,7 @@ pub loop-i-init : goal.loop-i-init
 loop-i-init c = (search rules, below_none _)
 
 pub place-q-requires : goal.place-q-requires
-place-q-requires c =  record {i_lt_n = search rules; inside = c.requires.inside}
+place-q-requires c = record { i_lt_n = search rules; inside = c.requires.inside }
 
 pub returns-then-not-place_ok : goal.returns-then-not-place_ok
 unfolding each_ok record_of

@@ -18,7 +18,7 @@ unfolding order_holds
 returns-then-not-sorted c = chain-yes _ _ _ _ c.inside.ensures c.if-not-inside.false-raw (chain_no _ _ _ c.sorted.ensures c.if-not-sorted.true-raw)
 
 pub versions_hold-requires : goal.versions_hold-requires
-versions_hold-requires c =  record {keys_len = search rules; inside = inside_says _ _ _ (passed _ _ c.inside.ensures c.if-not-inside.false-raw)}
+versions_hold-requires c = record { keys_len = search rules; inside = inside_says _ _ _ (passed _ _ c.inside.ensures c.if-not-inside.false-raw) }
 
 pub returns : goal.returns
 unfolding order_holds

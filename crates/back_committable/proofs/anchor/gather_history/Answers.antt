@@ -11,14 +11,14 @@ round_at-round-requires c =
 pub span_of-span-requires : goal.span_of-span-requires
 span_of-span-requires c =
     let a = c.args in
-     let told = span_asked a.s a.keys.now a.links.now a.certs.now a.order.now c.requires.started a.anchor c.requires.used c.round_at-round.result.0 c.round_at-round.ensures in record {ready = told.0; genesis_bound = told.1}
+    let told = span_asked a.s a.keys.now a.links.now a.certs.now a.order.now c.requires.started a.anchor c.requires.used c.round_at-round.result.0 c.round_at-round.ensures in record { ready = told.0; genesis_bound = told.1 }
 
 pub gather_uncommitted-marks-requires : goal.gather_uncommitted-marks-requires
 gather_uncommitted-marks-requires c =
     let a = c.args in
     let fk : Fit a.keys.now = λ p. (c.shared_slice_known-1.given p).fits in
     let fl : Fit a.links.now = λ p. (c.shared_slice_known-2-1.given p).fits in
-     let told = span_ready a.s a.keys.now a.links.now a.certs.now a.order.now c.requires.started a.anchor c.requires.used fk fl c.round_at-round.result.0 c.span_of-span.result c.round_at-round.ensures c.span_of-span.ensures in record {range = told.0; keys_len = told.1}
+    let told = span_ready a.s a.keys.now a.links.now a.certs.now a.order.now c.requires.started a.anchor c.requires.used fk fl c.round_at-round.result.0 c.span_of-span.result c.round_at-round.ensures c.span_of-span.ensures in record { range = told.0; keys_len = told.1 }
 
 pub count_points-count-requires : goal.count_points-count-requires
 count_points-count-requires c =

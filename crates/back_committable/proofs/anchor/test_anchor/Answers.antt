@@ -14,4 +14,4 @@ returns c =
     let fk : Fit a.keys.now = λ p. (c.shared_slice_known-1.given p).fits in
     let fl : Fit a.links.now = λ p. (c.shared_slice_known-2-1.given p).fits in
     let e = c.test_supposed.ensures ∙ ap (λ (cs : List ℕ). tested_of a.s a.keys.now a.links.now cs a.order.now a.anchor) (supposing-none 4096 a.certs.now) in
-     record {whole = e; outcome = outcome_by a.s a.keys.now a.links.now a.certs.now a.order.now fk fl c.requires.started a.anchor c.requires.used _ e}
+    record { whole = e; outcome = outcome_by a.s a.keys.now a.links.now a.certs.now a.order.now fk fl c.requires.started a.anchor c.requires.used _ e }

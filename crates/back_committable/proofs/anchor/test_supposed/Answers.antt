@@ -16,7 +16,7 @@ anchor_code-check-requires c =
     let fk : Fit a.keys.now = λ p. (c.shared_slice_known-1.given p).fits in
     let fl : Fit a.links.now = λ p. (c.shared_slice_known-2-1.given p).fits in
     let span = gathered_span a.s a.keys.now a.links.now (supposing a.taken.now a.certs.now) a.order.now a.anchor c.gather_history-g.result c.gather_history-g.ensures in
-     let told = code_ready a.s a.keys.now a.links.now a.certs.now a.order.now c.requires.started a.anchor c.requires.used fk fl c.round_at-round.result.0 c.gather_history-g.result.span c.round_at-round.ensures (span ∙ ap (history_span a.s a.keys.now a.order.now) (sym c.round_at-round.ensures)) in record {range = told.0; keys_len = told.1}
+    let told = code_ready a.s a.keys.now a.links.now a.certs.now a.order.now c.requires.started a.anchor c.requires.used fk fl c.round_at-round.result.0 c.gather_history-g.result.span c.round_at-round.ensures (span ∙ ap (history_span a.s a.keys.now a.order.now) (sym c.round_at-round.ensures)) in record { range = told.0; keys_len = told.1 }
 
 pub returns : goal.returns
 returns c =

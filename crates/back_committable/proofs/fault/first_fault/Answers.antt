@@ -12,7 +12,7 @@ unfolding scanned
 loop-p-init c = (search rules, search rules, down_none _ _ _)
 
 pub place-q-requires : goal.place-q-requires
-place-q-requires c =  record {i_lt_n = search rules; inside = c.requires.range.4}
+place-q-requires c = record { i_lt_n = search rules; inside = c.requires.range.4 }
 
 pub is_faulty-requires : goal.is_faulty-requires
 is_faulty-requires c =

@@ -27,8 +27,8 @@ loop-i-preserved c = (
   search rules,
   below_more _ _ c.loop-i.invariant.1
       (elim c.if-i-n.branch [
-        then-i-n+else-not-is_lower w ↦ entry_next _ _ _ c.if-x-gt-PEER_LAST.false w.if-i-n.true _ w.is_lower.ensures w.if-not-is_lower.false-raw
-      | else-i-n w ↦ entry_last _ _ _ c.if-x-gt-PEER_LAST.false w.if-i-n.false
+        | then-i-n+else-not-is_lower w ↦ entry_next _ _ _ c.if-x-gt-PEER_LAST.false w.if-i-n.true _ w.is_lower.ensures w.if-not-is_lower.false-raw
+        | else-i-n w ↦ entry_last _ _ _ c.if-x-gt-PEER_LAST.false w.if-i-n.false
       ]),
 )
 

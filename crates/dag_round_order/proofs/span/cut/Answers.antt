@@ -9,7 +9,7 @@ pub seek-requires : goal.seek-requires
 seek-requires c =
     let a = c.args in
     let p = c.requires in
-     record {n_in_bounds = (p.keys_len.1, (omega arith, inside_keys a.keys.now a.order.now a.n p.keys_len.0 p.keys_len.2)); sorted = p.sorted}
+    record { n_in_bounds = (p.keys_len.1, (omega arith, inside_keys a.keys.now a.order.now a.n p.keys_len.0 p.keys_len.2)); sorted = p.sorted }
 
 pub returns : goal.returns
 returns c = cut_is _ _ _ _ _ c.seek.ensures

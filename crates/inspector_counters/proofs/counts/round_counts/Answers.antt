@@ -11,7 +11,7 @@ pub loop-k-init : goal.loop-k-init
 loop-k-init c = (search rules, counted_start _ _ _ _ _ c.new-counts.ensures)
 
 pub place-q-requires : goal.place-q-requires
-place-q-requires c =  record {i_lt_n = search rules; inside = c.requires.range.4}
+place-q-requires c = record { i_lt_n = search rules; inside = c.requires.range.4 }
 
 pub add-requires : goal.add-requires
 add-requires c =

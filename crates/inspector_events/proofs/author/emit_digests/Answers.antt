@@ -13,7 +13,7 @@ pub loop-k-init : goal.loop-k-init
 loop-k-init c = (search rules, passing-none _ _ _ _ _ _ _)
 
 pub place-q-requires : goal.place-q-requires
-place-q-requires c =  record {i_lt_n = search rules; inside = c.requires.range.0.4}
+place-q-requires c = record { i_lt_n = search rules; inside = c.requires.range.0.4 }
 
 pub emit_digest-at-requires : goal.emit_digest-at-requires
 emit_digest-at-requires c =

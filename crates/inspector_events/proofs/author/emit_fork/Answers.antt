@@ -27,7 +27,7 @@ emit_number-a4-requires c =
 pub emit_digests-digests-requires : goal.emit_digests-digests-requires
 emit_digests-digests-requires c =
     let p = c.requires in
-     record {range = p.range; ready = fork_digests _ _ _ _ _ _ _ (digests-count _ _ _ _ _ _ _ p.found_value) c.if-found-gt1.true p.ready _ _ c.emit_number-a1.ensures _ _ c.emit_number-a2.ensures _ _ c.emit_number-a3.ensures _ _ c.emit_number-a4.ensures _ refl refl (search rules)}
+    record { range = p.range; ready = fork_digests _ _ _ _ _ _ _ (digests-count _ _ _ _ _ _ _ p.found_value) c.if-found-gt1.true p.ready _ _ c.emit_number-a1.ensures _ _ c.emit_number-a2.ensures _ _ c.emit_number-a3.ensures _ _ c.emit_number-a4.ensures _ refl refl (search rules) }
 
 pub overflow_add-result : goal.overflow_add-result
 overflow_add-result c =

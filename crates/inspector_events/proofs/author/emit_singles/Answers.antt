@@ -12,7 +12,7 @@ pub loop-k-init : goal.loop-k-init
 loop-k-init c = (search rules, passing-none _ _ _ _ _ _ _)
 
 pub place-q-requires : goal.place-q-requires
-place-q-requires c =  record {i_lt_n = search rules; inside = c.requires.range.0.4}
+place-q-requires c = record { i_lt_n = search rules; inside = c.requires.range.0.4 }
 
 pub passes-requires : goal.passes-requires
 passes-requires c = search rules

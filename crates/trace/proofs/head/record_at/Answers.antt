@@ -15,4 +15,4 @@ number_of-rest-requires c = omega (arith, whole_elim _ _ (sym c.whole_at.ensures
 pub whole_record-requires : goal.whole_record-requires
 whole_record-requires c = let w = sym c.whole_at.ensures ∙ not-false _ c.if-not-whole_at.false-raw in
     let e = whole_elim _ _ w in
-     record {at_value = w; rest_value = (c.number_of-rest.ensures, rw c.number_of-rest.ensures e.0, rw c.number_of-rest.ensures e.2)}
+    record { at_value = w; rest_value = (c.number_of-rest.ensures, rw c.number_of-rest.ensures e.0, rw c.number_of-rest.ensures e.2) }
