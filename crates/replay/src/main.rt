@@ -11,6 +11,7 @@ use play_input::input::play_input;
 use play_input::{ANSWER_BYTES, PLACES};
 use show::state::write_state;
 use show::text::write_broken;
+use std::env::{Env, FillError};
 
 // The number of places asked for at most.
 const PLACES_ASKED_MAX: usize = 256;
@@ -55,14 +56,31 @@ fn places_said(count: usize, digits: &[u8]) -> usize
     number_said(digits)
 }
 
+// Whether there is an argument i. Its length does not matter.
+fn has_argument(env: &impl Env, i: usize) -> bool {
+    let mut text = [0u8; ARGUMENT_BYTES];
+    match env.arg(i, &mut text) {
+        Err(FillError::NotPresent) => false,
+        _ => true,
+    }
+}
+
 // The number of places asked for. An argument longer than the text is read as an empty one, which is no number.
-fn places_asked() -> usize
+fn places_asked(env: &impl Env) -> usize
     ensures { result ≤ most_places }
 {
-    let count = os::arg_count();
     let mut text = [0u8; ARGUMENT_BYTES];
-    let n = os::arg(1, &mut text);
-    places_said(count, &text[..n])
+    let count: usize = if has_argument(env, 2) {
+        3
+    } else if has_argument(env, 1) {
+        2
+    } else {
+        1
+    };
+    match env.arg(1, &mut text) {
+        Ok(n) => places_said(count, &text[..n]),
+        Err(_) => places_said(count, b""),
+    }
 }
 
 // Plays the input on the tables lent, with 4,096 bytes for answers, and writes what is left.
@@ -101,8 +119,8 @@ fn replay(n: usize)
     );
 }
 
-fn main() {
-    let n = places_asked();
+fn main(rt: HostRuntime) {
+    let n = places_asked(&rt);
     if n == 0 {
         let _all = io::write_all(
             2,

@@ -1,18 +1,18 @@
 -- Theorems on the definitions of specs/Behind.
 use Rattle.std.specs.Prelude.{ℕ, suc, ◌+◌, ◌≤◌, ◌<◌, ◌≡◌, refl, ◌⊎◌, ◌≢◌, ◌↔◌, true, ◌&&◌, cond, eqb, get_or}
-use Rattle.std.proofs.Common.{sym, ◌∙◌, subst, ap, eqb-true, eq-eqb, ne_eqb, arith}
+use Rattle.std.proofs.Common.{sym, ◌∙◌, subst, eq-eqb, ne_eqb, arith}
 use Rattle.std.proofs.Math.Logic.{inl, inr, ⊎_elim}
 use mathlib.Core.List.Memᴰ
 use mathlib.Core.List.{List, [], ◌∷◌, Memᴰ}
-use Rattle.laws.specs.Test.{both, and_l, and_r, same_test, same_or}
+use Rattle.laws.specs.Test.{both, and_l, and_r, same_or}
 use Rattle.laws.specs.Scan.{those, those_elim, those_intro}
-use Rattle.laws.specs.Lists.{Pairs, has_intro, has_elim}
+use Rattle.laws.specs.Lists.{Pairs}
 use Rattle.laws.specs.Sort.{sort_mem, sort_rises}
-use Rattle.spec.specs.Ids.{Id, Link, falls, fits}
-use Rattle.spec.specs.Store.{Point, Store, id_at, round_at, links, links_to}
+use Rattle.spec.specs.Ids.{falls}
+use Rattle.spec.specs.Store.{Store, id_at, round_at, links_to}
 use Rattle.spec.specs.Paths.{LinkedTo}
-use Rattle.spec.specs.History.{lowest, Need, anchor, hand, needed, in_history, links_by, linkers, behind, includes_word, witness_word, anchor_word, word_for}
-use Rattle.spec.specs.Links.{Linked, linked, fits_elim, fits_intro, dist_pos, down, source_named}
+use Rattle.spec.specs.History.{lowest, Need, needed, in_history, linkers, behind, includes_word, witness_word, word_for}
+use Rattle.spec.specs.Links.{Linked, linked, dist_pos, down, source_named}
 use Rattle.spec.specs.HeightEquations.{Sized, inside}
 use Rattle.spec.proofs.Sweep.{marked→need, needed_by_history}
 use Rattle.spec.specs.WellFormed.{Wf}

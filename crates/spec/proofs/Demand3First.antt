@@ -1,5 +1,5 @@
 -- Every call keeps what every store of a list satisfies, and each finished anchor's history is exact.
-use Prim.Native.Nat.{ℕ, suc, ◌+◌, ◌-◌, ◌^◌, ◌≤◌, ◌<◌, max}
+use Prim.Native.Nat.{ℕ, suc, ◌-◌, ◌^◌, ◌≤◌, ◌<◌, max}
 use Rattle.std.specs.Prelude.{◌≡◌, ◌≢◌, ◌↔◌, length}
 use Rattle.std.proofs.Math.Path.{refl, subst}
 use Rattle.std.proofs.Common.{sym, ◌∙◌, ap, ⊎_elim, le_trans}

@@ -13,7 +13,7 @@ use Rattle.spec.specs.Paths.{Path, here, step, LinkedTo}
 use Rattle.spec.specs.Rules.{well_formed}
 use Rattle.spec.specs.Chain.{EnqueuedAnchor}
 use Rattle.spec.specs.History.{dequeued, set_committed}
-use Rattle.spec.specs.Calls.{done, add_round, new_point, name_at, with_path_heights, resolved_as, resolve_at, set_top, certify_at, drained}
+use Rattle.spec.specs.Calls.{add_round, new_point, name_at, with_path_heights, resolved_as, resolve_at, set_top, certify_at, drained}
 use Rattle.spec.specs.Links.{Linked, linked, link_made, fits_elim, fits_intro, resolved-named}
 use Rattle.spec.proofs.Changes.{res_off, drain-stays, drain_was}
 use Rattle.spec.specs.WellFormed.{Wf, Leads}

@@ -1,14 +1,10 @@
 -- Theorems on the definitions of specs/HeightEquations.
-use Rattle.std.specs.Prelude.{ℕ, zero, suc, ◌≤◌, ◌<◌, ◌≡◌, refl, ◌⊎◌, Bool, true, false, eqb}
-use Rattle.std.proofs.Common.{◌∙◌, subst, inl, inr, ⊎_elim, eqb-true, eq-eqb, arith}
-use Rattle.std.proofs.lemmas.Bool.{false≢true}
-use Rattle.laws.specs.Test.{by_test, clash, le_or-lt, and_l}
-use Rattle.laws.specs.Scan.{any_intro, any_elim, best_bound, best_met}
-use Rattle.spec.specs.Store.{Store, links_to, round_at}
-use Rattle.spec.specs.Paths.{Path, here, step, LinkedTo, is_top, Top, height_from, IsHeight, reach, height_via, height}
+use Rattle.std.specs.Prelude.{ℕ, ◌≡◌}
+use Rattle.spec.specs.Store.{Store, round_at}
+use Rattle.spec.specs.Paths.{LinkedTo, Top, height}
 use Rattle.spec.specs.Heights.{Local, height_unique}
 use Rattle.spec.proofs.Heights.{local→paths, paths→local}
-use Rattle.spec.specs.Links.{linked, down}
+use Rattle.spec.specs.Links.{down}
 use Rattle.spec.specs.HeightEquations.{Sized, height_is}
 
 -- heights that meet the local equations are the store's: the equations have one solution ..

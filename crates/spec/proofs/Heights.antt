@@ -1,9 +1,9 @@
 -- Theorems on the definitions of specs/Heights.
 use Rattle.std.specs.Prelude.{ℕ, zero, suc, ◌+◌, ◌-◌, ◌≤◌, ◌<◌, ◌≡◌, ◌⊎◌}
-use Rattle.std.proofs.Common.{subst, ap, inl, inr, arith, le_antisymm}
+use Rattle.std.proofs.Common.{subst, ap, inl, inr, arith}
 use Rattle.laws.specs.Test.{zero_or_more}
 use Rattle.spec.specs.Paths.{Path, here, step, height_from, IsHeight}
-use Rattle.spec.specs.Graph.{snoc, Down, path_down, last_link, carry}
+use Rattle.spec.specs.Graph.{snoc, Down, path_down, last_link}
 use Rattle.spec.specs.Heights.{Why, Local, none, self, link}
 
 module _ (LinkedTo : ℕ → ℕ → Type 0) (rnd : ℕ → ℕ) (down : Down LinkedTo rnd) (top : ℕ → Type 0) (H : ℕ) (h : ℕ → ℕ) where

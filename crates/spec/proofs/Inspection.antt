@@ -1,36 +1,29 @@
 -- Theorems on the definitions of specs/Inspection.
-use Prim.Native.Nat.{ℕ, zero, suc, ◌+◌, ◌-◌, ◌*◌, ◌≤◌, ◌<◌, max}
-use Rattle.std.specs.Prelude.{◌≡◌, refl, ◌⊎◌, true, false, not, ◌&&◌, cond, leb, ltb, length, get_or, take, drop}
-use Rattle.std.proofs.Common.{sym, ◌∙◌, ap, ap₂, inl, inr}
+use Prim.Native.Nat.{ℕ, suc, ◌-◌, ◌≤◌, ◌<◌, max}
+use Rattle.std.specs.Prelude.{◌≡◌, refl, ◌⊎◌, true, false, not, ◌&&◌, ltb, length, get_or, take, drop}
+use Rattle.std.proofs.Common.{sym, ◌∙◌, ap, inl, inr}
 use Rattle.std.proofs.Math.Path.{subst}
 use Rattle.std.proofs.Math.Logic.{⊎_elim}
 use Rattle.std.proofs.Math.Bool.{Bool}
-use Rattle.std.proofs.lemmas.Bool.{false≢true}
 use mathlib.Core.List.Memᴰ
-use mathlib.Core.List.{List, [], ◌∷◌, ◌++◌, map, Memᴰ, append-nil, map-append}
+use mathlib.Core.List.{List, [], ◌∷◌, ◌++◌, map, Memᴰ}
 use Rattle.std.proofs.Math.Option.{Option, none, some}
 use Rattle.std.proofs.Math.Dec.{eqb}
-use Rattle.std.proofs.Math.ListN.{length-map}
 use Rattle.std.proofs.Math.Seq.{split_at}
-use borrow.Author.Tests.{eqb-true, eq-eqb, ne_eqb, leb-true, leb-false, le-leb, lt-leb, ltb-true, lt-ltb, le-ltb}
+use borrow.Author.Tests.{eqb-true, eq-eqb, ne_eqb}
 use native.Mathlib.Omega.{arith}
-use Rattle.laws.specs.Test.{by_test, clash, same_test, both, and_l, and_r, same_or, le_or}
-use Rattle.laws.specs.Scan.{those, those_elim, those_nodup, those-count, those_fewer}
-use Rattle.laws.specs.Lists.{has, has_intro, has_elim, keep, keep_in, keep_append, keep-length, count, count_none, count_fewer, keys_most, map_same, keep-map, mem_map, joined, joined-append, joined_in, up_to, upto_in, NoDup, Pairs, append_pairs, keys_apart, keys_nodup, map_pairs, picked_pairs}
-use Rattle.laws.specs.Sort.{sort, sort_mem, sort_once, sort_rises, sort_count}
-use Rattle.laws.specs.Peers.{member}
+use Rattle.laws.specs.Test.{by_test, clash, both, and_l, le_or}
+use Rattle.laws.specs.Lists.{has, has_intro, keep, mem_map, Pairs, append_pairs, picked_pairs}
 use Rattle.laws.specs.Bytes.{written}
-use Rattle.spec.specs.Ids.{Id, prev}
-use Rattle.spec.specs.Store.{Entry, Memory, Store, Look, resolved_at, named_at, never, id_at, round_at, status_at, resolved, look_at, with_numbers, with_memory}
-use Rattle.spec.specs.Paths.{proved}
-use Rattle.spec.specs.Inspect.{places_in, of, is_trusted, entry_of, round_data, holds, larger, greatest, witnessed_by, due, reported, InspectedRound, up_from, last_non_executable, inspected, inspected_rounds, memory_after, shown, is_found, is_trans_invalid, is_invalid, is_ill_formed, proofs, authored_then, authored_now, is_valid, is_proved, not_referenced, Counters, one, counted, add, Stats, merge, since, total, stats_of, ids_of, Event, single, equivocation, no_inclusion, only_if, singles, equivocations, no_inclusions, over, events, remove_bytes}
+use Rattle.spec.specs.Ids.{prev}
+use Rattle.spec.specs.Store.{Entry, Memory, Store, id_at, status_at, resolved, with_numbers, with_memory}
+use Rattle.spec.specs.Inspect.{places_in, of, is_trusted, round_data, holds, larger, greatest, witnessed_by, due, reported, InspectedRound, inspected, memory_after, shown, is_found, is_trans_invalid, is_invalid, is_ill_formed, proofs, authored_then, authored_now, not_referenced, stats_of, ids_of, Event, single, singles, equivocations, no_inclusions, over, events, remove_bytes}
 use Rattle.spec.specs.Chain.{Out, bad, good}
-use Rattle.spec.specs.Rules.{is_peer, version, versions}
 use Rattle.spec.specs.Calls.{Outcome, refused, done, new_bottom, drained, removing, do_remove}
 use Rattle.spec.specs.WellFormed.{Wf}
-use Rattle.spec.specs.Order.{Before, strict}
+use Rattle.spec.specs.Order.{Before}
 use Rattle.spec.proofs.Preservation.{new_bottom_lem}
-use Rattle.spec.specs.Inspection.{look-test, before, Lower, Ascending, LowerAt, places_rise, data_rises, is_unreferenced, is_last_unreferenced, reported-none, reported-some, shown_elim, before-keeps, ListsRise, over_elim, onlyif_elim, ids_rise, ids-round, StatsMost, counts_fit, data_few, data_low, after-all}
+use Rattle.spec.specs.Inspection.{look-test, Lower, Ascending, LowerAt, places_rise, data_rises, is_unreferenced, is_last_unreferenced, reported-none, reported-some, shown_elim, before-keeps, ListsRise, over_elim, onlyif_elim, ids_rise, ids-round, StatsMost, counts_fit, data_few, data_low, after-all}
 
 -- what holds of the store's memory and of what every round leaves, holds of the memory after a remove
 pub after-keeps : (P : Memory → Type 0) (s : Store) (r : ℕ) (from : Option ℕ) (b : List ℕ) → P s.memory → ((x : ℕ) → P (round_data s x)) → P (do_remove s r from b).store.memory

@@ -1,20 +1,15 @@
 -- Theorems on the definitions of specs/Order.
-use Rattle.std.specs.Prelude.{ℕ, ◌≤◌, ◌<◌, ◌≡◌, refl, ◌⊎◌, true, false, Bool, eqb, ltb, length}
-use Rattle.std.proofs.Common.{sym, ◌∙◌, ap, subst, arith}
-use Rattle.std.proofs.Math.Logic.{inl, inr, ⊎_elim}
-use mathlib.Core.List.Memᴰ
-use mathlib.Core.List.{List, [], ◌∷◌, Memᴰ}
-use Rattle.std.proofs.lemmas.List.{length-map}
-use borrow.Author.Tests.{eqb-true, eq-eqb, leb-true, le-leb, ltb-true, lt-ltb}
-use Rattle.laws.specs.Test.{clash, both, and_l, and_r, or_l, or_r, or_cases, le_or, same_or}
-use Rattle.laws.specs.Scan.{those, those_elim, those_intro, those_nodup, those_most}
+use Rattle.std.specs.Prelude.{ℕ, ◌≤◌, ◌<◌, ◌≡◌, ◌⊎◌, true}
+use Rattle.std.proofs.Common.{sym, ◌∙◌, ap, arith}
+use Rattle.std.proofs.Math.Logic.{inl, inr}
+use mathlib.Core.List.{Memᴰ}
+use Rattle.laws.specs.Test.{and_l, same_or}
+use Rattle.laws.specs.Scan.{those, those_elim, those_intro, those_nodup}
 use Rattle.laws.specs.Lists.{NoDup, Pairs, mem_map, map_mem, map_nodup}
-use Rattle.laws.specs.Sort.{sort_mem, sort_once, sort_rises, sort_length}
-use Rattle.spec.specs.Ids.{Id, by_round, rises, falls}
+use Rattle.laws.specs.Sort.{sort_mem, sort_once, sort_rises}
+use Rattle.spec.specs.Ids.{Id, rises}
 use Rattle.spec.specs.Store.{Store, id_at}
-use Rattle.spec.specs.Rules.{places_ok}
-use Rattle.spec.specs.History.{Need, anchor, hand, needed, in_history, history}
-use Rattle.spec.specs.Links.{linked}
+use Rattle.spec.specs.History.{needed, in_history, history}
 use Rattle.spec.specs.HeightEquations.{inside}
 use Rattle.spec.proofs.Sweep.{marked→need}
 use Rattle.spec.specs.WellFormed.{Wf}

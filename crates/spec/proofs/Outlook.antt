@@ -1,5 +1,5 @@
 -- Theorems on the definitions of specs/Outlook.
-use Prim.Native.Nat.{ℕ, zero, suc, ◌+◌, ◌-◌, ◌*◌, ◌≤◌, ◌<◌}
+use Prim.Native.Nat.{ℕ, suc, ◌+◌, ◌-◌, ◌≤◌, ◌<◌}
 use Rattle.std.specs.Prelude.{◌≡◌, ◌⊎◌, ◌≢◌, ◌↔◌, ◌&&◌, ◌||◌, leb, ltb, length}
 use Rattle.std.proofs.Math.Path.{refl, sym, ap}
 use Rattle.std.proofs.Common.{◌∙◌, subst, subst₂, ap₂, inl, inr, length-append, arith, le_trans}
@@ -7,7 +7,7 @@ use Rattle.std.proofs.Math.Logic.{⊎_elim}
 use Rattle.std.proofs.Math.Bool.{Bool, true, false, not}
 use mathlib.Core.List.Memᴰ
 use mathlib.Core.List.{List, [], ◌∷◌, ◌++◌, Memᴰ}
-use Rattle.std.proofs.Math.Option.{Option, none, some, some-injective}
+use Rattle.std.proofs.Math.Option.{some, some-injective}
 use Rattle.std.proofs.Math.Dec.{eqb}
 use Rattle.std.proofs.lemmas.List.{length-map}
 use borrow.Author.Tests.{eqb-true, le-ltb, not-true}
@@ -19,9 +19,9 @@ use Rattle.laws.specs.Bytes.{be, be-length, written, written-length}
 use Rattle.spec.specs.Ids.{Id, id_bytes, falls}
 use Rattle.spec.specs.Store.{Store, id_at, round_at, status_at, resolved, links_to}
 use Rattle.spec.specs.Paths.{LinkedTo, height, certified, proved}
-use Rattle.spec.specs.Chain.{Refusal, number, conflict, Out, bad, good, then, refuse, is_committable, checked_as, checked, EnqueuedAnchor, anchors_of}
-use Rattle.spec.specs.History.{limit, lowest, Need, anchor, hand, needed, in_history, history, first_fault, faults, rounds_missing, any_uncertified, tested, gap_pending, linked_counts, lists_ok, rounds_of, after_lists, test_anchor, record_bytes, is_first_executable, gap_after, set_committed, dequeued, Finished, commit_all, outlook_bytes, outlook_all}
-use Rattle.spec.specs.Calls.{Answer, anchors, refused, number_of, Outcome, commit_end, do_commit, do_outlook, perform, commit, outlook, call}
+use Rattle.spec.specs.Chain.{Refusal, number, Out, bad, good, then, refuse, is_committable, checked_as, checked, EnqueuedAnchor, anchors_of}
+use Rattle.spec.specs.History.{limit, lowest, Need, anchor, hand, needed, in_history, history, first_fault, faults, rounds_missing, any_uncertified, tested, gap_pending, linked_counts, lists_ok, rounds_of, after_lists, test_anchor, record_bytes, set_committed, dequeued, Finished, commit_all, outlook_bytes, outlook_all}
+use Rattle.spec.specs.Calls.{refused, number_of, Outcome, do_outlook, perform, commit, outlook, call}
 use Rattle.spec.specs.Links.{resolved-named}
 use Rattle.spec.specs.HeightEquations.{Sized, inside}
 use Rattle.spec.proofs.Sweep.{marked→need, needed_is}

@@ -1,8 +1,10 @@
 -- The outlook's counts are the commit's (02: N6): the proof of the statement in Demand.antt.
 use Rattle.std.specs.Prelude.{ℕ, suc, ◌+◌, ◌-◌, ◌*◌, ◌^◌, ◌≤◌, ◌<◌, max, ◌≡◌, refl, ◌≢◌, ◌↔◌, true, ltb, length, take, drop}
-use Rattle.std.proofs.Common.{sym, ◌∙◌, subst, ap₂, ⊎_elim, length-append, take_at, drop_at, drop-drop, ltb-false, arith}
+use Rattle.std.proofs.Common.{sym, ◌∙◌, subst, ap₂, ⊎_elim, length-append, take_at, drop_at, drop-drop, ltb-false, arith, zero-add}
 use Rattle.std.proofs.Math.Path.{ap}
+use mathlib.Core.List.Memᴰ
 use mathlib.Core.List.{List, [], ◌∷◌, ◌++◌, map, map-map, append_assoc, Memᴰ}
+use Rattle.std.proofs.Math.Option.{none}
 use Rattle.std.proofs.lemmas.List.{length-map}
 use Rattle.std.proofs.Math.Decide.{ℕ_discrete}
 use Rattle.laws.specs.Test.{both, and_l, and_r}
@@ -11,21 +13,21 @@ use Rattle.laws.specs.Bytes.{be, be-length, value, value-be-fits, written, writt
 use Rattle.spec.specs.Ids.{Id, id_bytes}
 use Rattle.spec.specs.Store.{Store, id_at, round_at}
 use Rattle.spec.specs.Chain.{Refusal, Out, bad, good, then, refuse, EnqueuedAnchor, lowest_walked, anchors_of}
-use Rattle.spec.specs.History.{limit, lowest, history, linked_in, rounds_of, linked_counts, lists_ok, in_order, after_lists, tested, dequeued, outlook_bytes, outlook_all}
+use Rattle.spec.specs.History.{limit, lowest, history, linked_in, rounds_of, linked_counts, lists_ok, in_order, after_lists, record_bytes, tested, dequeued, commit_all, outlook_bytes, outlook_all}
 use Rattle.spec.specs.Calls.{anchors, refused, number_of, Outcome, do_outlook, commit, outlook, call}
 use Rattle.spec.specs.Links.{resolved-named}
 use Rattle.spec.specs.WellFormed.{Wf, counts_as_started_elim}
 use Rattle.spec.specs.Order.{history-few}
-use Rattle.spec.proofs.OrderInRound.{down_length, lists-append, linked-few}
-use Rattle.spec.specs.Walk.{not_good, then-good, refuse-good, Rising}
+use Rattle.spec.proofs.OrderInRound.{down_length, lists-append, linked-few, order_length}
+use Rattle.spec.specs.Walk.{not_good, then-good, refuse-good, Rising, tested_back}
+use Rattle.spec.proofs.Walk.{test_good}
 use Rattle.spec.proofs.Preservation.{mark_kept, rising_mark, anchors_rising}
 use Rattle.spec.specs.Demand.{read_id, History, read_records, Told, read_counts, read_told, CountsAgree}
-use Rattle.spec.proofs.Demand3Second.{good-same, not_handed, same-handed}
-use Rattle.spec.specs.Records.{skip, as_read, read_id_lem, id-length, Event, read_bytes}
-use Rattle.spec.proofs.Records.{read_bytes_lem}
-use Rattle.spec.specs.Outlook.{tests, tests-first, fours, looks, Listed, Lists, outlook_was}
+use Rattle.spec.proofs.Demand3Second.{good-same, not_handed, same-handed, handed-anchors, commit_is, commit-answer}
+use Rattle.spec.specs.Records.{skip, as_read, read_id_lem, id-length, Event, passed, every-commit, read_bytes}
+use Rattle.spec.proofs.Records.{commit_buffer, read_bytes_lem}
+use Rattle.spec.specs.Outlook.{tests, tests-first, fours, looks, none-some, Listed, Lists, outlook_was}
 use Rattle.spec.proofs.Outlook.{outlook-bad, outlook-call}
-use Rattle.spec.proofs.Handed.{events, events-length, points_held, handed}
 
 -- ---- an outlook's records read back
 
@@ -146,12 +148,32 @@ told-anchors s i c m h = go (anchors_of s i) refl h
 
 -- ---- the commit
 
--- what is told of each anchor is so of each that a commit finishes
-told-each : {A : Type 0} (f : Event → A) (g : Told → A) → ((s : Store) (ls : List ℕ) (e : EnqueuedAnchor) → f (record { from = s; list = ls; enq = e }) ≡ g (told_of s e.anchor))
-    → (s : Store) (ls : List ℕ) (es : List EnqueuedAnchor) → map f (events s ls es) ≡ map g (told_all s es)
-unfolding events told_all
-told-each f g h s ls [] = refl
-told-each f g h s ls (e ∷ es) = ap₂ ◌∷◌ (h s ls e) (told-each f g h (dequeued s e) (after_lists s e.anchor ls) es)
+-- a commit of these anchors that isn't stopped: all pass, with right lists, and its records have the counts of the outlook
+record Agrees (s : Store) (ls : List ℕ) (es : List EnqueuedAnchor) (evs : List Event) : Type 0 where
+  pass : tests s es ≡ good 0
+  count : length evs ≡ length es
+  listed : Listed s ls es
+  few : (e : Event) → Memᴰ e evs → length (in_order e.from e.enq.anchor e.list) < 256 ^ 4
+  who : map (λ (e : Event). as_read (id_at e.from e.enq.anchor)) evs ≡ map (λ (t : Told). t.anchor) (told_all s es)
+  points : map (λ (e : Event). length (in_order e.from e.enq.anchor e.list)) evs ≡ map (λ (t : Told). t.points) (told_all s es)
+
+commit-agrees : (s : Store) (ls b : List ℕ) (at n : ℕ) (es : List EnqueuedAnchor) → (commit_all s ls b at n es).stopped ≡ none → Wf s → (low : ℕ) → Rising s low es → Agrees s ls es (passed s ls (length b - at) es)
+unfolding tests told_all
+commit-agrees = every-commit (λ s ls b at n es f evs. f.stopped ≡ none → Wf s → (low : ℕ) → Rising s low es → Agrees s ls es evs)
+    (λ s ls b at n h w low r. record { pass = refl; count = refl; listed = tt; few = λ e m. absurd (Memᴰ.not-nil m); who = refl; points = refl })
+    (λ s ls b at n e es r t h. absurd (none-some r (sym h)))
+    (λ s ls b at n e es a f evs t i h w low (u, x, r).
+    let (c, g, o, l) = test_good s ls (length b - at) (length (record_bytes s ls e)) e.anchor a t in
+    let z = i h (mark_kept s w e x c) (suc (round_at s e.anchor)) (rising_mark s e _ es r) in
+    let k = order_length s w e.anchor (resolved-named _ x.anchor_done) ls o in
+    record {
+      pass = rw (tested_back s e.anchor c) z.pass;
+      count = ap suc z.count;
+      listed = (o, z.listed);
+      few = λ y m. ⊎_elim (λ d. subst (λ (y : Event). length (in_order y.from y.enq.anchor y.list) < 256 ^ 4) (sym d) (omega (arith, k, history-few s w e.anchor))) (z.few y) (Memᴰ.cases_cons m);
+      who = ap (λ l. as_read (id_at s e.anchor) ∷ l) z.who;
+      points = ap₂ ◌∷◌ k z.points;
+    })
 
 -- ---- the lists
 
@@ -182,31 +204,35 @@ module _ (s : Store) (w : Wf s) (i : Id) (c : List ℕ) (m : ℕ) (h : (call s (
         λ g. ap (λ (x : List Told). lists_ok (joined (λ (t : Told). t.linked) x) l) t ∙ (listed_told s l es).1 (g es u),
       )
 
+-- what a commit that isn't refused wrote
+wrote-told : (s : Store) → Wf s → (i : Id) (l b : List ℕ) (n : ℕ) → (call s (commit i l b)).answer ≡ anchors n
+    → (es : List EnqueuedAnchor) × (evs : List Event) × (anchors_of s i ≡ good es) × (length evs ≡ n) × Agrees s l es evs × (read_records s n (call s (commit i l b)).buffer ≡ map (λ (e : Event). read_bytes s e.from e.list e.enq) evs)
+wrote-told s w i l b n k =
+    let (es, u, stopped, count) = handed-anchors s i l b n (ap (λ (o : Outcome). o.answer) (sym (commit_is s w i l b)) ∙ k) in
+    let (rest, buffer, all) = commit_buffer s l b 0 0 es (omega arith) in
+    let a : Agrees s l es (passed s l (length b - 0) es) = commit-agrees s l b 0 0 es stopped w (lowest_walked s) (anchors_rising s w i es u) in
+    let size : length (passed s l (length b - 0) es) ≡ n = sym (zero-add (length (passed s l (length b - 0) es))) ∙ (sym all ∙ count) in
+    (es, passed s l (length b - 0) es, u, size, a, ap₂ (read_records s) (sym size) ((commit-answer s w i l b es u stopped).1 ∙ buffer) ∙ read_bytes_lem s (passed s l (length b - 0) es) rest a.few)
+
 -- 02, N6
 pub counts-agree : CountsAgree
 counts-agree s z st i c l b m n h k =
     let w : Wf s = counts_as_started_elim s z st in
     let (es, u, x, t) = told_is s w i c m h in
-    let a = handed s w i l b n k in
-    let evs = events s l a.chain in
-    let same : a.chain ≡ es = good-same a.chain es (sym a.yields ∙ u) in
-    let told : read_told s m (call s (outlook i c)).buffer ≡ told_all s a.chain = t ∙ ap (told_all s) (sym same) in
-    let read : read_records s n (call s (commit i l b)).buffer ≡ map (λ (e : Event). read_bytes s e.from e.list e.enq) evs =
-    ap₂ (read_records s) (sym (events-length s l a.chain ∙ a.count)) a.writes ∙ read_bytes_lem s evs a.rest a.passes.few in (
-      x ∙ (ap length (sym same) ∙ a.count),
-      ap (map (λ (h : History). h.anchor)) read ∙ (map-map (λ (h : History). h.anchor) _ evs ∙ (told-each _ (λ (t : Told). t.anchor) (λ s ls e. refl) s l a.chain ∙ ap (map (λ (t : Told). t.anchor)) (sym told))),
-      ap (map (λ (h : History). length h.ids)) read
-          ∙ (map-map (λ (h : History). length h.ids) _ evs
-          ∙ (map_same _ _ evs (λ e e_in. length-map (in_order e.from e.enq.anchor e.list) as_read)
-          ∙ (a.passes.points ∙ (told-each points_held (λ (t : Told). t.points) (λ s ls e. refl) s l a.chain ∙ ap (map (λ (t : Told). t.points)) (sym told))))),
-      ap (λ (x : List Told). lists_ok (joined (λ (t : Told). t.linked) x) l) told ∙ (listed_told s l a.chain).1 a.passes.listed,
+    let (fs, evs, v, size, a, read) = wrote-told s w i l b n k in
+    let same : fs ≡ es = good-same fs es (sym v ∙ u) in
+    let told : read_told s m (call s (outlook i c)).buffer ≡ told_all s fs = t ∙ ap (told_all s) (sym same) in (
+      x ∙ (ap length (sym same) ∙ (sym a.count ∙ size)),
+      ap (map (λ (h : History). h.anchor)) read ∙ (map-map (λ (h : History). h.anchor) _ evs ∙ (a.who ∙ ap (map (λ (t : Told). t.anchor)) (sym told))),
+      ap (map (λ (h : History). length h.ids)) read ∙ (map-map (λ (h : History). length h.ids) _ evs ∙ (map_same _ _ evs (λ e e_in. length-map (in_order e.from e.enq.anchor e.list) as_read) ∙ (a.points ∙ ap (map (λ (t : Told). t.points)) (sym told)))),
+      ap (λ (x : List Told). lists_ok (joined (λ (t : Told). t.linked) x) l) told ∙ (listed_told s l fs).1 a.listed,
     )
 
 -- a trigger whose commit isn't refused has an outlook that is refused by 21 at most
 pub commit-told : (s : Store) → Wf s → (i : Id) (c l b : List ℕ) (n : ℕ) → (call s (commit i l b)).answer ≡ anchors n → (r : Refusal) (k : ℕ) → (call s (outlook i c)).answer ≡ refused r k → number_of r ≡ 21
 commit-told s w i c l b n h r k g =
-    let a = handed s w i l b n h in
-    ⊎_elim (λ v. absurd (not_good r a.chain (sym v ∙ a.yields))) (λ (fs, v, o). go (ℕ_discrete (number_of r) 21) (λ f. not_good r 0 (sym (outlook-bad s (length c) fs r f o) ∙ (ap (tests s) (good-same fs a.chain (sym v ∙ a.yields)) ∙ a.passes.pass))))
+    let (es, evs, u, size, a, read) = wrote-told s w i l b n h in
+    ⊎_elim (λ v. absurd (not_good r es (sym v ∙ u))) (λ (fs, v, o). go (ℕ_discrete (number_of r) 21) (λ f. not_good r 0 (sym (outlook-bad s (length c) fs r f o) ∙ (ap (tests s) (good-same fs es (sym v ∙ u)) ∙ a.pass))))
     (outlook_was s i c r k (ap (λ (o : Outcome). o.answer) (sym (outlook-call s w i c)) ∙ g))
   where
     go : Dec (number_of r ≡ 21) → (number_of r ≢ 21 → ⊥) → number_of r ≡ 21

@@ -1,6 +1,6 @@
 -- Theorems on the definitions of specs/Picks.
 use Prim.Native.Nat.{ℕ, zero, suc, ◌≤◌, ◌<◌}
-use Rattle.std.specs.Prelude.{◌≡◌, ◌⊎◌, ◌↔◌, Bool, true, false, not, ◌&&◌, eqb, leb, ltb, length, get_or, take, drop}
+use Rattle.std.specs.Prelude.{◌≡◌, ◌⊎◌, ◌↔◌, Bool, true, false, ◌&&◌, eqb, ltb, length, get_or, take, drop}
 use Rattle.std.proofs.Math.Path.{refl, sym, ap}
 use Rattle.std.proofs.Common.{◌∙◌, subst, inl, inr, take_all, take-suc, arith}
 use Rattle.std.proofs.Math.Logic.{⊎_elim}
@@ -9,8 +9,8 @@ use mathlib.Core.List.{List, [], ◌∷◌, ◌++◌, Memᴰ}
 use Rattle.std.proofs.Math.Option.{Option, none, some}
 use Rattle.std.proofs.Math.Seq.{take-length, split_at}
 use borrow.Author.Tests.{eqb-true, eq-eqb, leb-true, le-leb, ltb-true, lt-ltb, not-true}
-use Rattle.laws.specs.Test.{by_test, clash, not_no, both, and_l, and_r, only, only_elim, only_intro, le_or}
-use Rattle.laws.specs.Scan.{any, any_elim, any_none, every, every_elim, every_intro, lowest, lowest-some, lowest-none, lowest_finds}
+use Rattle.laws.specs.Test.{by_test, clash, not_no, both, and_l, and_r, only_elim, only_intro, le_or}
+use Rattle.laws.specs.Scan.{any, any_elim, any_none, every_elim, every_intro, lowest-some, lowest-none, lowest_finds}
 use Rattle.laws.specs.Lists.{has, has_intro, has_elim, Pairs, get_d_in}
 use Rattle.spec.specs.Store.{Store, id_at, round_at}
 use Rattle.spec.specs.History.{needed, linked_in}

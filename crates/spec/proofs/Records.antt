@@ -1,19 +1,16 @@
 -- Theorems on the definitions of specs/Records.
 use Prim.Native.Nat.{ℕ, suc, ◌+◌, ◌-◌, ◌*◌, ◌^◌, ◌≤◌, ◌<◌}
-use Rattle.std.specs.Prelude.{◌≡◌, true, cond, length, take, drop, eqb}
+use Rattle.std.specs.Prelude.{◌≡◌, true, length, take, drop, eqb}
 use Rattle.std.proofs.Math.Path.{refl}
-use Rattle.std.proofs.Common.{sym, ◌∙◌, subst, ap, ap₂, length-append, take-append-drop, take_at, drop_at, drop-drop, length-take-le, arith, add-zero}
-use Rattle.std.proofs.Math.Option.{none, some}
+use Rattle.std.proofs.Common.{sym, ◌∙◌, subst, ap, ap₂, length-append, take-append-drop, take_at, drop_at, drop-drop, arith, add-zero}
 use mathlib.Core.List.{List, [], ◌∷◌, ◌++◌, map, append_assoc, append-nil, Memᴰ}
-use Rattle.std.proofs.lemmas.List.{length-map}
-use Rattle.std.proofs.Math.Seq.{take-append-add}
 use Rattle.laws.specs.Test.{by_test}
 use Rattle.laws.specs.Lists.{map_same, joined}
-use Rattle.laws.specs.Bytes.{be, be-length, value, value-be-fits, written, written-length, written_is}
-use Rattle.spec.specs.Ids.{Id, id_bytes}
+use Rattle.laws.specs.Bytes.{be, be-length, value, written, written-length}
+use Rattle.spec.specs.Ids.{id_bytes}
 use Rattle.spec.specs.Store.{Store, id_at}
-use Rattle.spec.specs.Chain.{Refusal, Out, bad, good, EnqueuedAnchor}
-use Rattle.spec.specs.History.{history, linked_counts, lists_ok, is_executable, prev_anchor, rounds_of, drawn, in_order, after_lists, summed, sum_bytes, links_by, behind, word_for, link_bytes, tail_bytes, record_bytes, test_anchor, dequeued, Finished, commit_all}
+use Rattle.spec.specs.Chain.{good, EnqueuedAnchor}
+use Rattle.spec.specs.History.{history, linked_counts, lists_ok, rounds_of, drawn, in_order, summed, sum_bytes, links_by, behind, word_for, link_bytes, tail_bytes, record_bytes, test_anchor, Finished, commit_all}
 use Rattle.spec.specs.Demand.{read_id, read_ids, History, tail_size, read_records}
 use Rattle.spec.specs.WellFormed.{Wf}
 use Rattle.spec.proofs.OrderInRound.{order_length}

@@ -14,7 +14,6 @@ use Rattle.spec.specs.Paths.{certified}
 use Rattle.spec.specs.Rules.{is_peer}
 use Rattle.spec.specs.Chain.{Refusal, number, conflict, Out, bad, good, then, refuse, usable_in_walk, is_committable, checked_as, checked_by, checked, ready_valid_point, EnqueuedAnchor, Onward, enqueue, to_anchor, to_previous, at_proof, at_used, visit, walk, unlinked, lowest_walked, empty_walk, check_oldest, chain_from, chain, trigger_conflict, filtered, place_of, anchors_of}
 use Rattle.spec.specs.History.{tested, any_uncertified, rounds_missing, first_fault, faults, outlook_bytes, outlook_all, dequeued}
-use Rattle.spec.specs.Calls.{round}
 use Rattle.spec.specs.Walk.{find-some, checked_at, place_at_lem}
 
 -- a refusal of the kind F; what is handed on meets P

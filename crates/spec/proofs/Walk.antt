@@ -1,22 +1,17 @@
 -- Theorems on the definitions of specs/Walk.
-use Rattle.std.specs.Prelude.{ℕ, zero, suc, ◌+◌, ◌-◌, ◌≤◌, ◌<◌, ◌≡◌, ◌⊎◌, Bool, ◌&&◌, eqb, leb}
+use Rattle.std.specs.Prelude.{ℕ, zero, suc, ◌+◌, ◌≤◌, ◌≡◌, ◌⊎◌, Bool, eqb}
 use Rattle.std.proofs.Math.Path.{refl, ap}
 use Rattle.std.proofs.Common.{sym, ◌∙◌, subst, inl, inr, true≢false, arith}
 use Rattle.std.proofs.Math.Bool.{true, false}
 use Rattle.std.proofs.lemmas.Bool.{false≢true}
-use mathlib.Core.List.Memᴰ
-use mathlib.Core.List.{List, [], ◌∷◌, Memᴰ}
+use mathlib.Core.List.{List}
 use Rattle.std.proofs.Math.Option.{Option, none, some}
 use Rattle.std.proofs.Math.Dec.{ltb}
-use borrow.Author.Tests.{eqb-true, leb-false, ltb-true, ltb-false, eq-eqb, lt-ltb, lt-leb, le-ltb, eqb-false, not-false}
-use Rattle.laws.specs.Test.{by_test, both, and_l, and_r}
-use Rattle.laws.specs.Scan.{any, any_elim, any_none, lowest-some, those_intro, those_elim}
-use Rattle.laws.specs.Sort.{sort_mem}
-use Rattle.spec.specs.Ids.{Id, same_id, falls, prev}
-use Rattle.spec.specs.Store.{Store, Look, resolved_at, named_at, never, id_at, round_at, status_at, resolved, is_named, find, look_at, look, previous}
-use Rattle.spec.specs.Paths.{height, certified}
-use Rattle.spec.specs.Chain.{Refusal, number, conflict, Out, bad, good, then, refuse, usable_in_walk, is_committable, checked_as, checked_by, checked, ready_valid_point, place_of, EnqueuedAnchor, Onward, enqueue, to_anchor, to_previous, at_proof, at_used, visit, walk}
-use Rattle.spec.specs.History.{needed, in_history, first_fault, faults, rounds_missing, any_uncertified, tested, gap_pending, lists_ok, linked_counts, test_anchor}
+use borrow.Author.Tests.{eqb-true, ltb-true, ltb-false, eq-eqb, lt-ltb, le-ltb, not-false}
+use Rattle.spec.specs.Ids.{Id, prev}
+use Rattle.spec.specs.Store.{Store, never, id_at, round_at, status_at, resolved, find, look_at, look, previous}
+use Rattle.spec.specs.Chain.{number, Out, bad, good, then, usable_in_walk, checked_by, checked, ready_valid_point, EnqueuedAnchor, Onward, enqueue, to_anchor, to_previous, at_proof, at_used, visit, walk}
+use Rattle.spec.specs.History.{tested, gap_pending, lists_ok, linked_counts, test_anchor}
 use Rattle.spec.specs.Walk.{not_good, if_good, then-good, refuse-good, find-some, Valid, checked-good, checked_back, Visited, Rising, rising_less, one_below, Tested, tested-good, over, used_up, ends, goes}
 
 -- of a point that the walk needs

@@ -1,21 +1,14 @@
 -- The link behind each point of a history (02: N7).
-use Rattle.std.specs.Prelude.{ℕ, suc, ◌+◌, ◌≤◌, ◌<◌, ◌≡◌, refl, ◌⊎◌, ◌≢◌, ◌↔◌, true, ◌&&◌, cond, eqb, get_or}
-use Rattle.std.proofs.Common.{sym, ◌∙◌, subst, ap, eqb-true, eq-eqb, ne_eqb, arith}
-use Rattle.std.proofs.Math.Logic.{inl, inr, ⊎_elim}
-use mathlib.Core.List.Memᴰ
-use mathlib.Core.List.{List, [], ◌∷◌, Memᴰ}
-use Rattle.laws.specs.Test.{both, and_l, and_r, same_test, same_or}
-use Rattle.laws.specs.Scan.{those, those_elim, those_intro}
-use Rattle.laws.specs.Lists.{Pairs, has_intro, has_elim}
-use Rattle.laws.specs.Sort.{sort_mem, sort_rises}
-use Rattle.spec.specs.Ids.{Id, Link, falls, fits}
+use Rattle.std.specs.Prelude.{ℕ, ◌+◌, ◌≤◌, ◌<◌, ◌≡◌, refl, ◌⊎◌, true, ◌&&◌, eqb}
+use Rattle.std.proofs.Common.{sym, ◌∙◌, ap, eqb-true, eq-eqb, arith}
+use Rattle.std.proofs.Math.Logic.{inl, inr}
+use Rattle.laws.specs.Test.{both, and_l, and_r, same_test}
+use Rattle.laws.specs.Lists.{has_intro, has_elim}
+use Rattle.spec.specs.Ids.{Id, Link, fits}
 use Rattle.spec.specs.Store.{Point, Store, id_at, round_at, links, links_to}
 use Rattle.spec.specs.Paths.{LinkedTo}
-use Rattle.spec.specs.History.{lowest, Need, anchor, hand, needed, in_history, links_by, linkers, behind, includes_word, witness_word, anchor_word, word_for}
-use Rattle.spec.specs.Links.{Linked, linked, fits_elim, fits_intro, dist_pos, down, source_named}
-use Rattle.spec.specs.HeightEquations.{Sized, inside}
-use Rattle.spec.specs.WellFormed.{Wf}
-use Rattle.spec.specs.Order.{falls_elim, falls-total, falls_trans, history-needed}
+use Rattle.spec.specs.History.{Need, anchor, hand, in_history, links_by, behind, anchor_word, word_for}
+use Rattle.spec.specs.Links.{Linked, linked, fits_elim, fits_intro, down}
 
 -- ---- the kind of a link
 

@@ -6,7 +6,6 @@ use Rattle.laws.specs.Test.{by_test, clash, le_or-lt, and_l}
 use Rattle.laws.specs.Scan.{any_intro, any_elim, best_bound, best_met}
 use Rattle.spec.specs.Store.{Store, links_to, round_at}
 use Rattle.spec.specs.Paths.{Path, here, step, LinkedTo, is_top, Top, height_from, IsHeight, reach, height_via, height}
-use Rattle.spec.specs.Heights.{Local, height_unique}
 use Rattle.spec.specs.Links.{linked, down}
 
 -- 01, 'Forms': a store has points at its places only

@@ -1,9 +1,8 @@
 -- Heights by paths from tops and by direct predecessors are the same (01: cert.rs).
-use Rattle.std.specs.Prelude.{ℕ, zero, suc, ◌+◌, ◌-◌, ◌≤◌, ◌<◌, ◌≡◌, ◌⊎◌}
-use Rattle.std.proofs.Common.{subst, ap, inl, inr, arith, le_antisymm}
-use Rattle.laws.specs.Test.{zero_or_more}
-use Rattle.spec.specs.Paths.{Path, here, step, height_from, IsHeight}
-use Rattle.spec.specs.Graph.{snoc, Down, path_down, last_link, carry}
+use Rattle.std.specs.Prelude.{ℕ, suc, ◌-◌, ◌≤◌, ◌≡◌, ◌⊎◌}
+use Rattle.std.proofs.Common.{inl, inr, arith, le_antisymm}
+use Rattle.spec.specs.Paths.{Path, height_from, IsHeight}
+use Rattle.spec.specs.Graph.{carry}
 
 -- why the table may hold the height n at p
 pub data Why (LinkedTo : ℕ → ℕ → Type 0) (rnd : ℕ → ℕ) (top : ℕ → Type 0) (H : ℕ) (h : ℕ → ℕ) (p : ℕ) : Type 0 where

@@ -1,7 +1,7 @@
 -- Laws of remove's definitions: which memory a round meets, what is left of it, that lists rise by digest, and that counts fit.
 use Prim.Native.Nat.{ℕ, zero, suc, ◌+◌, ◌-◌, ◌*◌, ◌≤◌, ◌<◌, max}
-use Rattle.std.specs.Prelude.{◌≡◌, refl, ◌⊎◌, true, false, not, ◌&&◌, cond, leb, ltb, length, get_or, take, drop}
-use Rattle.std.proofs.Common.{sym, ◌∙◌, ap, ap₂, inl, inr}
+use Rattle.std.specs.Prelude.{◌≡◌, refl, true, false, not, ◌&&◌, cond, leb, ltb, length}
+use Rattle.std.proofs.Common.{sym, ◌∙◌, ap, ap₂, inr}
 use Rattle.std.proofs.Math.Path.{subst}
 use Rattle.std.proofs.Math.Logic.{⊎_elim}
 use Rattle.std.proofs.Math.Bool.{Bool}
@@ -11,22 +11,18 @@ use mathlib.Core.List.{List, [], ◌∷◌, ◌++◌, map, Memᴰ, append-nil, m
 use Rattle.std.proofs.Math.Option.{Option, none, some}
 use Rattle.std.proofs.Math.Dec.{eqb}
 use Rattle.std.proofs.Math.ListN.{length-map}
-use Rattle.std.proofs.Math.Seq.{split_at}
 use borrow.Author.Tests.{eqb-true, eq-eqb, ne_eqb, leb-true, leb-false, le-leb, lt-leb, ltb-true, lt-ltb, le-ltb}
 use native.Mathlib.Omega.{arith}
-use Rattle.laws.specs.Test.{by_test, clash, same_test, both, and_l, and_r, same_or, le_or}
+use Rattle.laws.specs.Test.{by_test, same_test, and_l, and_r, same_or, le_or}
 use Rattle.laws.specs.Scan.{those, those_elim, those_nodup, those-count, those_fewer}
-use Rattle.laws.specs.Lists.{has, has_intro, has_elim, keep, keep_in, keep_append, keep-length, count, count_none, count_fewer, keys_most, map_same, keep-map, mem_map, joined, joined-append, joined_in, up_to, upto_in, NoDup, Pairs, append_pairs, keys_apart, keys_nodup, map_pairs, picked_pairs}
+use Rattle.laws.specs.Lists.{has, has_elim, keep, keep_in, keep_append, keep-length, count, count_none, count_fewer, keys_most, map_same, keep-map, mem_map, joined, joined-append, joined_in, up_to, upto_in, NoDup, Pairs, keys_apart, keys_nodup, map_pairs, picked_pairs}
 use Rattle.laws.specs.Sort.{sort, sort_mem, sort_once, sort_rises, sort_count}
 use Rattle.laws.specs.Peers.{member}
-use Rattle.laws.specs.Bytes.{written}
 use Rattle.spec.specs.Ids.{Id, prev}
-use Rattle.spec.specs.Store.{Entry, Memory, Store, Look, resolved_at, named_at, never, id_at, round_at, status_at, resolved, look_at, with_numbers, with_memory}
+use Rattle.spec.specs.Store.{Entry, Memory, Store, Look, resolved_at, named_at, never, id_at, round_at, resolved, look_at}
 use Rattle.spec.specs.Paths.{proved}
-use Rattle.spec.specs.Inspect.{places_in, of, is_trusted, entry_of, round_data, holds, larger, greatest, witnessed_by, due, reported, InspectedRound, up_from, last_non_executable, inspected, inspected_rounds, memory_after, shown, is_found, is_trans_invalid, is_invalid, is_ill_formed, proofs, authored_then, authored_now, is_valid, is_proved, not_referenced, Counters, one, counted, add, Stats, merge, since, total, stats_of, ids_of, Event, single, equivocation, no_inclusion, only_if, singles, equivocations, no_inclusions, over, events, remove_bytes}
-use Rattle.spec.specs.Chain.{Out, bad, good}
+use Rattle.spec.specs.Inspect.{places_in, of, is_trusted, entry_of, round_data, holds, witnessed_by, due, reported, InspectedRound, up_from, last_non_executable, inspected, inspected_rounds, memory_after, shown, is_found, is_trans_invalid, is_invalid, is_ill_formed, proofs, is_valid, is_proved, not_referenced, Counters, one, counted, add, Stats, merge, since, total, stats_of, ids_of, Event, single, equivocation, no_inclusion, only_if, over}
 use Rattle.spec.specs.Rules.{is_peer, version, versions}
-use Rattle.spec.specs.Calls.{Outcome, refused, done, new_bottom, drained, removing, do_remove}
 use Rattle.spec.specs.WellFormed.{Wf}
 use Rattle.spec.specs.Order.{Before, strict}
 

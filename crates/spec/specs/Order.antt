@@ -1,21 +1,20 @@
 -- Histories rise by round, inside a round by digest (01: back.rs, 'Forms of the Rust').
 use Rattle.std.specs.Prelude.{ℕ, ◌≤◌, ◌<◌, ◌≡◌, refl, ◌⊎◌, true, false, Bool, eqb, ltb, length}
-use Rattle.std.proofs.Common.{sym, ◌∙◌, ap, subst, arith}
+use Rattle.std.proofs.Common.{sym, ◌∙◌, subst, arith}
 use Rattle.std.proofs.Math.Logic.{inl, inr, ⊎_elim}
 use mathlib.Core.List.Memᴰ
 use mathlib.Core.List.{List, [], ◌∷◌, Memᴰ}
 use Rattle.std.proofs.lemmas.List.{length-map}
 use borrow.Author.Tests.{eqb-true, eq-eqb, leb-true, le-leb, ltb-true, lt-ltb}
 use Rattle.laws.specs.Test.{clash, both, and_l, and_r, or_l, or_r, or_cases, le_or, same_or}
-use Rattle.laws.specs.Scan.{those, those_elim, those_intro, those_nodup, those_most}
-use Rattle.laws.specs.Lists.{NoDup, Pairs, mem_map, map_mem, map_nodup}
-use Rattle.laws.specs.Sort.{sort_mem, sort_once, sort_rises, sort_length}
+use Rattle.laws.specs.Scan.{those, those_most}
+use Rattle.laws.specs.Lists.{NoDup, Pairs}
+use Rattle.laws.specs.Sort.{sort_length}
 use Rattle.spec.specs.Ids.{Id, by_round, rises, falls}
 use Rattle.spec.specs.Store.{Store, id_at}
 use Rattle.spec.specs.Rules.{places_ok}
 use Rattle.spec.specs.History.{Need, anchor, hand, needed, in_history, history}
 use Rattle.spec.specs.Links.{linked}
-use Rattle.spec.specs.HeightEquations.{inside}
 use Rattle.spec.specs.WellFormed.{Wf}
 
 -- x comes before y: in a lower round, or in the same with a smaller digest

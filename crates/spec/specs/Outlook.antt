@@ -1,33 +1,23 @@
 -- The outlook refuses as the commit would (01: commit/mod.rs, 'Refusals'; 02: N1).
 use Prim.Native.Nat.{ℕ, zero, suc, ◌+◌, ◌-◌, ◌*◌, ◌≤◌, ◌<◌}
-use Rattle.std.specs.Prelude.{◌≡◌, ◌⊎◌, ◌≢◌, ◌↔◌, ◌&&◌, ◌||◌, leb, ltb, length}
+use Rattle.std.specs.Prelude.{◌≡◌, ◌⊎◌, ◌≢◌, length}
 use Rattle.std.proofs.Math.Path.{refl, sym, ap}
-use Rattle.std.proofs.Common.{◌∙◌, subst, subst₂, ap₂, inl, inr, length-append, arith, le_trans}
+use Rattle.std.proofs.Common.{◌∙◌, subst, inl, inr, length-append, arith}
 use Rattle.std.proofs.Math.Logic.{⊎_elim}
-use Rattle.std.proofs.Math.Bool.{Bool, true, false, not}
+use Rattle.std.proofs.Math.Bool.{Bool, true, false}
 use mathlib.Core.List.Memᴰ
 use mathlib.Core.List.{List, [], ◌∷◌, ◌++◌, Memᴰ}
 use Rattle.std.proofs.Math.Option.{Option, none, some, some-injective}
-use Rattle.std.proofs.Math.Dec.{eqb}
-use Rattle.std.proofs.lemmas.List.{length-map}
-use borrow.Author.Tests.{eqb-true, le-ltb, not-true}
-use Rattle.laws.specs.Test.{by_test, clash, not_no, both, and_l, and_r, and-true, and_no, and_no_r, or_none, same_test}
-use Rattle.laws.specs.Scan.{any, any_same, those, those_elim}
-use Rattle.laws.specs.Lists.{has, has_same, Pairs, keep, keep_in, joined, weigh}
-use Rattle.laws.specs.Sort.{insert, sort, sort_mem, sort_rises}
-use Rattle.laws.specs.Bytes.{be, be-length, written, written-length}
-use Rattle.spec.specs.Ids.{Id, id_bytes, falls}
-use Rattle.spec.specs.Store.{Store, id_at, round_at, status_at, resolved, links_to}
-use Rattle.spec.specs.Paths.{LinkedTo, height, certified, proved}
-use Rattle.spec.specs.Chain.{Refusal, number, conflict, Out, bad, good, then, refuse, is_committable, checked_as, checked, EnqueuedAnchor, anchors_of}
-use Rattle.spec.specs.History.{limit, lowest, Need, anchor, hand, needed, in_history, history, first_fault, faults, rounds_missing, any_uncertified, tested, gap_pending, linked_counts, lists_ok, rounds_of, after_lists, test_anchor, record_bytes, is_first_executable, gap_after, set_committed, dequeued, Finished, commit_all, outlook_bytes, outlook_all}
-use Rattle.spec.specs.Calls.{Answer, anchors, refused, number_of, Outcome, commit_end, do_commit, do_outlook, perform, commit, outlook, call}
-use Rattle.spec.specs.Links.{resolved-named}
-use Rattle.spec.specs.HeightEquations.{Sized, inside}
-use Rattle.spec.specs.WellFormed.{Wf}
-use Rattle.spec.specs.Order.{need_named, falls-total, falls_trans}
-use Rattle.spec.specs.Records.{id-length}
-use Rattle.spec.specs.Walk.{not_good, then-good, refuse_back, checked_at, checked_back, Anchored, Rising, Tested, tested-good}
+use Rattle.laws.specs.Test.{by_test}
+use Rattle.laws.specs.Scan.{those}
+use Rattle.laws.specs.Lists.{has, keep, joined, weigh}
+use Rattle.laws.specs.Bytes.{be, be-length, written}
+use Rattle.spec.specs.Ids.{Id}
+use Rattle.spec.specs.Store.{Store, round_at}
+use Rattle.spec.specs.Chain.{Refusal, number, conflict, Out, bad, good, then, refuse, is_committable, checked, EnqueuedAnchor, anchors_of}
+use Rattle.spec.specs.History.{lowest, in_history, first_fault, tested, gap_pending, linked_counts, lists_ok, after_lists, test_anchor, record_bytes, is_first_executable, gap_after, set_committed, dequeued, Finished, commit_all, outlook_bytes, outlook_all}
+use Rattle.spec.specs.Calls.{Answer, anchors, refused, number_of, Outcome, commit_end, do_commit, do_outlook}
+use Rattle.spec.specs.Walk.{then-good, Anchored, Rising, Tested, tested-good}
 
 -- ---- lists put in order, and some of their elements left out
 

@@ -1,7 +1,5 @@
-use Rattle.std.proofs.Common.{◌≡◌, arith}
-use Rattle.laws.specs.Bytes.{be}
-use Rattle.spec.specs.Pcg.{le}
-use Rattle.pcg.specs.Swap.{swapping, swapping-begins, swapping-more, swapping_end, swapping-fits}
+use Rattle.std.proofs.Common.{arith}
+use Rattle.pcg.specs.Swap.{swapping-begins, swapping-more, swapping_end, swapping-fits}
 use Rattle.pcg.proofs.pcg.swap_bytes.Goals as goal
 
 pub loop-left-init : goal.loop-left-init

@@ -1,7 +1,7 @@
-use Rattle.std.proofs.Common.{◌≡◌, arith}
+use Rattle.std.proofs.Common.{◌≡◌}
 use Rattle.laws.specs.Bytes.{be}
 use Rattle.spec.specs.Pcg.{le}
-use Rattle.pcg.specs.Swap.{swapping, swapping-begins, swapping-more, swapping_end, swapping-fits}
+use Rattle.pcg.specs.Swap.{swapping}
 use Rattle.pcg.proofs.pcg.swap_bytes.Given as goal
 
 abbrev pub invariant-loop-left : goal.invariant-loop-left
