@@ -17,9 +17,9 @@ use Rattle.trace.specs.Kinds.{kind_of, kind_ok, kind_known}
 use Rattle.trace.specs.Head.{fields_fit, whole_at, rest_at, fields_at, version_ok, kind_code, code_at, by_zero, code_whole, whole_elim}
 use Rattle.trace.specs.Fields.{call_by}
 use Rattle.trace.specs.Codes.{Found, read_at, Trace, more, go_on, trace_from, trace_in}
-use Rattle.trace.specs.CodeAt.{code_of, code_is}
-use Rattle.trace.specs.ReadBack.{trace_more, trace_end}
-use Rattle.trace.specs.WriteBack.{AllBytes, bytes-part}
+use Rattle.trace.proofs.CodeAt.{code_of, code_is}
+use Rattle.trace.proofs.ReadBack.{trace_more, trace_end}
+use Rattle.trace.proofs.WriteBack.{AllBytes, bytes-part}
 use Rattle.play.specs.Runs.{Runs, none_yet, one_more}
 use Rattle.demand.specs.Code.{Made, outcome, calls_of, last_is}
 use Rattle.demand.specs.Recorded.{made_in, run_chained, calls_append, NoReset, AllFit, bytes_fit, part_in}

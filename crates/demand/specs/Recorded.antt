@@ -20,7 +20,7 @@ use Rattle.trace.specs.Kinds.{Kind, kind_of, known}
 use Rattle.trace.specs.Kinds as kind
 use Rattle.trace.specs.Head.{lists_in, fits, fields_fit, fields_at, code_at, code_fits}
 use Rattle.trace.specs.Fields.{call_by}
-use Rattle.trace.specs.WriteBack.{AllBytes, number-below}
+use Rattle.trace.proofs.WriteBack.{AllBytes, number-below}
 use Rattle.play_calls.specs.Calls.{takes_buffer, model_by}
 use Rattle.play.specs.Plays.{Plays, PlaysAt, plays_good}
 use Rattle.play.specs.Runs.{Runs, none_yet, one_more}

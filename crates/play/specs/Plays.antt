@@ -9,7 +9,7 @@ use Rattle.commit_answer.specs.declared.answer.Outcome.{Outcome}
 use Rattle.trace.specs.Kinds.{Kind, known, kind_of}
 use Rattle.trace.specs.Head.{part, fields_at, code_at, head_at, head_good}
 use Rattle.trace.specs.Fields.{call_by}
-use Rattle.trace.specs.WriteBack.{bytes-part}
+use Rattle.trace.proofs.WriteBack.{bytes-part}
 use Rattle.trace.specs.declared.head.Record.{Record}
 use Rattle.play_calls.specs.Calls.{takes_buffer, model_by}
 

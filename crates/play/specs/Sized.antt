@@ -4,7 +4,7 @@ use Rattle.std.proofs.Math.Path.{refl}
 use Rattle.std.proofs.Common.{sym, ap, ◌∙◌, arith}
 use Rattle.trace.specs.Kinds.{Kind, Start, Round, Name, Resolve, Certify, Commit, Remove, Drop, Outlook, known, kind_of}
 use Rattle.trace.specs.Head.{fits, size_of, links_in, part, code_at, head_at, whole_short, code_whole, whole_elim, head_good, head_bad, head_known, by_zero, fits-length, links-few}
-use Rattle.trace.specs.CodeAt.{record_cut}
+use Rattle.trace.proofs.CodeAt.{record_cut}
 use Rattle.trace.specs.declared.head.Record.{Record}
 
 -- fields of a kind that is known have its length, at most 4,094

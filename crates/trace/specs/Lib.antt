@@ -8,9 +8,5 @@ pub mod PeerStats
 pub mod Events
 pub mod Codes
 pub mod Write
-pub mod ReadBack
-pub mod WriteBack
-pub mod Unread
 pub mod Put
-pub mod CodeAt
 pub mod Within

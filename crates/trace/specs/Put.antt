@@ -33,14 +33,5 @@ put-good b c r e l =
     front n = omega arith
 
 -- the number that a record is refused with, 0 for none
-abbrev code_in : List ℕ → ℕ
+abbrev pub code_in : List ℕ → ℕ
 code_in bs = elim (read_at [] bs 0) [ bad r ↦ number_of r | good f ↦ 0 ]
-
--- cut short; a rest under 2; a gap question; an unknown version; an unknown kind; wrong length for its kind; that and an unknown version; that and
--- an unknown kind; cut short and an unknown version; a rest above 4,096
-pub orders : map code_in (
-    (0 ∷ []) ∷ (0 ∷ 0 ∷ 0 ∷ 1 ∷ 1 ∷ []) ∷ (0 ∷ 0 ∷ 0 ∷ 2 ∷ 1 ∷ 9 ∷ []) ∷ (0 ∷ 0 ∷ 0 ∷ 2 ∷ 2 ∷ 9 ∷ []) ∷ (0 ∷ 0 ∷ 0 ∷ 2 ∷ 1 ∷ 11 ∷ []) ∷ (0 ∷ 0 ∷ 0 ∷ 3 ∷ 1 ∷ 9 ∷ 0 ∷ [])
-    ∷ (0 ∷ 0 ∷ 0 ∷ 3 ∷ 2 ∷ 9 ∷ 0 ∷ []) ∷ (0 ∷ 0 ∷ 0 ∷ 3 ∷ 1 ∷ 0 ∷ 0 ∷ []) ∷ (0 ∷ 0 ∷ 0 ∷ 4 ∷ 2 ∷ 9 ∷ []) ∷ (0 ∷ 0 ∷ 16 ∷ 1 ∷ 2 ∷ 9 ∷ []) ∷ []
-    ) ≡ 26 ∷ 26 ∷ 0 ∷ 27 ∷ 27 ∷ 26 ∷ 27 ∷ 27 ∷ 26 ∷ 26 ∷ []
-unfolding read_at refuse whole_at number_at words value number version_ok kind_ok fields_fit fits size_of kind_of number_of
-orders = refl

@@ -6,7 +6,7 @@ use Rattle.laws.specs.Lists.{all}
 use Rattle.laws.specs.Bytes.{be, be-length, written, and_then}
 use Rattle.spec.specs.Ids.{Id, id_bytes}
 use Rattle.trace.specs.Write.{Field, field, field_bytes, fits_field, id_then}
-use Rattle.trace.specs.ReadBack.{fields_append}
+use Rattle.trace.proofs.ReadBack.{fields_append}
 
 pub fit_none : true ≡ all fits_field []
 unfolding all

@@ -10,7 +10,7 @@ use Rattle.laws.specs.Bytes.{written}
 use Rattle.spec.specs.Ids.{Id, id_bytes}
 use Rattle.spec.specs.Calls.{name, certify, commit}
 use Rattle.trace.specs.Write.{field, field_bytes, fits_field, id_then, fields_of, kind_byte, sayable}
-use Rattle.trace.specs.ReadBack.{size, fields_length, fields_append, lists_back}
+use Rattle.trace.proofs.ReadBack.{size, fields_length, fields_append, lists_back}
 use Rattle.trace_write.specs.Puts.{Said}
 use Rattle.trace_write.specs.Fields.{fit_none, fit_more, fit_append, put_id}
 

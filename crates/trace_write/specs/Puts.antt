@@ -10,7 +10,7 @@ use Rattle.laws.specs.Lists.{all}
 use Rattle.laws.specs.Bytes.{be, be-length, written, written-length, and_then}
 use Rattle.spec.specs.Chain.{Out, bad, good, then, refuse}
 use Rattle.spec.specs.Calls.{Call, number_of, start, reset_all, round, name, resolve, certify, gap_question, commit, outlook, remove, drop}
-use Rattle.trace.specs.ReadBack.{record_size_lem}
+use Rattle.trace.proofs.ReadBack.{record_size_lem}
 use Rattle.trace.specs.Write.{Field, field_bytes, fits_field, fields_of, kind_byte, sayable, fields_in, record_bytes, record_of, put_record}
 
 -- what writing leaves: b, d the buffer before and after it, x the number of a refusal or 0, n the record's length or 0; l: that length

@@ -26,7 +26,7 @@ use Rattle.models.specs.Parts.{id_of}
 use Rattle.models.specs.contracts.info.PointInfo.{the_type}
 use Rattle.models.specs.declared.info.PointInfo.{PointInfo}
 use Rattle.trace.specs.Write.{Field, field, field_bytes, fits_field, id_then, link_fields, marks_byte, resolve_fields, fields_of, kind_byte, sayable, fields_in, record_bytes, put_record}
-use Rattle.trace.specs.ReadBack.{size, fields_length, fields_append}
+use Rattle.trace.proofs.ReadBack.{size, fields_length, fields_append}
 use Rattle.trace_write.specs.Puts.{PutAs, Puts, Said, head_unfit, put_refused}
 use Rattle.trace_write.specs.Fields.{fit_none, fit_more, fit_append, put-more, put_last, put_fields}
 use Rattle.trace_write.specs.Ids.{byte_fit, digest_small}

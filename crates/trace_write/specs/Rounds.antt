@@ -15,7 +15,7 @@ use Rattle.commit_state.specs.Back.{used_of}
 use Rattle.commit_state.specs.declared.back.UsedAuthor.{UsedAuthor}
 use Rattle.commit_state.specs.declared.back.UsedAuthor.TheVariants.{Nobody, Peer}
 use Rattle.trace.specs.Write.{Field, field, field_bytes, fits_field, used_byte, start_fields, remove_fields, fields_of, kind_byte, is255, sayable}
-use Rattle.trace.specs.ReadBack.{size, fields_length}
+use Rattle.trace.proofs.ReadBack.{size, fields_length}
 use Rattle.trace_write.specs.Puts.{Said}
 use Rattle.trace_write.specs.Fields.{fit_none, fit_more, put_fields}
 

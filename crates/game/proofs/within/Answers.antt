@@ -1,7 +1,5 @@
-use Prim.Native.Nat.{◌≤◌, ◌-◌}
-use mathlib.Core.Path.{◌≡◌}
 use borrow.Author.Rules.{rules}
-use Rattle.game.specs.Steps.{within_to, within_none, within_more, within_end}
+use Rattle.game.specs.Steps.{within_none, within_more, within_end}
 use Rattle.game.proofs.within.Goals as goal
 
 pub loop-k-init : goal.loop-k-init

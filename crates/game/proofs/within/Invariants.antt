@@ -1,7 +1,6 @@
 use Prim.Native.Nat.{◌≤◌, ◌-◌}
 use mathlib.Core.Path.{◌≡◌}
-use borrow.Author.Rules.{rules}
-use Rattle.game.specs.Steps.{within_to, within_none, within_more, within_end}
+use Rattle.game.specs.Steps.{within_to}
 use Rattle.game.proofs.within.Given as goal
 
 abbrev pub invariant-loop-k : goal.invariant-loop-k

@@ -2,7 +2,6 @@ use mathlib.Core.Path.{ap}
 use mathlib.Core.List.{[]}
 use lib.ListN.{get_or}
 use Rattle.spec.specs.Inspect.{weight, weights}
-use borrow.Author.Rules.{rules}
 use Rattle.stats.proofs.weight_of.Goals as goal
 
 pub returns : goal.returns

@@ -1,4 +1,3 @@
-use borrow.Author.Rules.{rules}
 use mathlib.Core.Path.{ap, sym}
 use Rattle.game.specs.Model.{refusal_of}
 use Rattle.game.proofs.Reach.refusal.Goals as goal

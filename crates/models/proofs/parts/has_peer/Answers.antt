@@ -1,4 +1,3 @@
-use borrow.Author.Rules.{rules}
 use mathlib.Core.Path.{refl}
 use Rattle.laws.specs.Peers.{member}
 use Rattle.models.proofs.parts.has_peer.Goals as goal

@@ -1,6 +1,5 @@
 use mathlib.Core.Path.{ap, ◌∙◌}
 use Rattle.models.specs.DagPoint.{case_of}
-use borrow.Author.Rules.{rules}
 use Rattle.models.proofs.place.case_at.Goals as goal
 
 pub returns : goal.returns

@@ -1,6 +1,5 @@
 use mathlib.Core.Path.{refl}
 use Rattle.models.specs.Ids.{id_from}
-use borrow.Author.Rules.{rules}
 use Rattle.models.proofs.place.id_from.Goals as goal
 
 pub returns : goal.returns

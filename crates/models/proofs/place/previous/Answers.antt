@@ -1,5 +1,4 @@
 use Rattle.models.specs.Ids.{previous_from}
-use borrow.Author.Rules.{rules}
 use Rattle.models.proofs.place.previous.Goals as goal
 
 pub returns : goal.returns

@@ -1,5 +1,4 @@
 use Rattle.models.specs.Ids.{top_by}
-use borrow.Author.Rules.{rules}
 use Rattle.models.proofs.place.top_proof.Goals as goal
 
 pub returns : goal.returns

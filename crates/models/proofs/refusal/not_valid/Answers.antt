@@ -1,5 +1,4 @@
 use Rattle.models.specs.Refusal.{invalid_certified, invalid_flat}
-use borrow.Author.Rules.{rules}
 use Rattle.models.proofs.refusal.not_valid.Goals as goal
 
 -- src/refusal.rt:90:9

@@ -1,5 +1,4 @@
 use Rattle.models.specs.Refusal.{number_is, number_13}
-use borrow.Author.Rules.{rules}
 use Rattle.models.proofs.refusal.refusal_number.Goals as goal
 
 pub returns-in-Number : goal.returns-in-Number

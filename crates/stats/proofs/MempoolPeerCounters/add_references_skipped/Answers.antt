@@ -1,6 +1,5 @@
 use native.Mathlib.Omega.{arith}
 use Rattle.stats.specs.Counters.{skipped_from, counters_of}
-use borrow.Author.Rules.{rules}
 use Rattle.stats.proofs.MempoolPeerCounters.add_references_skipped.Goals as goal
 
 pub returns : goal.returns

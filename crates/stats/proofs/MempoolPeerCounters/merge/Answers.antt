@@ -1,5 +1,4 @@
 use Rattle.stats.specs.Counters.{merge_from}
-use borrow.Author.Rules.{rules}
 use Rattle.stats.proofs.MempoolPeerCounters.merge.Goals as goal
 
 pub returns : goal.returns

@@ -1,8 +1,6 @@
 use Prim.Native.Nat.{◌*◌, ◌-◌, ◌≤◌}
-use mathlib.Core.Path.{◌≡◌, refl}
-use native.Mathlib.Omega.{arith}
-use Rattle.stats.specs.Counters.{score_to, score-more, score_is}
-use borrow.Author.Rules.{rules}
+use mathlib.Core.Path.{◌≡◌}
+use Rattle.stats.specs.Counters.{score_to}
 use Rattle.stats.proofs.MempoolPeerCounters.score.Given as goal
 
 abbrev pub invariant-loop-counter : goal.invariant-loop-counter

@@ -1,5 +1,4 @@
 use Rattle.stats.specs.Ranges.{since_none, since_from}
-use borrow.Author.Rules.{rules}
 use Rattle.stats.proofs.ranges.is_since.Goals as goal
 
 pub returns-in-Nothing : goal.returns-in-Nothing

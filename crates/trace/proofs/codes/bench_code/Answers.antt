@@ -2,7 +2,7 @@ use mathlib.Core.Bool.{true}
 use borrow.Author.Rules.{rules}
 use Rattle.trace.specs.Kinds.{kind_of, kind_known}
 use Rattle.trace.specs.Head.{size_of, fits, fields_fit, kind_code}
-use Rattle.trace.specs.CodeAt.{kind_code_lem, bench_other}
+use Rattle.trace.proofs.CodeAt.{kind_code_lem, bench_other}
 use Rattle.trace.proofs.codes.bench_code.Goals as goal
 
 pub returns-then-kind-eq-OUTLOOK : goal.returns-then-kind-eq-OUTLOOK

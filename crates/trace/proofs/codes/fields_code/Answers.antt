@@ -3,7 +3,7 @@ use mathlib.Core.Path.{ap, ◌∙◌}
 use mathlib.Core.Bool.{Bool, false, cond}
 use Rattle.trace.specs.Kinds.{kind_of, kind_ok, kind_known}
 use Rattle.trace.specs.Head.{size_of, fits, fields_fit, kind_code, commit-size}
-use Rattle.trace.specs.CodeAt.{kind_code_lem, code_none}
+use Rattle.trace.proofs.CodeAt.{kind_code_lem, code_none}
 use Rattle.trace.proofs.codes.fields_code.Goals as goal
 
 -- src/codes.rt:24:14

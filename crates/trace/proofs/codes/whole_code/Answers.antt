@@ -1,6 +1,6 @@
 use mathlib.Core.Bool.{true, false}
 use borrow.Author.Rules.{rules}
-use Rattle.trace.specs.CodeAt.{code_version, code_fields}
+use Rattle.trace.proofs.CodeAt.{code_version, code_fields}
 use Rattle.trace.proofs.codes.whole_code.Goals as goal
 
 pub returns-then-version-ne1 : goal.returns-then-version-ne1

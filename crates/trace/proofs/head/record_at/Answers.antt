@@ -3,7 +3,7 @@ use native.Mathlib.Omega.{arith}
 use borrow.Author.Tests.{not-true, not-false}
 use borrow.Author.Rules.{rules}
 use Rattle.trace.specs.Head.{whole_elim}
-use Rattle.trace.specs.CodeAt.{record_cut}
+use Rattle.trace.proofs.CodeAt.{record_cut}
 use Rattle.trace.proofs.head.record_at.Goals as goal
 
 pub returns-then-not-whole_at : goal.returns-then-not-whole_at

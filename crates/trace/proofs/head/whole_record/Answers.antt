@@ -1,5 +1,5 @@
 use borrow.Author.Rules.{rules}
-use Rattle.trace.specs.CodeAt.{record_bad, record_good}
+use Rattle.trace.proofs.CodeAt.{record_bad, record_good}
 use Rattle.trace.proofs.head.whole_record.Goals as goal
 
 pub returns-then-code-ne0 : goal.returns-then-code-ne0

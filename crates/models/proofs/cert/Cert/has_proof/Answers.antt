@@ -1,5 +1,4 @@
 use Rattle.models.specs.Cert.{flags_of, height_of, has_proof}
-use borrow.Author.Rules.{rules}
 use Rattle.models.proofs.cert.Cert.has_proof.Goals as goal
 
 pub returns : goal.returns

@@ -1,4 +1,3 @@
-use borrow.Author.Rules.{rules}
 use mathlib.Core.Path.{refl}
 use Rattle.models.specs.Cert.{height_of}
 use Rattle.models.proofs.cert.Cert.height.Goals as goal

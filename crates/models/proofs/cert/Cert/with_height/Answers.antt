@@ -1,5 +1,4 @@
 use mathlib.Core.Path.{refl}
-use borrow.Author.Rules.{rules}
 use Rattle.models.specs.Cert.{with_height}
 use Rattle.models.proofs.cert.Cert.with_height.Goals as goal
 

@@ -1,4 +1,3 @@
-use borrow.Author.Rules.{rules}
 use mathlib.Core.Path.{ap, sym}
 use Rattle.models.specs.DagPoint.{has_info}
 use Rattle.models.proofs.dag_point.DagPoint.has_info.Goals as goal

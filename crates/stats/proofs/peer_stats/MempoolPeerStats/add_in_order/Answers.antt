@@ -1,5 +1,4 @@
 use Rattle.stats.specs.PeerStats.{added_first, added_next}
-use borrow.Author.Rules.{rules}
 use Rattle.stats.proofs.peer_stats.MempoolPeerStats.add_in_order.Goals as goal
 
 pub returns-then-self-eq0 : goal.returns-then-self-eq0

@@ -1,5 +1,4 @@
 use Rattle.stats.specs.PeerStats.{none_from}
-use borrow.Author.Rules.{rules}
 use Rattle.stats.proofs.peer_stats.MempoolPeerStats.new.Goals as goal
 
 pub returns : goal.returns

@@ -21,7 +21,7 @@ use Rattle.trace.specs.Kinds.{Kind, kind_of, kind_ok}
 use Rattle.trace.specs.Kinds as kind
 use Rattle.trace.specs.Fields.{used_in, start_in, since_in, links_from, payload_from, resolution_in, call_by}
 use Rattle.trace.specs.Write.{Field, field, field_bytes, fits_field, id_then, used_byte, start_fields, link_fields, marks_byte, resolve_fields, remove_fields, fields_of, kind_byte, is255, sayable, fields_in, record_bytes, record_of}
-use Rattle.trace.specs.ReadBack.{byte_is, words-own, fields_append, lists_back, not_no}
+use Rattle.trace.proofs.ReadBack.{byte_is, words-own, fields_append, lists_back, not_no}
 
 -- every element is a byte
 abbrev pub AllBytes : List ℕ → Type 0

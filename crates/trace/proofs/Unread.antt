@@ -19,7 +19,7 @@ use Rattle.trace.specs.Kinds as kind
 use Rattle.trace.specs.Fields.{flag_in, used_in, start_in, since_in, links_from, resolution_in, call_by}
 use Rattle.trace.specs.Codes.{Found, read_at}
 use Rattle.trace.specs.Write.{fields_in, record_bytes, record_of}
-use Rattle.trace.specs.WriteBack.{AllBytes, bytes-part, Normal, write_back, read_of}
+use Rattle.trace.proofs.WriteBack.{AllBytes, bytes-part, Normal, write_back, read_of}
 
 -- ---- bytes that agree but at some places
 
