@@ -26,7 +26,7 @@ fn stop_without(archive: &Path) {
     }
     println!("cargo::error=the static library is missing: there is no {}", archive.display());
     println!(
-        "cargo::error=run `rt staticlib committer` in the repository first, or set COMMITTER_LIB to the path of the archive"
+        "cargo::error=run `.ci/build` in the repository first, or set COMMITTER_LIB to the path of the archive"
     );
     process::exit(1);
 }

@@ -1,6 +1,6 @@
 #!/usr/bin/env bash
 # The tests of the hosts: stack and symbols of the library, include/committer.h under several compilers and standards, the C programs over it, then the
-# Rust crate. All take the static library that `rt staticlib committer` writes, or the one that COMMITTER_LIB names. What is built goes into
+# Rust crate. All take the static library that `.ci/build` writes, or the one that COMMITTER_LIB names. What is built goes into
 # target/host, or CARGO_TARGET_DIR.
 set -euo pipefail
 here="$(cd "$(dirname "${BASH_SOURCE[0]}")" && pwd)"
@@ -14,7 +14,7 @@ cc="${CC:-cc}"
 
 if [ ! -f "$COMMITTER_LIB" ]; then
   echo "the static library is missing: there is no $COMMITTER_LIB" >&2
-  echo "run \`rt staticlib committer\` in the repository first, or set COMMITTER_LIB to the path of the archive" >&2
+  echo "run \`.ci/build\` in the repository first, or set COMMITTER_LIB to the path of the archive" >&2
   exit 1
 fi
 for tool in "$cc" cargo objdump nm awk; do

@@ -1,5 +1,5 @@
 /*
- * The committer for C hosts: the functions of libcommitter.a (`rt staticlib committer`, x86-64).
+ * The committer for C hosts: the functions of libcommitter.a (`.ci/build`, x86-64).
  *
  * The host keeps a state and lends four tables. Each call takes the state by value and returns the state after it in its reply; the next
  * call is given that one. Before the first start the state is all zero (committer_no_state), and the tables may hold anything.
@@ -71,7 +71,7 @@ extern "C" {
 /* ---- platform */
 
 /*
- * The library is one ELF object for x86-64 with the System V calling convention; `rt staticlib` writes no other. It has some 53 KB of
+ * The library is one ELF object for x86-64 with the System V calling convention; `.ci/build` writes no other. It has some 53 KB of
  * position-independent code and constants, and no variables. It uses SSE2, which must be enabled, and nothing beyond it.
  *
  * It needs from outside: memcpy, memset.

@@ -349,6 +349,9 @@ def invariant(cc, rn, cn, text, info, path):
     vs = [v for v in vs]
     args = m.group(1).split()
     meant = [("l.initial." if c else "l.") + v for v, c in zip(vs, changed)] + ["l." + v for v, c in zip(vs, changed) if c]
+    if len(args) > len(meant):
+        # values that the older form kept without a name
+        args = [a for a in args if not re.match(r"t\d+₀?$", a)]
     if len(args) != len(meant):
         print(f"{path}: {rn}: {args} {meant}")
         return cc + ["-- LOOK " + cn + " " + " ".join(meant)] + ["-- " + l for l in text.split("\n")] + [""]

@@ -1,4 +1,4 @@
-//! The proved committer for hosts written in Rust, over the static library that `rt staticlib committer` writes.
+//! The proved committer for hosts written in Rust, over the static library that `.ci/build` writes.
 //!
 //! [`Committer`] owns the tables and the state. Every call on every input has an answer: a call that can't be done is
 //! refused with a number ([`Refusal`]) and changes nothing, but for the anchors that a commit finished before. A record

@@ -1,7 +1,6 @@
 use mathlib.Core.Path.{refl}
 use Rattle.laws.specs.Bytes.{be-length}
 use Rattle.answer_bytes.specs.Sent.{sent_wrote, sent_counted}
-use borrow.Author.Rules.{rules}
 use Rattle.answer_bytes.proofs.emit_digest.Goals as goal
 
 pub put_digest-requires : goal.put_digest-requires

@@ -1,7 +1,6 @@
 use mathlib.Core.Path.{refl}
 use Rattle.spec.specs.Records.{id-length}
 use Rattle.answer_bytes.specs.Sent.{sent_wrote, sent_counted}
-use borrow.Author.Rules.{rules}
 use Rattle.answer_bytes.proofs.emit_id.Goals as goal
 
 pub put_id-requires : goal.put_id-requires

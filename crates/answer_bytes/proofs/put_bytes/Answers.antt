@@ -1,8 +1,7 @@
 use native.Mathlib.Omega.{arith}
 use borrow.Author.Rules.{rules}
-use Prim.Native.Nat.{◌-◌, ◌≤◌}
-use mathlib.Core.Path.{◌≡◌, refl, ap, ◌∙◌}
-use lib.ListN.{length, take}
+use mathlib.Core.Path.{refl, ap, ◌∙◌}
+use lib.ListN.{length}
 use Rattle.laws.specs.Bytes.{written, written-length}
 use Rattle.answer_bytes.specs.Bytes.{bytes-more, bytes_end}
 use Rattle.answer_bytes.proofs.put_bytes.Goals as goal

@@ -1,10 +1,7 @@
-use native.Mathlib.Omega.{arith}
-use borrow.Author.Rules.{rules}
 use Prim.Native.Nat.{◌-◌, ◌≤◌}
-use mathlib.Core.Path.{◌≡◌, refl, ap, ◌∙◌}
+use mathlib.Core.Path.{◌≡◌}
 use lib.ListN.{length, take}
-use Rattle.laws.specs.Bytes.{written, written-length}
-use Rattle.answer_bytes.specs.Bytes.{bytes-more, bytes_end}
+use Rattle.laws.specs.Bytes.{written}
 use Rattle.answer_bytes.proofs.put_bytes.Given as goal
 
 abbrev pub invariant-loop-k : goal.invariant-loop-k

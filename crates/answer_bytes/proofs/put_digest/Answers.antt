@@ -3,7 +3,6 @@ use mathlib.Core.Path.{sym}
 use Rattle.laws.specs.Bytes.{be-length, and_then}
 use Rattle.models.specs.Digest.{Fit}
 use Rattle.answer_bytes.specs.Bytes.{digest_bytes}
-use borrow.Author.Rules.{rules}
 use Rattle.answer_bytes.proofs.put_digest.Goals as goal
 
 pub returns : goal.returns

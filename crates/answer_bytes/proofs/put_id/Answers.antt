@@ -1,6 +1,5 @@
 use native.Mathlib.Omega.{arith}
 use Rattle.answer_bytes.specs.Bytes.{id-put}
-use borrow.Author.Rules.{rules}
 use Rattle.answer_bytes.proofs.put_id.Goals as goal
 
 pub returns : goal.returns

@@ -1,7 +1,6 @@
-use Prim.Native.Nat.{◌≤◌, ◌-◌}
-use mathlib.Core.Path.{◌≡◌, refl, ◌∙◌}
-use lib.ListN.{length, length-set}
-use Rattle.dag_round_keys.specs.Fill.{filled, copied, filled_more, filled_end}
+use mathlib.Core.Path.{refl, ◌∙◌}
+use lib.ListN.{length-set}
+use Rattle.dag_round_keys.specs.Fill.{filled, filled_more, filled_end}
 use borrow.Author.Rules.{rules}
 use Rattle.dag_round_keys.proofs.copy_words.Goals as goal
 

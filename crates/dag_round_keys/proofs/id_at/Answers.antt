@@ -1,6 +1,5 @@
 use mathlib.Core.Path.{refl}
 use Rattle.dag_round_keys.specs.Id.{id_from}
-use borrow.Author.Rules.{rules}
 use Rattle.dag_round_keys.proofs.id_at.Goals as goal
 
 pub returns : goal.returns

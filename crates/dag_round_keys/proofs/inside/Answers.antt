@@ -1,11 +1,10 @@
-use Prim.Native.Nat.{◌<◌, ◌≤◌, ◌-◌}
+use Prim.Native.Nat.{◌<◌}
 use mathlib.Core.Path.{sym}
 use native.Mathlib.Omega.{arith}
 use borrow.Author.Count.{below_more}
 use lib.ListN.{get_or}
 use Rattle.dag_round_keys.specs.Sorted.{inside_is, inside_not}
 use borrow.Author.Rules.{rules}
-use Rattle.models.specs.Tables.{Inside}
 use Rattle.dag_round_keys.proofs.inside.Goals as goal
 
 pub loop-p-init : goal.loop-p-init

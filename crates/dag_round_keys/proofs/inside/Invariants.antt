@@ -1,10 +1,4 @@
-use Prim.Native.Nat.{◌<◌, ◌≤◌, ◌-◌}
-use mathlib.Core.Path.{sym}
-use native.Mathlib.Omega.{arith}
-use borrow.Author.Count.{below_more}
-use lib.ListN.{get_or}
-use Rattle.dag_round_keys.specs.Sorted.{inside_is, inside_not}
-use borrow.Author.Rules.{rules}
+use Prim.Native.Nat.{◌≤◌, ◌-◌}
 use Rattle.models.specs.Tables.{Inside}
 use Rattle.dag_round_keys.proofs.inside.Given as goal
 

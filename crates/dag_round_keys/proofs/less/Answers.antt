@@ -1,7 +1,6 @@
 use mathlib.Core.Path.{sym, ◌∙◌}
 use Rattle.dag_round_keys.specs.Key.{key, before-next, before_here}
 use Rattle.dag_round_keys.specs.Digest.{digest_before}
-use borrow.Author.Rules.{rules}
 use Rattle.dag_round_keys.proofs.less.Goals as goal
 
 pub returns-then-u-v : goal.returns-then-u-v

@@ -1,5 +1,4 @@
 use native.Mathlib.Omega.{arith}
-use borrow.Author.Rules.{rules}
 use Rattle.dag_round_keys.proofs.place.Goals as goal
 
 -- `dag_round_keys::place` meets its contract.

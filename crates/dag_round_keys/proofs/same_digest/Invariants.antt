@@ -1,10 +1,6 @@
 use Prim.Native.Nat.{ℕ, ◌+◌, ◌-◌, ◌<◌, ◌≤◌}
-use mathlib.Core.Path.{◌≡◌, sym}
-use native.Mathlib.Omega.{arith}
+use mathlib.Core.Path.{◌≡◌}
 use lib.ListN.{get_or}
-use borrow.Author.Count.{below_none, below_more}
-use borrow.Author.Rules.{rules}
-use Rattle.dag_round_keys.specs.Digest.{digest_yes, digest_no}
 use Rattle.dag_round_keys.proofs.same_digest.Given as goal
 
 abbrev pub invariant-loop-k : goal.invariant-loop-k

@@ -1,11 +1,8 @@
-use Prim.Native.Nat.{ℕ, ◌<◌, ◌≤◌, ◌-◌, ◌+◌, ◌/◌}
-use mathlib.Core.Path.{◌≡◌, sym}
+use Prim.Native.Nat.{ℕ, ◌<◌, ◌≤◌, ◌-◌}
+use mathlib.Core.Path.{◌≡◌}
 use mathlib.Core.Bool.{true, false}
-use native.Mathlib.Omega.{arith}
-use lib.ListN.{length, get_or}
 use Rattle.dag_round_keys.specs.Key.{key, before}
-use Rattle.dag_round_keys.specs.Sorted.{key_at, place_is, down_from_lem, up_from}
-use borrow.Author.Rules.{rules}
+use Rattle.dag_round_keys.specs.Sorted.{key_at}
 use Rattle.dag_round_keys.proofs.seek.Given as goal
 
 -- The loop's invariant: the positions below lo come before the id, those from hi up do not.

@@ -5,7 +5,7 @@ use native.Mathlib.Omega.{arith}
 use borrow.Author.Tests.{not-true, not-false}
 use lib.ListN.{length, get_or}
 use Rattle.dag_round_keys.specs.Key.{before}
-use Rattle.dag_round_keys.specs.Sorted.{Sorted, key_at, sorted_is, sorted_not, sorted_more}
+use Rattle.dag_round_keys.specs.Sorted.{key_at, sorted_is, sorted_not, sorted_more}
 use borrow.Author.Rules.{rules}
 use Rattle.dag_round_keys.proofs.sorted.Goals as goal
 

@@ -1,10 +1,7 @@
 use Prim.Native.Nat.{◌≤◌, ◌-◌}
-use mathlib.Core.Path.{◌≡◌, refl, ◌∙◌, ap}
+use mathlib.Core.Path.{◌≡◌}
 use lib.ListN.{length}
-use native.Mathlib.Omega.{arith}
-use borrow.Author.Rules.{rules}
-use Rattle.dag_round_keys.specs.Fill.{filled-length}
-use Rattle.dag_round_keys.specs.Zero.{emptied, emptied-more, emptied_end, place_inside}
+use Rattle.dag_round_keys.specs.Zero.{emptied}
 use Rattle.dag_round_keys.proofs.zero_places.Given as goal
 
 abbrev pub invariant-loop-i : goal.invariant-loop-i

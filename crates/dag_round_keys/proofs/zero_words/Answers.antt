@@ -1,8 +1,7 @@
-use Prim.Native.Nat.{◌≤◌, ◌-◌}
-use mathlib.Core.Path.{◌≡◌, refl, ◌∙◌}
-use lib.ListN.{length, length-set}
+use mathlib.Core.Path.{refl, ◌∙◌}
+use lib.ListN.{length-set}
 use borrow.Author.Rules.{rules}
-use Rattle.dag_round_keys.specs.Fill.{filled, zeroed, filled_more, filled_end}
+use Rattle.dag_round_keys.specs.Fill.{filled, filled_more, filled_end}
 use Rattle.dag_round_keys.proofs.zero_words.Goals as goal
 
 pub loop-i-init : goal.loop-i-init

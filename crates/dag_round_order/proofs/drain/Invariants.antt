@@ -1,9 +1,7 @@
 use Prim.Native.Nat.{◌≤◌, ◌-◌}
-use mathlib.Core.Path.{◌≡◌, refl, sym}
-use native.Mathlib.Omega.{arith}
+use mathlib.Core.Path.{◌≡◌}
 use lib.ListN.{length}
-use Rattle.dag_round_order.specs.Shift.{moved, moved_none, moved_more, moved_all}
-use borrow.Author.Rules.{rules}
+use Rattle.dag_round_order.specs.Shift.{moved}
 use Rattle.dag_round_order.proofs.drain.Given as goal
 
 -- The loop's invariant: i cells have moved down.

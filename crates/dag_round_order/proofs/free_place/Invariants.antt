@@ -1,12 +1,7 @@
 use Prim.Native.Nat.{ℕ, ◌≤◌, ◌<◌, ◌-◌}
-use mathlib.Core.Path.{◌≡◌, sym, ◌∙◌}
+use mathlib.Core.Path.{◌≡◌}
 use mathlib.Core.Bool.{true, false}
-use native.Mathlib.Omega.{arith}
-use lib.ListN.{length, get_or, get_or-replicate}
-use borrow.Author.Tests.{not-true, not-false}
-use borrow.Author.Count.{below_more}
-use Rattle.dag_round_order.specs.Free.{used_none, used_more, free-here, free-none}
-use borrow.Author.Rules.{rules}
+use lib.ListN.{length, get_or}
 use Rattle.models.specs.Tables.{is_used}
 use Rattle.dag_round_order.proofs.free_place.Given as goal
 

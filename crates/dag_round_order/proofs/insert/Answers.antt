@@ -1,8 +1,6 @@
-use Prim.Native.Nat.{◌≤◌}
 use mathlib.Core.Path.{◌≡◌, refl, sym}
 use native.Mathlib.Omega.{arith}
-use lib.ListN.{length}
-use Rattle.dag_round_order.specs.Shift.{opened, opened-all, opened_down, opened-put}
+use Rattle.dag_round_order.specs.Shift.{opened-all, opened_down, opened-put}
 use borrow.Author.Rules.{rules}
 use Rattle.dag_round_order.proofs.insert.Goals as goal
 

@@ -1,9 +1,7 @@
 use Prim.Native.Nat.{◌≤◌}
-use mathlib.Core.Path.{◌≡◌, refl, sym}
-use native.Mathlib.Omega.{arith}
+use mathlib.Core.Path.{◌≡◌}
 use lib.ListN.{length}
-use Rattle.dag_round_order.specs.Shift.{opened, opened-all, opened_down, opened-put}
-use borrow.Author.Rules.{rules}
+use Rattle.dag_round_order.specs.Shift.{opened}
 use Rattle.dag_round_order.proofs.insert.Given as goal
 
 -- The loop's invariant: the cells from k to n have moved up.

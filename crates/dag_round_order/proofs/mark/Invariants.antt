@@ -1,9 +1,6 @@
 use Prim.Native.Nat.{◌≤◌, ◌-◌}
-use mathlib.Core.Path.{◌≡◌, refl, ◌∙◌, ap}
-use native.Mathlib.Omega.{arith}
-use lib.ListN.{length}
-use Rattle.dag_round_order.specs.Marks.{marked, marked_more, marked_end, marked-length}
-use borrow.Author.Rules.{rules}
+use mathlib.Core.Path.{◌≡◌}
+use Rattle.dag_round_order.specs.Marks.{marked}
 use Rattle.dag_round_order.proofs.mark.Given as goal
 
 abbrev pub invariant-loop-i : goal.invariant-loop-i

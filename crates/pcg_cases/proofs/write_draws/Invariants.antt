@@ -1,8 +1,7 @@
-use borrow.Author.Rules.{rules}
 use Rattle.pcg_cases.proofs.write_draws.Given as goal
 
--- LOOK invariant-loop l.n l.initial.generator l.initial.left l.generator l.left
--- invariant-loop n generator₀ left₀ t5 generator left = Unit {0}
+abbrev pub invariant-loop-left : goal.invariant-loop-left
+invariant-loop-left l = Unit {0}
 
--- LOOK decreases-loop l.n l.initial.generator l.initial.left l.generator l.left
--- decreases-loop n generator₀ left₀ t5 generator left = left
+abbrev pub decreases-loop-left : goal.decreases-loop-left
+decreases-loop-left l = l.left

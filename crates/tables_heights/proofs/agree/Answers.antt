@@ -13,7 +13,7 @@ pub loop-i-init : goal.loop-i-init
 loop-i-init c = (search rules, below_none _)
 
 pub place-q-requires : goal.place-q-requires
-place-q-requires c = record { i_lt_n = search rules; inside = c.requires.inside }
+place-q-requires c =  record {i_lt_n = search rules; inside = c.requires.inside}
 
 pub returns-then-cells-q : goal.returns-then-cells-q
 unfolding agrees

@@ -12,7 +12,7 @@ unfolding pushed_all
 loop-i-init c = (search rules, refl)
 
 pub place-q-requires : goal.place-q-requires
-place-q-requires c = record { i_lt_n = search rules; inside = c.requires.inside }
+place-q-requires c =  record {i_lt_n = search rules; inside = c.requires.inside}
 
 pub loop-i-preserved : goal.loop-i-preserved
 unfolding height_of

@@ -1,6 +1,5 @@
 use mathlib.Core.Path.{refl}
 use Rattle.dag_round_keys.specs.Look.{look_as, look_by}
-use borrow.Author.Rules.{rules}
 use Rattle.dag_round_keys.proofs.look.look_place.Goals as goal
 
 pub returns-in-Case : goal.returns-in-Case

@@ -1,5 +1,4 @@
 use native.Mathlib.Omega.{arith}
-use borrow.Author.Rules.{rules}
 use Rattle.models.specs.Tables.{inside_keys}
 use Rattle.dag_round_order.specs.Span.{cut_is}
 use Rattle.dag_round_order.proofs.span.cut.Goals as goal

@@ -1,5 +1,4 @@
 use Rattle.dag_round_order.specs.Span.{span_is}
-use borrow.Author.Rules.{rules}
 use Rattle.dag_round_order.proofs.span.span_at.Goals as goal
 
 pub returns : goal.returns
