@@ -1,7 +1,8 @@
 #!/usr/bin/env python3
 """Brings the repository's own names in specs/, proofs/, contracts and must-fail edits to the spelling of today's Rattle.
 
-usage: tools/respell.py [--dry]        once, at the top of the checkout, right after the port's own scripts
+usage: tools/respell.py [--dry] [--map FILE]        once, at the top of the checkout, right after the port's own scripts
+FILE: names as an earlier run printed them, to be taken in place of those found here (tools/respelled.txt has those of this repository).
 
 - a name in camel case that begins small becomes snake case (`anchorId`: `anchor_id`); types keep their form;
 - a dash stays between two names (`keep-length`: `keep` and `length` are both words) and becomes `_` before or after a plain word
@@ -153,6 +154,8 @@ for n, olds in taken.items():
                     free += "2"
                 ren[w] = free
                 print(f"together: {w} and {keeps[0]}: {w} is {ren[w]}")
+if "--map" in sys.argv:
+    ren = dict(l.split() for l in open(sys.argv[sys.argv.index("--map") + 1], encoding="utf-8") if len(l.split()) == 2)
 for w in sorted(ren):
     print(f"{w} {ren[w]}")
 if DRY:

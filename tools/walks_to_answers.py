@@ -121,8 +121,19 @@ class Turn:
                         rest = [s[5][norm(rest[0])]] + rest[1:]
                         break
             e = news[0][4]
-            if len(e) > 1 and len(rest) > 1 and rest[0] == "ensures" and rest[1].isdigit() and int(rest[1]) < len(e):
+            if len(e) == 2 and len(rest) > 1 and rest[0] == "ensures" and rest[1].isdigit() and int(rest[1]) < len(e):
                 rest = ["ensures", e[int(rest[1])]] + rest[2:]
+            elif len(e) > 2 and len(rest) > 1 and rest[0] == "ensures" and rest[1].isdigit():
+                if int(rest[1]) > 1:
+                    rest = ["ensures", e[int(rest[1])]] + rest[2:]
+                else:
+                    # several `ensures` nested to the right in the older form
+                    k, r = 0, rest[1:]
+                    while k < len(e) - 1 and r and r[0] == "1":
+                        k, r = k + 1, r[1:]
+                    if k < len(e) - 1 and r and r[0] == "0":
+                        r = r[1:]
+                    rest = ["ensures", e[k]] + r
             rest = ["type_inv"] + rest[1:] if rest[:1] == ["type-inv"] else rest
             return ".".join(["c", new] + rest)
         self.said.append(parts[0])

@@ -1,4 +1,1 @@
 pub mod Skipped
-pub mod Chain
-pub mod Proof
-pub mod Examples

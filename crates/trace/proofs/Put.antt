@@ -1,16 +1,13 @@
 -- Theorems on the definitions of specs/Put.
-use Rattle.std.specs.Prelude.{ℕ, ◌+◌, ◌<◌, ◌≤◌, ◌≡◌, refl, List, [], ◌∷◌, ◌++◌, map, Bool, ltb, length, drop}
-use Rattle.std.proofs.Common.{ap, ◌∙◌, arith, lt-ltb, le-ltb}
-use Rattle.laws.specs.Bytes.{number, value, written, written_is}
-use Rattle.spec.specs.Chain as chain
-use Rattle.spec.specs.Chain.{Out, bad, good, then, refuse}
-use Rattle.spec.specs.Calls.{Call, number_of}
+use Rattle.std.specs.Prelude.{◌≡◌, refl, [], ◌∷◌, map}
+use Rattle.laws.specs.Bytes.{number, value}
+use Rattle.spec.specs.Chain.{refuse}
+use Rattle.spec.specs.Calls.{number_of}
 use Rattle.models.specs.Digest.{words}
 use Rattle.trace.specs.Numbers.{number_at}
 use Rattle.trace.specs.Head.{size_of, fits, fields_fit, whole_at, version_ok}
 use Rattle.trace.specs.Kinds.{kind_of, kind_ok}
 use Rattle.trace.specs.Codes.{read_at}
-use Rattle.trace.specs.Write.{record_of, put_record}
 use Rattle.trace.specs.Put.{code_in}
 
 -- cut short; a rest under 2; a gap question; an unknown version; an unknown kind; wrong length for its kind; that and an unknown version; that and

@@ -1,14 +1,10 @@
 -- A record written into a buffer, and the order of the refusals (02: N5).
-use Rattle.std.specs.Prelude.{ℕ, ◌+◌, ◌<◌, ◌≤◌, ◌≡◌, refl, List, [], ◌∷◌, ◌++◌, map, Bool, ltb, length, drop}
+use Rattle.std.specs.Prelude.{ℕ, ◌+◌, ◌<◌, ◌≤◌, ◌≡◌, List, [], ◌++◌, Bool, ltb, length, drop}
 use Rattle.std.proofs.Common.{ap, ◌∙◌, arith, lt-ltb, le-ltb}
-use Rattle.laws.specs.Bytes.{number, value, written, written_is}
+use Rattle.laws.specs.Bytes.{written, written_is}
 use Rattle.spec.specs.Chain as chain
 use Rattle.spec.specs.Chain.{Out, bad, good, then, refuse}
 use Rattle.spec.specs.Calls.{Call, number_of}
-use Rattle.models.specs.Digest.{words}
-use Rattle.trace.specs.Numbers.{number_at}
-use Rattle.trace.specs.Head.{size_of, fits, fields_fit, whole_at, version_ok}
-use Rattle.trace.specs.Kinds.{kind_of, kind_ok}
 use Rattle.trace.specs.Codes.{read_at}
 use Rattle.trace.specs.Write.{record_of, put_record}
 

@@ -33,12 +33,9 @@ digest_small t p f = let h = number_fits (2 ^ 64) 0 1 (words t p 4) (words-below
 array_fit : (xs : List ℕ) (vs : List Val) → Is (Array (UInt w64) 4) xs vs → Fit xs
 array_fit xs vs e = each_fit xs e.0 e.1.1
 
-array_length : (xs : List ℕ) → length (map (λ v. v) xs) ≡ 4 → length xs ≡ 4
-array_length xs e = sym (length-map xs (λ v. v)) ∙ e
-
 module _ (i : PointId) (vs : List Val) (g : Is (row the_type) i vs) where
   pub id-length : length i.digest.0 ≡ 4
-  id-length = array_length i.digest.0 g.1.1.1.1.0.1.1.0.1.0.1
+  id-length = g.1.1.1.1.0.1.1.0.1.0.1
 
   -- all but its author fits
   pub id_fit : leb i.author 255 ≡ all fits_field (id_then (id_of i) [])

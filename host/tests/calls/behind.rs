@@ -7,7 +7,8 @@ use committer::{
 
 use crate::commits::{anchor, proof, put, trigger, used};
 use crate::common::{
-    assert_sizes, assert_unchanged, buffer, handed, id, id_bytes, lists, paid, point, refuses, started, valid,
+    assert_sizes, assert_unchanged, beginning, buffer, handed, id, id_bytes, lists, paid, point, refuses, started,
+    valid,
 };
 use crate::lists::{above_widest, letters_of, told, widest, widest_row, yields};
 use crate::outlooks::{Below, b4, b4_start, list_a, second, trigger_of_two};
@@ -84,7 +85,10 @@ fn c_points() -> [PointId; 7] {
 /// trigger g. Each point has the payload 1 and its round.
 fn list_c(with: C) -> (Committer, PointId) {
     let [a, b, c, d, e, f, g] = c_points();
-    let mut committer = started(20, &b4_start(), 15);
+    let start = Start { commit_history_rounds: 4, deduplicate_rounds: 5, peers: 3, used: Some(0), ..beginning() };
+    let mut committer = Committer::new(20);
+    committer.start(&start).unwrap();
+    (11..=15).for_each(|round| committer.round(round, 3).unwrap());
     let below: &[PointId] = if with.left { &[c, d] } else { &[d] };
     let witness: &[PointId] = if with.witness { &[b] } else { &[] };
     for (id, info) in [

@@ -13,12 +13,12 @@ pub fn beginning() -> Start {
     Start { genesis: 10, commit_history_rounds: 2, bottom: 10, peers: u32::MAX, ..Start::default() }
 }
 
-/// A started committer with the rounds up to `top`, the start's peers in each.
+/// A started committer with the rounds up to `top`, all 32 peers in each.
 pub fn started(places: usize, with: &Start, top: u32) -> Committer {
     let mut committer = Committer::new(places);
     committer.start(with).expect("a start of zeroed tables");
     for round in with.bottom + 1..=top {
-        committer.round(round, with.peers).expect("the round above the top");
+        committer.round(round, u32::MAX).expect("the round above the top");
     }
     committer
 }

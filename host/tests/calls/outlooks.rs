@@ -140,7 +140,9 @@ pub enum Below {
 /// B4: one point a round by peer 0, from a in 11 on; anchors 12.0.b and 14.0.d with the proofs c and e, the trigger f in
 /// 16. With H 4 the second history reaches down to a. These points are certified.
 pub fn b4(with: Start, below: Below, certified: &[PointId]) -> Committer {
-    let mut committer = started(20, &with, 16);
+    let mut committer = Committer::new(20);
+    committer.start(&with).unwrap();
+    (11..=16).for_each(|round| committer.round(round, 3).unwrap());
     let [a, b, c, d, e] = [(11, 'a'), (12, 'b'), (13, 'c'), (14, 'd'), (15, 'e')].map(|(round, at)| id(round, 0, at));
     let [h, g] = [id(12, 1, 'h'), id(13, 1, 'g')];
     put(&mut committer, a, &[], |info| info);

@@ -1,5 +1,4 @@
 use native.Mathlib.Omega.{arith}
-use borrow.Author.Rules.{rules}
 use Rattle.back_drain.proofs.drain_upto.Goals as goal
 
 -- The order stays until the places are zeroed.

@@ -1,6 +1,5 @@
 use native.Mathlib.Omega.{arith}
-use Rattle.cert_certify.specs.ModelCertify.{certifiable_set, certified-length, certified_by}
-use borrow.Author.Rules.{rules}
+use Rattle.cert_certify.specs.ModelCertify.{certifiable_set, certified_by}
 use Rattle.cert_certify.proofs.certify_at.Goals as goal
 
 pub with_height-word-requires : goal.with_height-word-requires

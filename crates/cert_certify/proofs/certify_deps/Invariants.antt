@@ -1,12 +1,8 @@
 use Prim.Native.Nat.{◌≤◌, ◌-◌}
-use mathlib.Core.Path.{◌≡◌, refl, ◌∙◌, ap}
-use native.Mathlib.Omega.{arith}
-use lib.ListN.{length}
-use borrow.Author.Rules.{rules}
+use mathlib.Core.Path.{◌≡◌}
 use Rattle.models.specs.Tables.{target_at}
-use Rattle.models.specs.Cert.{height_of}
 use Rattle.tables_heights.specs.View.{height_at}
-use Rattle.cert_certify.specs.Model.{work, handed, handed-more, handed_end, handed-length, open_at}
+use Rattle.cert_certify.specs.Model.{work, handed}
 use Rattle.cert_certify.proofs.certify_deps.Given as goal
 
 -- Link after link.

@@ -1,8 +1,7 @@
-use Prim.Native.Nat.{◌≤◌, ◌-◌}
-use mathlib.Core.Path.{◌≡◌, refl, ◌∙◌, ap}
+use mathlib.Core.Path.{refl, ◌∙◌, ap}
 use lib.ListN.{length}
 use borrow.Author.Rules.{rules}
-use Rattle.cert_certify.specs.Model.{work, visited, visited-more, visited-length, ready_at, ready_open, settled_at}
+use Rattle.cert_certify.specs.Model.{visited, visited-more, visited-length, ready_at, ready_open, settled_at}
 use Rattle.cert_certify.proofs.certify_queued.Goals as goal
 
 pub loop-head-init : goal.loop-head-init

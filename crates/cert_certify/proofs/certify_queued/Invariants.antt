@@ -1,8 +1,6 @@
 use Prim.Native.Nat.{◌≤◌, ◌-◌}
-use mathlib.Core.Path.{◌≡◌, refl, ◌∙◌, ap}
-use lib.ListN.{length}
-use borrow.Author.Rules.{rules}
-use Rattle.cert_certify.specs.Model.{work, visited, visited-more, visited-length, ready_at, ready_open, settled_at}
+use mathlib.Core.Path.{◌≡◌}
+use Rattle.cert_certify.specs.Model.{work, visited}
 use Rattle.cert_certify.proofs.certify_queued.Given as goal
 
 -- Entry after entry.

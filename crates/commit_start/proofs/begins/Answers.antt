@@ -1,4 +1,3 @@
-use borrow.Author.Rules.{rules}
 use Rattle.commit_start.specs.Start.{begins-conf, begins-genesis, begins_bottom, begins-below, begins_used, begins_places}
 use Rattle.commit_start.proofs.begins.Goals as goal
 

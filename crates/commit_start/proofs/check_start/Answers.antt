@@ -1,4 +1,3 @@
-use borrow.Author.Rules.{rules}
 use Rattle.tables_test.specs.View.{view}
 use Rattle.commit_start.specs.Start.{places_view, start_range, start-twice, start-passed}
 use Rattle.commit_start.proofs.check_start.Goals as goal

@@ -1,4 +1,3 @@
-use borrow.Author.Rules.{rules}
 use Rattle.commit_start.specs.Blank.{blank}
 use Rattle.commit_start.proofs.clear.Goals as goal
 

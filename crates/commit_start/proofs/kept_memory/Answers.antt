@@ -1,4 +1,3 @@
-use borrow.Author.Rules.{rules}
 use Rattle.commit_start.specs.Start.{kept_phase, kept_used, kept_broken, kept_all}
 use Rattle.commit_start.proofs.kept_memory.Goals as goal
 

@@ -1,4 +1,3 @@
-use borrow.Author.Rules.{rules}
 use Rattle.commit_start.specs.Start.{places_none, places_some}
 use Rattle.commit_start.proofs.places_of.Goals as goal
 

@@ -1,4 +1,3 @@
-use borrow.Author.Rules.{rules}
 use Rattle.dag_round_points.specs.Model.{name_code, id_code, table_code, id_words, taken}
 use Rattle.dag_round_points.specs.Codes.{found_first, found-next}
 use Rattle.dag_round_points.proofs.check_name.Goals as goal

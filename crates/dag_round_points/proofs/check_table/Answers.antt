@@ -1,5 +1,4 @@
 use mathlib.Core.Path.{ap₂}
-use borrow.Author.Rules.{rules}
 use Rattle.dag_round_points.specs.Model.{id_words, sought, table_same_digest, table_fifth, table_free, table_full}
 use Rattle.dag_round_points.specs.Codes.{found, found_number}
 use Rattle.dag_round_points.specs.Point.{searched}

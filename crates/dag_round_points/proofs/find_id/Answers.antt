@@ -1,4 +1,3 @@
-use borrow.Author.Rules.{rules}
 use Rattle.dag_round_points.specs.Point.{searched, found_by, found_by_lem}
 use Rattle.dag_round_points.proofs.find_id.Goals as goal
 

@@ -1,4 +1,3 @@
-use borrow.Author.Rules.{rules}
 use Rattle.dag_round_points.specs.Model.{id_code, id_words}
 use Rattle.dag_round_points.specs.Codes.{found_first}
 use Rattle.dag_round_points.specs.Point.{missing, point_code, place_for, point-found}

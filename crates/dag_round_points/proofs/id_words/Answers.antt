@@ -1,4 +1,3 @@
-use borrow.Author.Rules.{rules}
 use mathlib.Core.Path.{refl}
 use Rattle.dag_round_points.specs.Model.{id_words}
 use Rattle.dag_round_points.proofs.id_words.Goals as goal

@@ -1,4 +1,3 @@
-use borrow.Author.Rules.{rules}
 use Rattle.dag_round_points.specs.Model.{version_not, version_by}
 use Rattle.dag_round_points.proofs.is_version.Goals as goal
 

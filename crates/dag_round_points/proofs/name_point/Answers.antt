@@ -4,7 +4,6 @@ use native.Mathlib.Omega.{arith}
 use Rattle.models.specs.Tables.{inside_keys}
 use Rattle.dag_round_points.specs.Model.{words_eight, named_keys_lem, named_certs_lem, named_order_lem}
 use Rattle.dag_round_points.specs.Used.{has-place}
-use borrow.Author.Rules.{rules}
 use Rattle.dag_round_points.proofs.name_point.Goals as goal
 
 pub put-requires : goal.put-requires

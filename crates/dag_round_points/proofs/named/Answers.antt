@@ -1,4 +1,3 @@
-use borrow.Author.Rules.{rules}
 use mathlib.Core.Path.{refl}
 use Rattle.dag_round_points.specs.Model.{named_state}
 use Rattle.dag_round_points.proofs.named.Goals as goal

@@ -1,11 +1,8 @@
 use Prim.Native.Nat.{◌≤◌, ◌-◌}
-use mathlib.Core.Path.{◌≡◌, sym, ◌∙◌, ap}
-use mathlib.Core.Logic.{⊎_elim}
+use mathlib.Core.Path.{◌≡◌}
 use lib.ListN.{length}
-use native.Mathlib.Omega.{arith}
-use borrow.Author.Rules.{rules}
-use Rattle.laws.specs.Scan.{those, those_most}
-use Rattle.dag_round_points.specs.Model.{is_version, version_at, count_yes, count_no}
+use Rattle.laws.specs.Scan.{those}
+use Rattle.dag_round_points.specs.Model.{version_at}
 use Rattle.dag_round_points.proofs.versions.Given as goal
 
 abbrev pub invariant-loop-i : goal.invariant-loop-i

@@ -1,8 +1,6 @@
-use Prim.Native.Nat.{◌+◌, ◌≤◌, ◌-◌}
-use mathlib.Core.Path.{◌≡◌, refl, sym, ◌∙◌}
-use mathlib.Core.Bool.{false}
+use mathlib.Core.Path.{refl, sym, ◌∙◌}
 use Rattle.laws.specs.Scan.{any, any_intro}
-use Rattle.info_checks.specs.Dangling.{is_dangling, none_more, none_end}
+use Rattle.info_checks.specs.Dangling.{none_more, none_end}
 use borrow.Author.Rules.{rules}
 use Rattle.info_checks.proofs.any_dangling.Goals as goal
 

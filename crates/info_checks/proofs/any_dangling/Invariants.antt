@@ -1,9 +1,8 @@
 use Prim.Native.Nat.{◌+◌, ◌≤◌, ◌-◌}
-use mathlib.Core.Path.{◌≡◌, refl, sym, ◌∙◌}
+use mathlib.Core.Path.{◌≡◌}
 use mathlib.Core.Bool.{false}
-use Rattle.laws.specs.Scan.{any, any_intro}
-use Rattle.info_checks.specs.Dangling.{is_dangling, none_more, none_end}
-use borrow.Author.Rules.{rules}
+use Rattle.laws.specs.Scan.{any}
+use Rattle.info_checks.specs.Dangling.{is_dangling}
 use Rattle.info_checks.proofs.any_dangling.Given as goal
 
 abbrev pub invariant-loop-i : goal.invariant-loop-i

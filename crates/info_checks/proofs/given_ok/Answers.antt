@@ -3,7 +3,6 @@ use borrow.Author.Tests.{lt-ltb, le-ltb}
 use Rattle.laws.specs.Test.{and_no}
 use Rattle.tables_test.specs.Model.{chain_no, chain-yes, test-yes}
 use Rattle.info_checks.specs.Form.{status_ok, tests_are}
-use borrow.Author.Rules.{rules}
 use Rattle.info_checks.proofs.given_ok.Goals as goal
 
 pub returns-then-not-refs_ok : goal.returns-then-not-refs_ok

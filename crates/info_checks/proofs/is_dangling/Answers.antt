@@ -1,5 +1,4 @@
 use Rattle.info_checks.specs.Dangling.{dangling-below, dangling_by}
-use borrow.Author.Rules.{rules}
 use Rattle.info_checks.proofs.is_dangling.Goals as goal
 
 pub returns-then-round-bottom : goal.returns-then-round-bottom

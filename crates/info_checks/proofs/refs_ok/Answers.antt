@@ -1,7 +1,6 @@
 use mathlib.Core.Path.{sym, ◌∙◌}
 use borrow.Author.Tests.{not-true, not-false}
 use Rattle.info_checks.specs.Form.{kind-falls, kind-near, kind_far}
-use borrow.Author.Rules.{rules}
 use Rattle.info_checks.proofs.refs_ok.Goals as goal
 
 pub returns-then-not-rises : goal.returns-then-not-rises

@@ -1,6 +1,4 @@
-use Prim.Native.Nat.{◌+◌, ◌≤◌, ◌-◌}
-use mathlib.Core.Path.{◌≡◌}
-use Rattle.info_checks.specs.Form.{rises_from, rise_start, rise_low, rise_high, rise_more, rise_end}
+use Rattle.info_checks.specs.Form.{rise_start, rise_low, rise_high, rise_more, rise_end}
 use borrow.Author.Rules.{rules}
 use Rattle.info_checks.proofs.rises.Goals as goal
 

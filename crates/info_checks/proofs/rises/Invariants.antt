@@ -1,7 +1,6 @@
 use Prim.Native.Nat.{◌+◌, ◌≤◌, ◌-◌}
 use mathlib.Core.Path.{◌≡◌}
-use Rattle.info_checks.specs.Form.{rises_from, rise_start, rise_low, rise_high, rise_more, rise_end}
-use borrow.Author.Rules.{rules}
+use Rattle.info_checks.specs.Form.{rises_from}
 use Rattle.info_checks.proofs.rises.Given as goal
 
 abbrev pub invariant-loop-i : goal.invariant-loop-i

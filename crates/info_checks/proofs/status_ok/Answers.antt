@@ -1,5 +1,4 @@
 use Rattle.info_checks.specs.Form.{status_full, status_bare, status-none}
-use borrow.Author.Rules.{rules}
 use Rattle.info_checks.proofs.status_ok.Goals as goal
 
 pub returns-then-has_info : goal.returns-then-has_info

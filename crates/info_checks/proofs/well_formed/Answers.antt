@@ -1,6 +1,5 @@
 use native.Mathlib.Omega.{arith}
 use Rattle.info_checks.specs.Form.{not_shaped}
-use borrow.Author.Rules.{rules}
 use Rattle.info_checks.proofs.well_formed.Goals as goal
 
 pub returns-then-i-gt-PEERS_MAX : goal.returns-then-i-gt-PEERS_MAX

@@ -1,6 +1,5 @@
 use mathlib.Core.Path.{refl}
 use Rattle.info_store.specs.Model.{head_words}
-use borrow.Author.Rules.{rules}
 use Rattle.info_store.proofs.head_words.Goals as goal
 
 pub returns : goal.returns

@@ -1,6 +1,5 @@
 use native.Mathlib.Omega.{arith}
 use Rattle.info_store.specs.Model.{marks_small, marks_by}
-use borrow.Author.Rules.{rules}
 use Rattle.info_store.proofs.marks.Goals as goal
 
 pub overflow_add-result : goal.overflow_add-result

@@ -1,9 +1,7 @@
 use Prim.Native.Nat.{◌+◌, ◌*◌}
-use mathlib.Core.Path.{ap, ◌∙◌}
 use native.Mathlib.Omega.{arith}
-use lib.ListN.{length, length-set}
-use Rattle.info_store.specs.Model.{link_put, link-length}
-use borrow.Author.Rules.{rules}
+use lib.ListN.{length-set}
+use Rattle.info_store.specs.Model.{link_put}
 use Rattle.info_store.proofs.put_link.Goals as goal
 
 pub copy_words-requires : goal.copy_words-requires

@@ -1,8 +1,8 @@
-use Prim.Native.Nat.{◌+◌, ◌*◌, ◌≤◌, ◌-◌}
-use mathlib.Core.Path.{◌≡◌, refl, ◌∙◌, ap}
+use Prim.Native.Nat.{◌+◌, ◌*◌, ◌-◌}
+use mathlib.Core.Path.{refl, ◌∙◌, ap}
 use native.Mathlib.Omega.{arith}
 use lib.ListN.{length}
-use Rattle.info_store.specs.Model.{target_of, links_put, links-more, links_end, link-length}
+use Rattle.info_store.specs.Model.{links_put, links-more, links_end, link-length}
 use borrow.Author.Rules.{rules}
 use Rattle.info_store.proofs.put_links.Goals as goal
 

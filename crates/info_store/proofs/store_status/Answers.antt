@@ -3,7 +3,6 @@ use mathlib.Core.Path.{ap}
 use native.Mathlib.Omega.{arith}
 use lib.ListN.{set, length-set}
 use Rattle.info_store.specs.Model.{stored_keys}
-use borrow.Author.Rules.{rules}
 use Rattle.info_store.proofs.store_status.Goals as goal
 
 pub bounds-keys-q-2 : goal.bounds-keys-q-2

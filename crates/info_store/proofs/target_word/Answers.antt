@@ -1,5 +1,4 @@
 use Rattle.info_store.specs.Model.{target_below, target_none, target_found}
-use borrow.Author.Rules.{rules}
 use Rattle.info_store.proofs.target_word.Goals as goal
 
 pub returns-then-round-bottom : goal.returns-then-round-bottom

@@ -1,19 +1,16 @@
-use Prim.Native.Nat.{ℕ, ◌≤◌, ◌<◌, ◌-◌}
-use mathlib.Core.Path.{◌≡◌, sym, ◌∙◌, ap}
-use mathlib.Core.Bool.{true}
+use mathlib.Core.Path.{sym, ◌∙◌, ap}
 use native.Mathlib.Omega.{arith}
 use borrow.Author.Count.{below_none, below_more}
 use Rattle.laws.specs.Scan.{every_intro, every_not}
 use Rattle.tables_heights.specs.Model.{agrees, agrees_at, agrees-yes, agrees_no}
 use borrow.Author.Rules.{rules}
-use Rattle.models.specs.Tables.{place_at}
 use Rattle.tables_heights.proofs.agree.Goals as goal
 
 pub loop-i-init : goal.loop-i-init
 loop-i-init c = (search rules, below_none _)
 
 pub place-q-requires : goal.place-q-requires
-place-q-requires c =  record {i_lt_n = search rules; inside = c.requires.inside}
+place-q-requires c = record { i_lt_n = search rules; inside = c.requires.inside }
 
 pub returns-then-cells-q : goal.returns-then-cells-q
 unfolding agrees

@@ -1,11 +1,7 @@
 use Prim.Native.Nat.{ℕ, ◌≤◌, ◌<◌, ◌-◌}
-use mathlib.Core.Path.{◌≡◌, sym, ◌∙◌, ap}
+use mathlib.Core.Path.{◌≡◌}
 use mathlib.Core.Bool.{true}
-use native.Mathlib.Omega.{arith}
-use borrow.Author.Count.{below_none, below_more}
-use Rattle.laws.specs.Scan.{every_intro, every_not}
-use Rattle.tables_heights.specs.Model.{agrees, agrees_at, agrees-yes, agrees_no}
-use borrow.Author.Rules.{rules}
+use Rattle.tables_heights.specs.Model.{agrees_at}
 use Rattle.models.specs.Tables.{place_at}
 use Rattle.tables_heights.proofs.agree.Given as goal
 

@@ -4,10 +4,10 @@ use Rattle.tables_heights.proofs.heights_hold.Goals as goal
 
 -- `tables_heights::heights_hold` meets its contract.
 pub push_all-requires : goal.push_all-requires
-push_all-requires c =  record {order_len_bound = search rules; inside = c.requires.inside}
+push_all-requires c = record { order_len_bound = search rules; inside = c.requires.inside }
 
 pub agree-requires : goal.agree-requires
-agree-requires c =  record {order_in_bounds = search rules; inside = c.requires.inside}
+agree-requires c = record { order_in_bounds = search rules; inside = c.requires.inside }
 
 pub returns : goal.returns
 unfolding blank

@@ -1,7 +1,6 @@
 use mathlib.Core.Path.{sym, ◌∙◌}
 use Rattle.models.specs.Cert.{flags_of}
 use Rattle.tables_heights.specs.View.{own_top, own-none}
-use borrow.Author.Rules.{rules}
 use Rattle.tables_heights.proofs.own.Goals as goal
 
 -- `tables_heights::own` meets its contract.

@@ -1,10 +1,7 @@
-use Prim.Native.Nat.{◌≤◌, ◌-◌}
-use mathlib.Core.Path.{◌≡◌, refl, ◌∙◌, ap}
+use mathlib.Core.Path.{refl}
 use native.Mathlib.Omega.{arith}
-use lib.ListN.{length}
-use Rattle.tables_heights.specs.Model.{pushed, pushed_more, pushed_end, pushed-length, pushed_low}
+use Rattle.tables_heights.specs.Model.{pushed, pushed_more, pushed_end, pushed_low}
 use borrow.Author.Rules.{rules}
-use Rattle.models.specs.Tables.{target_at}
 use Rattle.tables_heights.proofs.push.Goals as goal
 
 pub returns-then-v-lt2 : goal.returns-then-v-lt2

@@ -1,9 +1,6 @@
 use Prim.Native.Nat.{◌≤◌, ◌-◌}
-use mathlib.Core.Path.{◌≡◌, refl, ◌∙◌, ap}
-use native.Mathlib.Omega.{arith}
-use lib.ListN.{length}
-use Rattle.tables_heights.specs.Model.{pushed, pushed_more, pushed_end, pushed-length, pushed_low}
-use borrow.Author.Rules.{rules}
+use mathlib.Core.Path.{◌≡◌}
+use Rattle.tables_heights.specs.Model.{pushed}
 use Rattle.models.specs.Tables.{target_at}
 use Rattle.tables_heights.proofs.push.Given as goal
 

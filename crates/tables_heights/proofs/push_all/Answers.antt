@@ -1,9 +1,7 @@
-use Prim.Native.Nat.{◌≤◌, ◌-◌}
-use mathlib.Core.Path.{◌≡◌, refl, ◌∙◌, ap}
+use mathlib.Core.Path.{refl}
 use native.Mathlib.Omega.{arith}
-use lib.ListN.{length}
 use Rattle.models.specs.Cert.{height_of}
-use Rattle.tables_heights.specs.Model.{pushed_all, all_more, all_end, all-length}
+use Rattle.tables_heights.specs.Model.{pushed_all, all_more, all_end}
 use borrow.Author.Rules.{rules}
 use Rattle.tables_heights.proofs.push_all.Goals as goal
 
@@ -12,7 +10,7 @@ unfolding pushed_all
 loop-i-init c = (search rules, refl)
 
 pub place-q-requires : goal.place-q-requires
-place-q-requires c =  record {i_lt_n = search rules; inside = c.requires.inside}
+place-q-requires c = record { i_lt_n = search rules; inside = c.requires.inside }
 
 pub loop-i-preserved : goal.loop-i-preserved
 unfolding height_of

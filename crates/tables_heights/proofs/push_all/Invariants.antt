@@ -1,10 +1,6 @@
 use Prim.Native.Nat.{◌≤◌, ◌-◌}
-use mathlib.Core.Path.{◌≡◌, refl, ◌∙◌, ap}
-use native.Mathlib.Omega.{arith}
-use lib.ListN.{length}
-use Rattle.models.specs.Cert.{height_of}
-use Rattle.tables_heights.specs.Model.{pushed_all, all_more, all_end, all-length}
-use borrow.Author.Rules.{rules}
+use mathlib.Core.Path.{◌≡◌}
+use Rattle.tables_heights.specs.Model.{pushed_all}
 use Rattle.tables_heights.proofs.push_all.Given as goal
 
 -- `tables_heights::push_all` meets its contract.

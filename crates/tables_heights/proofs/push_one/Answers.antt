@@ -1,7 +1,4 @@
-use mathlib.Core.Path.{◌∙◌, ap}
-use lib.ListN.{length}
-use Rattle.tables_heights.specs.Model.{one_more, raised-length, pushed-length}
-use borrow.Author.Rules.{rules}
+use Rattle.tables_heights.specs.Model.{one_more}
 use Rattle.tables_heights.proofs.push_one.Goals as goal
 
 pub returns : goal.returns

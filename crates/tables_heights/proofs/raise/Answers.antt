@@ -1,6 +1,5 @@
 use mathlib.Core.Path.{sym}
 use Rattle.tables_heights.specs.Model.{raised_up, raised-same, raised_out}
-use borrow.Author.Rules.{rules}
 use Rattle.tables_heights.proofs.raise.Goals as goal
 
 -- `tables_heights::raise` meets its contract.

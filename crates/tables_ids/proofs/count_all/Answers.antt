@@ -1,11 +1,9 @@
-use Prim.Native.Nat.{ℕ, ◌≤◌, ◌<◌, ◌-◌}
-use mathlib.Core.Path.{◌≡◌, sym, ◌∙◌}
-use mathlib.Core.Bool.{true}
+use mathlib.Core.Path.{sym, ◌∙◌}
 use native.Mathlib.Omega.{arith}
 use borrow.Author.Count.{below_none, below_more}
 use borrow.Author.Tests.{not-true, not-false}
 use Rattle.laws.specs.Scan.{every_intro, every_not}
-use Rattle.tables_ids.specs.Model.{fits, versions_hold, Tallied, room_fits, tallied_more}
+use Rattle.tables_ids.specs.Model.{versions_hold, room_fits, tallied_more}
 use borrow.Author.Rules.{rules}
 use Rattle.tables_ids.proofs.count_all.Goals as goal
 

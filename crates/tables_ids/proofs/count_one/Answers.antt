@@ -1,5 +1,4 @@
 use Rattle.tables_ids.specs.Model.{counted_full, counted-more}
-use borrow.Author.Rules.{rules}
 use Rattle.tables_ids.proofs.count_one.Goals as goal
 
 -- `tables_ids::count_one` meets its contract.

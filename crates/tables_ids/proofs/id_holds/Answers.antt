@@ -1,4 +1,3 @@
-use borrow.Author.Rules.{rules}
 use Rattle.tables_ids.specs.Ids.{id_below, id_above, id-author, id-peer}
 use Rattle.tables_ids.proofs.id_holds.Goals as goal
 

@@ -1,5 +1,4 @@
 use Rattle.tables_links.specs.Bare.{bare_full, bare_none, bare_named}
-use borrow.Author.Rules.{rules}
 use Rattle.tables_links.proofs.bare_one.Goals as goal
 
 pub returns-then-has_info : goal.returns-then-has_info

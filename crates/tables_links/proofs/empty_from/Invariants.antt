@@ -1,11 +1,7 @@
 use Prim.Native.Nat.{ℕ, ◌≤◌, ◌<◌, ◌-◌}
-use mathlib.Core.Path.{◌≡◌, sym, ◌∙◌}
+use mathlib.Core.Path.{◌≡◌}
 use mathlib.Core.Bool.{true}
-use native.Mathlib.Omega.{arith}
-use borrow.Author.Count.{below_more}
-use Rattle.laws.specs.Scan.{every_intro, every_not}
-use Rattle.tables_links.specs.Bare.{empty_at, empty_from, empty_below, empty_more, empty_fails}
-use borrow.Author.Rules.{rules}
+use Rattle.tables_links.specs.Bare.{empty_at}
 use Rattle.tables_links.proofs.empty_from.Given as goal
 
 -- `tables_links::empty_from` meets its contract.

@@ -1,5 +1,4 @@
 use Rattle.tables_links.specs.Links.{fits-round, fits-author, fits_digest}
-use borrow.Author.Rules.{rules}
 use Rattle.tables_links.proofs.fits_link.Goals as goal
 
 pub returns-then-round_word-d : goal.returns-then-round_word-d

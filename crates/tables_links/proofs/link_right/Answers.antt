@@ -1,5 +1,4 @@
 use Rattle.tables_links.specs.Links.{link-none, link_far, link-free, link_used}
-use borrow.Author.Rules.{rules}
 use Rattle.tables_links.proofs.link_right.Goals as goal
 
 pub returns-then-a-eq0 : goal.returns-then-a-eq0

@@ -1,12 +1,7 @@
 use Prim.Native.Nat.{ℕ, ◌≤◌, ◌<◌, ◌-◌}
-use mathlib.Core.Path.{◌≡◌, sym, ◌∙◌}
+use mathlib.Core.Path.{◌≡◌}
 use mathlib.Core.Bool.{true}
-use native.Mathlib.Omega.{arith}
-use borrow.Author.Count.{below_none, below_more}
-use borrow.Author.Tests.{not-true, not-false}
-use Rattle.laws.specs.Scan.{every_intro, every_not}
-use Rattle.tables_links.specs.Links.{link_right, links_right}
-use borrow.Author.Rules.{rules}
+use Rattle.tables_links.specs.Links.{link_right}
 use Rattle.tables_links.proofs.links_right.Given as goal
 
 -- `tables_links::links_right` meets its contract.

@@ -1,5 +1,4 @@
 use Rattle.tables_links.specs.Words.{point_in_range}
-use borrow.Author.Rules.{rules}
 use Rattle.tables_links.proofs.point_in_range.Goals as goal
 
 -- `tables_links::point_in_range` meets its contract.

@@ -1,5 +1,4 @@
 use Rattle.tables_links.specs.Words.{resolution_in_range}
-use borrow.Author.Rules.{rules}
 use Rattle.tables_links.proofs.resolution_in_range.Goals as goal
 
 -- `tables_links::resolution_in_range` meets its contract.

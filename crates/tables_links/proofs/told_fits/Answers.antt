@@ -1,5 +1,4 @@
 use Rattle.tables_links.specs.Words.{resolution_given, resolution_named}
-use borrow.Author.Rules.{rules}
 use Rattle.tables_links.proofs.told_fits.Goals as goal
 
 pub returns-in-Case : goal.returns-in-Case

@@ -1,5 +1,4 @@
 use Rattle.tables_links.specs.Words.{words_by}
-use borrow.Author.Rules.{rules}
 use Rattle.tables_links.proofs.words_one.Goals as goal
 
 pub returns : goal.returns

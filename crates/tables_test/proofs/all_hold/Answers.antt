@@ -1,5 +1,4 @@
 use Rattle.tables_test.specs.Model.{tested, chain_no, chain-yes, passed, shape_says, state_says, order_says}
-use borrow.Author.Rules.{rules}
 use Rattle.tables_test.proofs.all_hold.Goals as goal
 
 -- `tables_test::all_hold` meets its contract.

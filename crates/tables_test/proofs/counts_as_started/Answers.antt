@@ -1,4 +1,3 @@
-use borrow.Author.Rules.{rules}
 use mathlib.Core.Path.{sym, ◌∙◌}
 use Rattle.tables_test.specs.Refines.{counts_as_started_is}
 use Rattle.tables_test.proofs.counts_as_started.Goals as goal

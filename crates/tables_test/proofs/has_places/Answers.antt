@@ -1,5 +1,4 @@
 use Rattle.tables_test.specs.Model.{product_no, product-yes}
-use borrow.Author.Rules.{rules}
 use Rattle.tables_test.proofs.has_places.Goals as goal
 
 -- `tables_test::has_places` meets its contract.

@@ -1,5 +1,4 @@
 use Rattle.tables_test.specs.Model.{place_ok, chain_no, chain-yes, id_by}
-use borrow.Author.Rules.{rules}
 use Rattle.tables_test.proofs.place_ok.Goals as goal
 
 pub returns-then-not-id_holds : goal.returns-then-not-id_holds

@@ -2,7 +2,6 @@ use Prim.Native.Nat.{ℕ}
 use mathlib.Core.Path.{◌∙◌, ap}
 use Rattle.tables_heights.specs.Model.{heights_hold}
 use Rattle.tables_test.specs.Model.{points_hold, chain_no, chain-yes}
-use borrow.Author.Rules.{rules}
 use Rattle.tables_test.proofs.points_hold.Goals as goal
 
 pub returns-then-not-used_ok : goal.returns-then-not-used_ok

@@ -1,6 +1,5 @@
 use native.Mathlib.Omega.{arith}
 use Rattle.tables_test.specs.Model.{passed, range_says, rounds_no, rounds-yes}
-use borrow.Author.Rules.{rules}
 use Rattle.tables_test.proofs.rounds_hold.Goals as goal
 
 -- `tables_test::rounds_hold` meets its contract.

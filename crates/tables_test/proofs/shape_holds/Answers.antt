@@ -1,6 +1,5 @@
 use mathlib.Core.Path.{refl}
 use Rattle.tables_test.specs.Model.{shape, chain_no, chain-yes}
-use borrow.Author.Rules.{rules}
 use Rattle.tables_test.proofs.shape_holds.Goals as goal
 
 -- `tables_test::shape_holds` meets its contract.

@@ -2,7 +2,6 @@ use mathlib.Core.Path.{sym}
 use borrow.Author.Tests.{eq-eqb, ne_eqb, le-leb, lt-leb}
 use Rattle.laws.specs.Test.{and_no, and_yes}
 use Rattle.tables_test.specs.Model.{state_holds, chain_no, chain-yes, test-yes}
-use borrow.Author.Rules.{rules}
 use Rattle.tables_test.proofs.state_holds.Goals as goal
 
 -- `tables_test::state_holds` meets its contract.

@@ -1,6 +1,5 @@
 use Rattle.tables_links.specs.Links.{blank}
 use Rattle.tables_test.specs.Model.{used_by}
-use borrow.Author.Rules.{rules}
 use Rattle.tables_test.proofs.used_ok.Goals as goal
 
 pub returns : goal.returns

@@ -1,4 +1,3 @@
-use borrow.Author.Rules.{rules}
 use mathlib.Core.Path.{refl}
 use Rattle.commit_state.specs.Back.{dropped_state}
 use Rattle.commit_state.proofs.back.drop_state.Goals as goal

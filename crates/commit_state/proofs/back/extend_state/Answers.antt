@@ -1,4 +1,3 @@
-use borrow.Author.Rules.{rules}
 use mathlib.Core.Path.{refl}
 use Rattle.commit_state.specs.Back.{extended_state}
 use Rattle.commit_state.proofs.back.extend_state.Goals as goal

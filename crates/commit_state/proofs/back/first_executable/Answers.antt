@@ -1,4 +1,3 @@
-use borrow.Author.Rules.{rules}
 use mathlib.Core.Path.{refl, ◌∙◌}
 use Rattle.commit_state.specs.Back.{first_of}
 use Rattle.commit_state.proofs.back.first_executable.Goals as goal

@@ -1,5 +1,4 @@
 use mathlib.Core.Path.{◌∙◌}
-use borrow.Author.Rules.{rules}
 use Rattle.commit_state.specs.Back.{full_low, full_high}
 use Rattle.commit_state.proofs.back.full_bottom.Goals as goal
 

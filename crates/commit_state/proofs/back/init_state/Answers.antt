@@ -1,4 +1,3 @@
-use borrow.Author.Rules.{rules}
 use native.Mathlib.Omega.{arith}
 use Rattle.commit_state.specs.Back.{full_bound, begun_is}
 use Rattle.commit_state.proofs.back.init_state.Goals as goal

@@ -1,4 +1,3 @@
-use borrow.Author.Rules.{rules}
 use Rattle.commit_state.specs.Back.{cleared_state}
 use Rattle.commit_state.proofs.back.reset_state.Goals as goal
 

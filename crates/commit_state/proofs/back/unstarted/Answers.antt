@@ -1,5 +1,4 @@
 use mathlib.Core.Path.{ap, ◌∙◌}
-use borrow.Author.Rules.{rules}
 use Rattle.commit_state.specs.Back.{empty_state, unstarted_state}
 use Rattle.commit_state.proofs.back.unstarted.Goals as goal
 

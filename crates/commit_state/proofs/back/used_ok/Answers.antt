@@ -1,4 +1,3 @@
-use borrow.Author.Rules.{rules}
 use Rattle.commit_state.specs.Back.{ok_nobody, ok_peer}
 use Rattle.commit_state.proofs.back.used_ok.Goals as goal
 

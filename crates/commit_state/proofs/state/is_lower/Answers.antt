@@ -1,4 +1,3 @@
-use borrow.Author.Rules.{rules}
 use Rattle.models.specs.Digest.{words, digest_at}
 use Rattle.commit_state.specs.Memory.{is_lower}
 use Rattle.commit_state.proofs.state.is_lower.Goals as goal

@@ -1,14 +1,8 @@
 use Prim.Native.Nat.{ℕ, ◌+◌, ◌-◌, ◌≤◌, ◌<◌}
-use mathlib.Core.Path.{◌≡◌, sym}
+use mathlib.Core.Path.{◌≡◌}
 use mathlib.Core.Bool.{true}
-use native.Mathlib.Omega.{arith}
 use lib.Dec.{leb}
-use borrow.Author.Rules.{rules}
-use borrow.Author.Count.{below_none, below_more}
-use borrow.Author.Tests.{le-leb, lt-leb}
-use Rattle.laws.specs.Scan.{every_intro, every_not}
 use Rattle.commit_state.specs.View.{record_of}
-use Rattle.commit_state.specs.Numbers.{used_hold}
 use Rattle.commit_state.proofs.state.used_hold.Given as goal
 
 abbrev pub invariant-loop-k : goal.invariant-loop-k

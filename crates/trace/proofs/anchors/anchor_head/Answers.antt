@@ -1,5 +1,4 @@
 use Rattle.trace.specs.Anchors.{anchor_is}
-use borrow.Author.Rules.{rules}
 use Rattle.trace.proofs.anchors.anchor_head.Goals as goal
 
 pub returns : goal.returns

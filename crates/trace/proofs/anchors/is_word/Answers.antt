@@ -1,7 +1,5 @@
-use Prim.Native.Nat.{◌-◌, ◌≤◌}
 use native.Mathlib.Omega.{arith}
-use Rattle.trace.specs.Anchors.{Alike, alike-more, stands_yes, stands_no}
-use borrow.Author.Rules.{rules}
+use Rattle.trace.specs.Anchors.{alike-more, stands_yes, stands_no}
 use Rattle.trace.proofs.anchors.is_word.Goals as goal
 
 pub loop-k-init : goal.loop-k-init

@@ -1,7 +1,5 @@
 use Prim.Native.Nat.{◌-◌, ◌≤◌}
-use native.Mathlib.Omega.{arith}
-use Rattle.trace.specs.Anchors.{Alike, alike-more, stands_yes, stands_no}
-use borrow.Author.Rules.{rules}
+use Rattle.trace.specs.Anchors.{Alike}
 use Rattle.trace.proofs.anchors.is_word.Given as goal
 
 abbrev pub invariant-loop-k : goal.invariant-loop-k

@@ -1,5 +1,4 @@
 use Rattle.trace.specs.Anchors.{word-includes, word_witness, word-anchor, word-other}
-use borrow.Author.Rules.{rules}
 use Rattle.trace.proofs.anchors.word_at.Goals as goal
 
 pub returns-then-is_word : goal.returns-then-is_word

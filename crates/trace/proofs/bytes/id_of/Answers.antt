@@ -1,4 +1,3 @@
-use borrow.Author.Rules.{rules}
 use Rattle.trace.specs.Numbers.{id_is}
 use Rattle.trace.proofs.bytes.id_of.Goals as goal
 

@@ -1,4 +1,3 @@
-use borrow.Author.Rules.{rules}
 use Rattle.trace.specs.Numbers.{number-four}
 use Rattle.trace.proofs.bytes.number_of.Goals as goal
 

@@ -1,5 +1,4 @@
 use Rattle.trace.specs.Numbers.{number-two}
-use borrow.Author.Rules.{rules}
 use Rattle.trace.proofs.bytes.short_of.Goals as goal
 
 pub returns : goal.returns

@@ -1,4 +1,3 @@
-use borrow.Author.Rules.{rules}
 use Rattle.trace.specs.Numbers.{number_eight}
 use Rattle.trace.proofs.bytes.word_of.Goals as goal
 

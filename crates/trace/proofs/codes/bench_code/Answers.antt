@@ -1,5 +1,4 @@
 use mathlib.Core.Bool.{true}
-use borrow.Author.Rules.{rules}
 use Rattle.trace.specs.Kinds.{kind_of, kind_known}
 use Rattle.trace.specs.Head.{size_of, fits, fields_fit, kind_code}
 use Rattle.trace.proofs.CodeAt.{kind_code_lem, bench_other}

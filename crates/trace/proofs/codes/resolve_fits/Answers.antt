@@ -1,4 +1,3 @@
-use borrow.Author.Rules.{rules}
 use Rattle.trace.specs.Head.{resolve_short, resolve_long}
 use Rattle.trace.proofs.codes.resolve_fits.Goals as goal
 

@@ -1,5 +1,4 @@
 use mathlib.Core.Bool.{true, false}
-use borrow.Author.Rules.{rules}
 use Rattle.trace.proofs.CodeAt.{code_version, code_fields}
 use Rattle.trace.proofs.codes.whole_code.Goals as goal
 

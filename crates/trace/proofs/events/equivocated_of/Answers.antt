@@ -1,6 +1,5 @@
 use native.Mathlib.Omega.{arith}
 use Rattle.trace.specs.Events.{event_cut, equivocated_cut, equivocated_whole}
-use borrow.Author.Rules.{rules}
 use Rattle.trace.proofs.events.equivocated_of.Goals as goal
 
 pub returns-then-left-lt-EVENT_HEAD_BYTES : goal.returns-then-left-lt-EVENT_HEAD_BYTES

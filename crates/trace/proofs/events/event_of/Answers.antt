@@ -1,5 +1,4 @@
 use Rattle.trace.specs.Events.{event_of, event_beyond, event_kind, event_none}
-use borrow.Author.Rules.{rules}
 use Rattle.trace.proofs.events.event_of.Goals as goal
 
 pub returns-then-b-at : goal.returns-then-b-at

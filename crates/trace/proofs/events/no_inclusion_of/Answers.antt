@@ -1,6 +1,5 @@
 use native.Mathlib.Omega.{arith}
 use Rattle.trace.specs.Events.{event_cut, blamed_cut, proofs-cut, no_inclusion_whole}
-use borrow.Author.Rules.{rules}
 use Rattle.trace.proofs.events.no_inclusion_of.Goals as goal
 
 pub returns-then-left-lt-EVENT_HEAD_BYTES : goal.returns-then-left-lt-EVENT_HEAD_BYTES

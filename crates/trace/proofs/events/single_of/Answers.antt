@@ -1,6 +1,5 @@
 use native.Mathlib.Omega.{arith}
 use Rattle.trace.specs.Events.{event_cut, event_whole}
-use borrow.Author.Rules.{rules}
 use Rattle.trace.proofs.events.single_of.Goals as goal
 
 pub returns-then-b-at-lt-SINGLE_BYTES : goal.returns-then-b-at-lt-SINGLE_BYTES

@@ -1,5 +1,4 @@
 use native.Mathlib.Omega.{arith}
-use borrow.Author.Rules.{rules}
 use Rattle.trace.specs.Fields.{payload-fits, info_is}
 use Rattle.trace.proofs.fields.info_of.Goals as goal
 

@@ -1,6 +1,5 @@
 use native.Mathlib.Omega.{arith}
 use lib.ListN.{length-set}
-use borrow.Author.Rules.{rules}
 use Rattle.trace.specs.Links.{link_put_lem}
 use Rattle.trace.proofs.fields.put_link.Goals as goal
 

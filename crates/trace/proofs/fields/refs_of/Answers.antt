@@ -1,9 +1,7 @@
-use Prim.Native.Nat.{◌-◌, ◌≤◌}
-use mathlib.Core.Path.{◌≡◌, refl, ap, ◌∙◌}
+use mathlib.Core.Path.{refl}
 use native.Mathlib.Omega.{arith}
-use lib.ListN.{length}
 use borrow.Author.Rules.{rules}
-use Rattle.laws.specs.Bytes.{written, written-length}
+use Rattle.laws.specs.Bytes.{written}
 use Rattle.trace.specs.Links.{links_words, link_fits, links-more, links_end}
 use Rattle.trace.proofs.fields.refs_of.Goals as goal
 

@@ -1,4 +1,3 @@
-use borrow.Author.Rules.{rules}
 use Rattle.stats.specs.Ranges.{since_of}
 use Rattle.trace.specs.Fields.{since_none, since-some}
 use Rattle.trace.proofs.fields.remove_of.Goals as goal

@@ -1,4 +1,3 @@
-use borrow.Author.Rules.{rules}
 use Rattle.trace.specs.Fields.{start_is}
 use Rattle.trace.proofs.fields.start_of.Goals as goal
 

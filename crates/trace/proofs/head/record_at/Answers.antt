@@ -1,7 +1,6 @@
 use mathlib.Core.Path.{sym, ◌∙◌}
 use native.Mathlib.Omega.{arith}
 use borrow.Author.Tests.{not-true, not-false}
-use borrow.Author.Rules.{rules}
 use Rattle.trace.specs.Head.{whole_elim}
 use Rattle.trace.proofs.CodeAt.{record_cut}
 use Rattle.trace.proofs.head.record_at.Goals as goal

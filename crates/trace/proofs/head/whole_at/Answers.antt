@@ -1,5 +1,4 @@
 use native.Mathlib.Omega.{arith}
-use borrow.Author.Rules.{rules}
 use Rattle.trace.specs.Head.{whole_short, whole_little, whole_much, whole_end}
 use Rattle.trace.proofs.head.whole_at.Goals as goal
 

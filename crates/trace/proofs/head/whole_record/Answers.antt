@@ -1,4 +1,3 @@
-use borrow.Author.Rules.{rules}
 use Rattle.trace.proofs.CodeAt.{record_bad, record_good}
 use Rattle.trace.proofs.head.whole_record.Goals as goal
 

@@ -1,5 +1,4 @@
 use Rattle.trace.specs.PeerStats.{counters_are}
-use borrow.Author.Rules.{rules}
 use Rattle.trace.proofs.peer_stats.counters_of.Goals as goal
 
 pub returns : goal.returns

@@ -1,5 +1,4 @@
 use Rattle.trace.specs.PeerStats.{peer_is}
-use borrow.Author.Rules.{rules}
 use Rattle.trace.proofs.peer_stats.peer_of.Goals as goal
 
 pub returns : goal.returns

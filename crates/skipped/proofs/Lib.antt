@@ -1,0 +1,3 @@
+pub mod Chain
+pub mod Proof
+pub mod Examples

@@ -1,0 +1,6 @@
+use Rattle.trace_write.specs.Points.{name_said}
+use borrow.Author.Rules.{rules}
+use Rattle.trace_write.proofs.points.put_name.Goals as goal
+
+pub returns : goal.returns
+returns c = c.put_named.ensures _ (name_said _)

@@ -1,0 +1,16 @@
+use native.Mathlib.Omega.{arith}
+use borrow.Author.Rules.{rules}
+use Prim.Native.Nat.{◌+◌, ◌*◌, ◌-◌, ◌≤◌}
+use mathlib.Core.Path.{◌≡◌, refl, ap, ◌∙◌}
+use lib.ListN.{length}
+use Rattle.laws.specs.Bytes.{written, written-length}
+use Rattle.models.specs.Info.{refs_of}
+use Rattle.trace.specs.Write.{field_bytes, link_fields}
+use Rattle.trace_write.specs.Resolve.{links-more, links_end}
+use Rattle.trace_write.proofs.resolve.put_links.Given as goal
+
+abbrev pub invariant-loop-k : goal.invariant-loop-k
+invariant-loop-k l = (l.b ≡ written l.initial.b l.at (field_bytes (link_fields (refs_of l.refs 0 l.k)))) × (l.next ≡ l.at + l.k * 33) × (l.k ≤ l.n)
+
+abbrev pub decreases-loop-k : goal.decreases-loop-k
+decreases-loop-k l = l.n - l.k

@@ -1,0 +1,6 @@
+use Rattle.trace_write.specs.Rounds.{reset_said}
+use borrow.Author.Rules.{rules}
+use Rattle.trace_write.proofs.rounds.put_reset.Goals as goal
+
+pub returns : goal.returns
+returns c = c.put_bare.ensures _ reset_said
