@@ -17,7 +17,8 @@ for f in files:
         gone = MAP.get(crate, {}).get(mod)
         if gone is None:
             return m.group(0)
-        whole = m.group(0).replace(f"Rattle.{crate}.specs.{mod}", f"Rattle.{crate}.proofs.{mod}")
+        to = {("skipped", "Proof"): "InRow"}.get((crate, mod), mod)      # rattle has a module Proof of its own
+        whole = m.group(0).replace(f"Rattle.{crate}.specs.{mod}", f"Rattle.{crate}.proofs.{to}")
         if gone == "*":
             return whole
         if ns is None or rest:

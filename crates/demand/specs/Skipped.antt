@@ -12,8 +12,8 @@ use Rattle.spec.specs.Calls.{commit, call, anchors}
 use Rattle.spec.proofs.Preservation.{is_reset_call, rules_kept}
 use Rattle.skipped.specs.Skipped as skipped
 use Rattle.skipped.specs.Skipped.{Passes, SameLists, SameInRow, records_in}
-use Rattle.skipped.proofs.Proof as proofs
-use Rattle.skipped.proofs.Proof.{chains}
+use Rattle.skipped.proofs.InRow as proofs
+use Rattle.skipped.proofs.InRow.{chains}
 use Rattle.commit_answer.specs.Answer.{Tables, view_of, Left, outcome_of, answer_of, Did}
 use Rattle.commit_answer.specs.declared.answer.Answer.TheVariants.{Anchors}
 use Rattle.commit_call.specs.Commit.{commit_left, tables_after, tables-append, tables-left}

@@ -1,3 +1,3 @@
 pub mod Chain
-pub mod Proof
+pub mod InRow
 pub mod Examples

@@ -1,5 +1,5 @@
 -- An id that a function is given, as fields.
-use Rattle.std.specs.Prelude.{ℕ, ◌+◌, ◌*◌, ◌^◌, ◌<◌, ◌≡◌, List, [], ◌∷◌, map, Bool, true, ◌&&◌, leb, length}
+use Rattle.std.specs.Prelude.{ℕ, ◌+◌, ◌*◌, ◌^◌, ◌<◌, ◌≡◌, List, [], ◌∷◌, Bool, true, ◌&&◌, leb, length}
 use Rattle.std.proofs.Common.{sym, ap₂, ◌∙◌, subst, arith, lt-ltb, le-ltb, le-leb}
 use Rattle.std.specs.Int.{w64}
 use mir.Val.{Val}
@@ -7,7 +7,6 @@ use denote.Plain.{UInt}
 use Rattle.std.specs.Borrow.{Array}
 use denote.Laws.{Is}
 use denote.Struct.Declared.{row}
-use Rattle.std.proofs.lemmas.List.{length-map}
 use Rattle.std.proofs.lemmas.Bool.{lt-leb}
 use Rattle.laws.specs.Test.{le_or, and-true}
 use Rattle.laws.specs.Lists.{all}

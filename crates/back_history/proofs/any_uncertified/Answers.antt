@@ -1,12 +1,9 @@
 use borrow.Author.Rules.{rules}
-use Prim.Native.Nat.{◌≤◌, ◌-◌}
-use mathlib.Core.Path.{◌≡◌, refl}
-use mathlib.Core.Bool.{false}
-use mathlib.Core.Logic.{⊎_elim}
+use mathlib.Core.Path.{refl}
 use native.Mathlib.Omega.{arith}
 use Rattle.laws.specs.Scan.{any}
-use Rattle.back_history.specs.Supposing.{supposing, certified_by}
-use Rattle.back_history.specs.Picked.{uncertified_at, flat_hit, flat_off, flat_heights_are, any_end}
+use Rattle.back_history.specs.Supposing.{certified_by}
+use Rattle.back_history.specs.Picked.{flat_hit, flat_off, flat_heights_are, any_end}
 use Rattle.back_history.proofs.any_uncertified.Goals as goal
 use Rattle.back_history.proofs.any_uncertified.Goals.{then-is_fresh+else-not-is_certified, else-is_fresh}
 

@@ -1,12 +1,8 @@
 use borrow.Author.Rules.{rules}
-use Prim.Native.Nat.{◌≤◌, ◌-◌}
-use mathlib.Core.Path.{◌≡◌, refl}
-use mathlib.Core.Logic.{⊎_elim}
+use mathlib.Core.Path.{refl}
 use native.Mathlib.Omega.{arith}
-use lib.ListN.{length}
 use Rattle.laws.specs.Scan.{those}
-use Rattle.back_history.specs.Supposing.{supposing}
-use Rattle.back_history.specs.Picked.{uncommitted_at, count_hit, count_miss, count_end}
+use Rattle.back_history.specs.Picked.{count_hit, count_miss, count_end}
 use Rattle.back_history.proofs.count_points.Goals as goal
 use Rattle.back_history.proofs.count_points.Goals.{then-is_fresh, else-is_fresh}
 

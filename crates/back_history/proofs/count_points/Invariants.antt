@@ -1,12 +1,9 @@
-use borrow.Author.Rules.{rules}
 use Prim.Native.Nat.{◌≤◌, ◌-◌}
-use mathlib.Core.Path.{◌≡◌, refl}
-use mathlib.Core.Logic.{⊎_elim}
-use native.Mathlib.Omega.{arith}
+use mathlib.Core.Path.{◌≡◌}
 use lib.ListN.{length}
 use Rattle.laws.specs.Scan.{those}
 use Rattle.back_history.specs.Supposing.{supposing}
-use Rattle.back_history.specs.Picked.{uncommitted_at, count_hit, count_miss, count_end}
+use Rattle.back_history.specs.Picked.{uncommitted_at}
 use Rattle.back_history.proofs.count_points.Given as goal
 
 abbrev pub invariant-loop-k : goal.invariant-loop-k

@@ -1,5 +1,4 @@
 use Rattle.back_history.specs.Model.{marks_by}
-use borrow.Author.Rules.{rules}
 use Rattle.back_history.proofs.gather_uncommitted.Goals as goal
 
 pub returns : goal.returns

@@ -1,5 +1,4 @@
 use Rattle.back_history.specs.Model.{is_uncommitted_by, is_uncommitted_not}
-use borrow.Author.Rules.{rules}
 use Rattle.back_history.proofs.is_uncommitted.Goals as goal
 
 pub returns-then-marks-q : goal.returns-then-marks-q

@@ -1,8 +1,6 @@
-use borrow.Author.Rules.{rules}
 use Prim.Native.Nat.{◌≤◌, ◌-◌}
-use mathlib.Core.Path.{◌≡◌, refl}
-use native.Mathlib.Omega.{arith}
-use Rattle.back_history.specs.Model.{marked, marked_more, marked_end}
+use mathlib.Core.Path.{◌≡◌}
+use Rattle.back_history.specs.Model.{marked}
 use Rattle.back_history.proofs.mark_links.Given as goal
 
 abbrev pub invariant-loop-k : goal.invariant-loop-k

@@ -1,5 +1,4 @@
 use Rattle.back_history.specs.Model.{put-none, put-place, put_out}
-use borrow.Author.Rules.{rules}
 use Rattle.back_history.proofs.mark_target.Goals as goal
 
 pub returns-then-word-eq0 : goal.returns-then-word-eq0

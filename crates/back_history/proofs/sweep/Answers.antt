@@ -1,9 +1,6 @@
 use borrow.Author.Rules.{rules}
-use Prim.Native.Nat.{◌≤◌, ◌-◌}
-use mathlib.Core.Path.{◌≡◌}
 use native.Mathlib.Omega.{arith}
 use Rattle.back_history.specs.Down.{down_none, down_end}
-use Rattle.back_history.specs.Supposing.{supposing}
 use Rattle.back_history.specs.Model.{swept, swept_hit, swept_miss}
 use Rattle.back_history.proofs.sweep.Goals as goal
 

@@ -1,4 +1,3 @@
-use borrow.Author.Rules.{rules}
 use mathlib.Core.Path.{refl, sym, ap, ◌∙◌}
 use Rattle.models.specs.Refusal.{numbered}
 use native.Mathlib.Omega.{arith}

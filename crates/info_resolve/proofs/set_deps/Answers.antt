@@ -1,4 +1,3 @@
-use borrow.Author.Rules.{rules}
 use Rattle.info_resolve.specs.Refines.{deps_nothing, deps_none, deps_set_lem}
 use Rattle.info_resolve.proofs.set_deps.Goals as goal
 

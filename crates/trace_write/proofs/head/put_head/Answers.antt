@@ -1,7 +1,6 @@
 use native.Mathlib.Omega.{arith}
 use Rattle.trace_write.specs.Puts.{head_unfit, head_long, head_short, head_done}
 use borrow.Author.Tests.{not-true, not-false}
-use borrow.Author.Rules.{rules}
 use Rattle.trace_write.proofs.head.put_head.Goals as goal
 
 pub returns-then-not-fits : goal.returns-then-not-fits

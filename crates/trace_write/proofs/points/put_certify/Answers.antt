@@ -1,5 +1,4 @@
 use Rattle.trace_write.specs.Points.{certify_said}
-use borrow.Author.Rules.{rules}
 use Rattle.trace_write.proofs.points.put_certify.Goals as goal
 
 pub returns : goal.returns

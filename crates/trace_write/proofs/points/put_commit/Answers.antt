@@ -1,7 +1,6 @@
 use native.Mathlib.Omega.{arith}
 use Rattle.trace_write.specs.Puts.{head_room, put_refused, put-done}
 use Rattle.trace_write.specs.Points.{commit_said, commit-put}
-use borrow.Author.Rules.{rules}
 use Rattle.trace_write.proofs.points.put_commit.Goals as goal
 
 pub returns-then-refused-ne0 : goal.returns-then-refused-ne0

@@ -1,5 +1,4 @@
 use Rattle.trace_write.specs.Points.{name_said}
-use borrow.Author.Rules.{rules}
 use Rattle.trace_write.proofs.points.put_name.Goals as goal
 
 pub returns : goal.returns

@@ -1,7 +1,6 @@
 use native.Mathlib.Omega.{arith}
 use Rattle.trace_write.specs.Puts.{head_room, said_as, put_refused, put-done}
 use Rattle.trace_write.specs.Fields.{put_id, put-none}
-use borrow.Author.Rules.{rules}
 use Rattle.trace_write.proofs.points.put_named.Goals as goal
 
 pub returns-then-refused-ne0 : goal.returns-then-refused-ne0

@@ -1,5 +1,4 @@
 use Rattle.trace_write.specs.Resolve.{told-includes, told_witness, told-words}
-use borrow.Author.Rules.{rules}
 use Rattle.trace_write.proofs.resolve.links_told.Goals as goal
 
 pub returns-then-includes-gt-LINKS_MAX : goal.returns-then-includes-gt-LINKS_MAX

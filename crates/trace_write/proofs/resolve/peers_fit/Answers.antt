@@ -1,11 +1,9 @@
 use native.Mathlib.Omega.{arith}
 use borrow.Author.Rules.{rules}
-use Prim.Native.Nat.{◌-◌, ◌≤◌}
-use mathlib.Core.Path.{◌≡◌, refl}
-use mathlib.Core.Bool.{true}
+use mathlib.Core.Path.{refl}
 use Rattle.laws.specs.Lists.{all}
 use Rattle.models.specs.Info.{refs_of}
-use Rattle.trace.specs.Write.{fits_field, link_fields}
+use Rattle.trace.specs.Write.{link_fields}
 use Rattle.trace_write.specs.Resolve.{peers_more, peers_none, peers_end}
 use Rattle.trace_write.proofs.resolve.peers_fit.Goals as goal
 

@@ -1,7 +1,6 @@
 use native.Mathlib.Omega.{arith}
 use Rattle.trace_write.specs.Resolve.{info_fields}
 use Rattle.trace_write.specs.Fields.{put_id, put-more, put_as}
-use borrow.Author.Rules.{rules}
 use Rattle.trace_write.proofs.resolve.put_info.Goals as goal
 
 pub returns : goal.returns

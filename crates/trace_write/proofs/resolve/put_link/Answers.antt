@@ -1,6 +1,5 @@
 use native.Mathlib.Omega.{arith}
 use Rattle.trace_write.specs.Resolve.{link_put_lem}
-use borrow.Author.Rules.{rules}
 use Rattle.trace_write.proofs.resolve.put_link.Goals as goal
 
 pub returns : goal.returns

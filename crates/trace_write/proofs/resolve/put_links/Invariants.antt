@@ -1,12 +1,8 @@
-use native.Mathlib.Omega.{arith}
-use borrow.Author.Rules.{rules}
 use Prim.Native.Nat.{◌+◌, ◌*◌, ◌-◌, ◌≤◌}
-use mathlib.Core.Path.{◌≡◌, refl, ap, ◌∙◌}
-use lib.ListN.{length}
-use Rattle.laws.specs.Bytes.{written, written-length}
+use mathlib.Core.Path.{◌≡◌}
+use Rattle.laws.specs.Bytes.{written}
 use Rattle.models.specs.Info.{refs_of}
 use Rattle.trace.specs.Write.{field_bytes, link_fields}
-use Rattle.trace_write.specs.Resolve.{links-more, links_end}
 use Rattle.trace_write.proofs.resolve.put_links.Given as goal
 
 abbrev pub invariant-loop-k : goal.invariant-loop-k

@@ -1,7 +1,6 @@
 use native.Mathlib.Omega.{arith}
 use Rattle.trace_write.specs.Resolve.{payload_fields}
 use Rattle.trace_write.specs.Fields.{put-more, put_last}
-use borrow.Author.Rules.{rules}
 use Rattle.trace_write.proofs.resolve.put_payload.Goals as goal
 
 pub returns : goal.returns

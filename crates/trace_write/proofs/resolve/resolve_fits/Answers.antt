@@ -1,6 +1,5 @@
 use borrow.Author.Tests.{not-true, not-false}
 use Rattle.trace_write.specs.Resolve.{fits_id_lem, fits_top, fits-status, fits_links_lem}
-use borrow.Author.Rules.{rules}
 use Rattle.trace_write.proofs.resolve.resolve_fits.Goals as goal
 
 pub returns-then-not-id_fits : goal.returns-then-not-id_fits

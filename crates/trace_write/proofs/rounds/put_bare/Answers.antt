@@ -1,7 +1,6 @@
 use Rattle.trace_write.specs.Puts.{put_refused, put-done}
 use mathlib.Core.Path.{refl}
 use Rattle.trace_write.specs.Fields.{put-none}
-use borrow.Author.Rules.{rules}
 use Rattle.trace_write.proofs.rounds.put_bare.Goals as goal
 
 pub returns-then-refused-ne0 : goal.returns-then-refused-ne0

@@ -1,7 +1,6 @@
 use native.Mathlib.Omega.{arith}
 use Rattle.trace_write.specs.Rounds.{start_last}
 use Rattle.trace_write.specs.Fields.{put-more, put_last, put_as}
-use borrow.Author.Rules.{rules}
 use Rattle.trace_write.proofs.rounds.put_bottom.Goals as goal
 
 pub returns : goal.returns

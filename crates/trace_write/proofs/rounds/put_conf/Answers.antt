@@ -1,7 +1,6 @@
 use native.Mathlib.Omega.{arith}
 use Rattle.trace_write.specs.Rounds.{start_first}
 use Rattle.trace_write.specs.Fields.{put-more, put_last}
-use borrow.Author.Rules.{rules}
 use Rattle.trace_write.proofs.rounds.put_conf.Goals as goal
 
 pub returns : goal.returns

@@ -1,5 +1,4 @@
 use Rattle.trace_write.specs.Rounds.{gap_said}
-use borrow.Author.Rules.{rules}
 use Rattle.trace_write.proofs.rounds.put_gap.Goals as goal
 
 pub returns : goal.returns

@@ -1,5 +1,4 @@
 use Rattle.trace_write.specs.Rounds.{reset_said}
-use borrow.Author.Rules.{rules}
 use Rattle.trace_write.proofs.rounds.put_reset.Goals as goal
 
 pub returns : goal.returns

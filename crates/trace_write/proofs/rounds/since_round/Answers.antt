@@ -1,5 +1,4 @@
 use Rattle.trace_write.specs.Rounds.{since_none, since_from}
-use borrow.Author.Rules.{rules}
 use Rattle.trace_write.proofs.rounds.since_round.Goals as goal
 
 pub returns-in-Nothing : goal.returns-in-Nothing

@@ -1,5 +1,4 @@
 use Rattle.trace_write.specs.Rounds.{used_none, used_some}
-use borrow.Author.Rules.{rules}
 use Rattle.trace_write.proofs.rounds.used_byte.Goals as goal
 
 pub returns-in-Nobody : goal.returns-in-Nobody
