@@ -17,7 +17,7 @@ for f in files:
         gone = MAP.get(crate, {}).get(mod)
         if gone is None:
             return m.group(0)
-        to = {("skipped", "Proof"): "InRow"}.get((crate, mod), mod)      # rattle has a module Proof of its own
+        to = {("skipped", "Proof"): "InRow", ("trace_write", "Resolve"): "ResolveSaid"}.get((crate, mod), mod)      # rattle has a module Proof of its own
         whole = m.group(0).replace(f"Rattle.{crate}.specs.{mod}", f"Rattle.{crate}.proofs.{to}")
         if gone == "*":
             return whole

@@ -27,7 +27,7 @@ use Rattle.models.specs.contracts.info.PointInfo.{the_type}
 use Rattle.models.specs.declared.info.PointInfo.{PointInfo}
 use Rattle.trace.specs.Write.{Field, field, field_bytes, fits_field, id_then, link_fields, marks_byte, resolve_fields, fields_of, kind_byte, sayable, fields_in, record_bytes, put_record}
 use Rattle.trace.proofs.ReadBack.{size, fields_length, fields_append}
-use Rattle.trace_write.specs.Puts.{PutAs, Puts, Said, head_unfit, put_refused}
+use Rattle.trace_write.specs.Puts.{PutAs, Puts, Said}
 use Rattle.trace_write.specs.Fields.{fit_none, fit_more, fit_append, put-more, put_last, put_fields}
 use Rattle.trace_write.specs.Ids.{byte_fit, digest_small}
 
@@ -35,7 +35,7 @@ use Rattle.trace_write.specs.Ids.{byte_fit, digest_small}
 abbrev pub lent : PointInfo → List ℕ → Bool
 lent t rs = eqb (length rs) ((t.includes + t.witness) * 5)
 
-abbrev resolving : Id → PointInfo → List ℕ → Call
+abbrev pub resolving : Id → PointInfo → List ℕ → Call
 resolving i t rs = resolve i (info_of t rs)
 
 -- links of another number than the one told have no record: 26; else "Writing a call's record .."
@@ -66,12 +66,12 @@ links_unfit rs j (suc m) (suc i) l h = sym (and_no_r (fits_field (field 1 (get_o
     next : j + suc i ≡ j + 1 + i
     next = omega arith
 
-refs_length : (rs : List ℕ) (j m : ℕ) → length (refs_of rs j m) ≡ m
+pub refs_length : (rs : List ℕ) (j m : ℕ) → length (refs_of rs j m) ≡ m
 unfolding refs_of
 refs_length rs j zero = refl
 refs_length rs j (suc m) = ap suc (refs_length rs (j + 1) m)
 
-refs_append : (rs : List ℕ) (j m n : ℕ) → refs_of rs j (m + n) ≡ refs_of rs j m ++ refs_of rs (j + m) n
+pub refs_append : (rs : List ℕ) (j m n : ℕ) → refs_of rs j (m + n) ≡ refs_of rs j m ++ refs_of rs (j + m) n
 unfolding refs_of
 refs_append rs j zero n = ap₂ (refs_of rs) (sym (add-zero j)) (zero-add n)
 refs_append rs j (suc m) n = ap (refs_of rs j) (suc-first m n) ∙ ap (λ (l : List Ref). ref_at rs j ∷ l) (refs_append rs (j + 1) m n ∙ ap (λ (k : ℕ). refs_of rs (j + 1) m ++ refs_of rs k n) (next j m))
@@ -82,12 +82,12 @@ refs_append rs j (suc m) n = ap (refs_of rs j) (suc-first m n) ∙ ap (λ (l : L
     next : (j m : ℕ) → j + 1 + m ≡ j + suc m
     next j m = omega arith
 
-links-append : (xs ys : List Ref) → link_fields (xs ++ ys) ≡ link_fields xs ++ link_fields ys
+pub links-append : (xs ys : List Ref) → link_fields (xs ++ ys) ≡ link_fields xs ++ link_fields ys
 unfolding link_fields
 links-append [] ys = refl
 links-append (x ∷ xs) ys = ap (λ (l : List Field). field 1 x.peer ∷ field 32 x.digest ∷ l) (links-append xs ys)
 
-links-size : (xs : List Ref) → length (field_bytes (link_fields xs)) ≡ length xs * 33
+pub links-size : (xs : List Ref) → length (field_bytes (link_fields xs)) ≡ length xs * 33
 unfolding link_fields size
 links-size [] = fields_length []
 links-size (x ∷ xs) = fields_length (link_fields (x ∷ xs)) ∙ more (size (link_fields xs)) (length xs) (sym (fields_length (link_fields xs)) ∙ links-size xs)
@@ -142,7 +142,7 @@ payload_fields t = field 4 t.payload_len ∷ field 4 t.payload_bytes ∷ []
 abbrev pub all_fields : Id → PointInfo → List ℕ → List Field
 all_fields i t rs = info_fields i t ++ (link_fields (refs_of rs 0 (t.includes + t.witness)) ++ payload_fields t)
 
-abbrev told_by : PointInfo → List ℕ → Resolution
+abbrev pub told_by : PointInfo → List ℕ → Resolution
 told_by t rs = record {
   status = t.status;
   proof = t.proof;
@@ -156,10 +156,10 @@ told_by t rs = record {
   payload_bytes = t.payload_bytes;
 }
 
-abbrev fits_id : Id → Bool
+abbrev pub fits_id : Id → Bool
 fits_id i = all fits_field (id_then i [])
 
-abbrev fits_links : List ℕ → ℕ → Bool
+abbrev pub fits_links : List ℕ → ℕ → Bool
 fits_links rs n = all fits_field (link_fields (refs_of rs 0 n))
 
 -- each number of links fits a byte, and as many words are lent
@@ -207,119 +207,21 @@ module _ (i : Id) (t : PointInfo) (rs : List ℕ) (n : ℕ) where
   unfolding resolve_fits
   fits_links_lem a b l p h q k m r = r ∙ sym (and_yes (sym p ∙ h) (and_yes (sym q ∙ k) (and_yes (le-leb t.status 255 m) refl)))
 
-mark_small : (w : ℕ) (b : Bool) → bit w b ≤ w
+pub mark_small : (w : ℕ) (b : Bool) → bit w b ≤ w
 mark_small w true = omega arith
 mark_small w false = omega arith
 
 -- the tests in the order of the fields
-arranged : (a b s m n l : Bool) → (m && n) ≡ true → (a && (b && (s && l))) ≡ ((a && (s && (b && (m && (n && true))))) && (l && true))
+pub arranged : (a b s m n l : Bool) → (m && n) ≡ true → (a && (b && (s && l))) ≡ ((a && (s && (b && (m && (n && true))))) && (l && true))
 arranged false b s m n l h = refl
 arranged true false true m n l h = refl
 arranged true false false m n l h = refl
 arranged true true false m n l h = refl
 arranged true true true m n l h = sym (and-true l) ∙ sym (and_yes (ap (λ (x : Bool). m && x) (and-true n) ∙ h) refl)
 
-unfit : (a s b m n x : Bool) → (m && n) ≡ false → ((a && (s && (b && (m && (n && true))))) && x) ≡ false
+pub unfit : (a s b m n x : Bool) → (m && n) ≡ false → ((a && (s && (b && (m && (n && true))))) && x) ≡ false
 unfit a s b m n x h = and_no x (and_no_r a (and_no_r s (and_no_r b (ap (λ (y : Bool). m && y) (and-true n) ∙ h))))
 
 -- with other numbers of links and other fields after them
-abbrev framed : Id → PointInfo → ℕ → ℕ → List Field → List Field
+abbrev pub framed : Id → PointInfo → ℕ → ℕ → List Field → List Field
 framed i t m n l = id_then i (field 1 t.status ∷ field 1 (marks_in t) ∷ id_then (id_of t.top_proof) (field 4 t.evidence ∷ field 1 m ∷ field 1 n ∷ l))
-
-module _ (i : Id) (t : PointInfo) (rs : List ℕ) where
-  fields_told : lent t rs ≡ true → fields_of (resolving i t rs) ≡ all_fields i t rs
-  unfolding fields_of resolve_fields marks_byte info_of info_fields count_fields payload_fields
-  fields_told e =
-      let a : List Ref = refs_of rs 0 t.includes in
-      let b : List Ref = refs_of rs t.includes t.witness in
-      ap (resolve_fields i) (cond_yes _ _ (told_by t rs) e refl)
-      ∙ (ap₂ (λ (m n : ℕ). framed i t m n (link_fields a ++ (link_fields b ++ payload_fields t))) (refs_length rs 0 t.includes) (refs_length rs t.includes t.witness)
-      ∙ ap (framed i t t.includes t.witness) (sym (append_assoc (link_fields a) (link_fields b) (payload_fields t))
-      ∙ ap (λ (l : List Field). l ++ payload_fields t) (sym (ap link_fields (refs_append rs 0 t.includes t.witness ∙ ap (λ (j : ℕ). a ++ refs_of rs j t.witness) (zero-add t.includes)) ∙ links-append a b))))
-
-  front_fit : t.evidence < 2 ^ 32
-      → (fits_id i && (leb t.status 255 && (fits_id (id_of t.top_proof) && (leb t.includes 255 && (leb t.witness 255 && true))))) ≡ all fits_field (info_fields i t)
-  unfolding info_fields count_fields
-  front_fit e =
-      let a : Id = id_of t.top_proof in
-      let c = fit_more 4 t.evidence _ _ e (byte_fit t.includes _ _ (byte_fit t.witness [] true fit_none)) in
-      let d = ap (λ (x : Bool). fits_id a && x) c ∙ sym (fit_append (id_then a []) _) in
-      let g = fit_more 1 (marks_in t) (id_then a _) _ (omega (arith, mark_small 1 t.proof, mark_small 2 t.trigger, mark_small 4 t.cause)) d in
-      ap (λ (x : Bool). fits_id i && x) (byte_fit t.status (field 1 (marks_in t) ∷ id_then a _) _ g) ∙ sym (fit_append (id_then i []) _)
-
-  all_fit : Small t
-      → ((fits_id i && (leb t.status 255 && (fits_id (id_of t.top_proof) && (leb t.includes 255 && (leb t.witness 255 && true)))))
-      && (fits_links rs (t.includes + t.witness) && true)) ≡ all fits_field (all_fields i t rs)
-  unfolding payload_fields
-  all_fit s =
-      ap₂ ◌&&◌ (front_fit s.evidence) (ap (λ (x : Bool). fits_links rs (t.includes + t.witness) && x) (fit_more 4 _ _ _ s.length (fit_more 4 _ _ _ s.bytes fit_none)) ∙ sym (fit_append (link_fields (refs_of rs 0 (t.includes + t.witness))) (payload_fields t)))
-      ∙ sym (fit_append (info_fields i t) _)
-
-  all-size : length (field_bytes (all_fields i t rs)) ≡ 90 + 33 * (t.includes + t.witness)
-  unfolding info_fields count_fields payload_fields size
-  all-size =
-      let n : ℕ = t.includes + t.witness in
-      let ls : List Field = link_fields (refs_of rs 0 n) in
-      omega (
-        arith,
-        ap length (fields_append (info_fields i t) (ls ++ payload_fields t)),
-        ap length (fields_append ls (payload_fields t)),
-        length-append (field_bytes (info_fields i t)) (field_bytes (ls ++ payload_fields t)),
-        length-append (field_bytes ls) (field_bytes (payload_fields t)),
-        fields_length (info_fields i t),
-        fields_length (payload_fields t),
-        links-size (refs_of rs 0 n),
-        refs_length rs 0 n,
-      )
-
-  -- told and lent
-  lent-told : told t.includes t.witness (length rs) ≡ true → (lent t rs ≡ true) × ((leb t.includes 255 && leb t.witness 255) ≡ true)
-  unfolding told
-  lent-told h = let k = and_r (leb t.includes 255) _ h in (and_r (leb t.witness 255) _ k, both {a = leb t.includes 255} {b = leb t.witness 255} (and_l (leb t.includes 255) _ h) (and_l (leb t.witness 255) _ k))
-
-  lent_untold : told t.includes t.witness (length rs) ≡ false → lent t rs ≡ true → (leb t.includes 255 && leb t.witness 255) ≡ false
-  unfolding told
-  lent_untold h e = ap (λ (x : Bool). leb t.includes 255 && x) (sym (and-true _) ∙ ap (λ (x : Bool). leb t.witness 255 && x) (sym e)) ∙ h
-
-  pub resolve_said : (f : Bool) → told t.includes t.witness (length rs) ≡ true → f ≡ resolve_fits i t rs (t.includes + t.witness) → Small t
-      → Said (resolving i t rs) 4 f (90 + 33 * (t.includes + t.witness)) (all_fields i t rs)
-  unfolding kind_byte sayable resolve_fits
-  resolve_said f h g s = record {
-    kind = refl;
-    fields = fields_told (lent-told h).0;
-    fit = g ∙ arranged (fits_id i) (fits_id (id_of t.top_proof)) (leb t.status 255) (leb t.includes 255) (leb t.witness 255) (fits_links rs (t.includes + t.witness)) (lent-told h).1 ∙ all_fit s;
-    size = λ _. sym all-size;
-  }
-
-  put-lent : (b : List ℕ) → lent t rs ≡ true → put_resolve b i t rs ≡ put_record b (resolving i t rs)
-  unfolding put_resolve
-  put-lent b e = refuse_back (not (lent t rs)) 26 (put_record b (resolving i t rs)) (not_yes e)
-
-  pub resolve-lent : (b d : List ℕ) (x n : ℕ) → told t.includes t.witness (length rs) ≡ true → Puts b (resolving i t rs) x n d → PutsResolve b i t rs x n d
-  resolve-lent b d x n h p = rw (put-lent b (lent-told h).0) p
-
-  -- more than a byte counts
-  resolve-many : (b : List ℕ) → lent t rs ≡ true → (leb t.includes 255 && leb t.witness 255) ≡ false → Small t → PutsResolve b i t rs 26 0 b
-  unfolding kind_byte sayable
-  resolve-many b k h s = rw (put-lent b k) (put_refused {k = 4} {f = false} {n = 0} {fs = all_fields i t rs} (record {
-    kind = refl;
-    fields = fields_told k;
-    fit = sym (sym (all_fit s) ∙ unfit (fits_id i) (leb t.status 255) (fits_id (id_of t.top_proof)) (leb t.includes 255) (leb t.witness 255) _ h);
-    size = λ z. absurd (true≢false (sym z));
-  }) b 26 b (head_unfit 4 false 0 b refl) (λ z. omega arith))
-
-  -- not as many as told
-  resolve_unlike : (b : List ℕ) → lent t rs ≡ false → PutsResolve b i t rs 26 0 b
-  unfolding PutAs put_resolve refuse number_of
-  resolve_unlike b k = rw k (refl, refl, refl)
-
-  pub resolve_untold : (b : List ℕ) → told t.includes t.witness (length rs) ≡ false → Small t → PutsResolve b i t rs 26 0 b
-  resolve_untold b h s = by_test (lent t rs) (λ k. resolve-many b k (lent_untold h k) s) (resolve_unlike b)
-
-  -- the three groups
-  pub resolve-put : (b b₁ b₂ d : List ℕ) (at e₁ e₂ : ℕ) → b₁ ≡ written b at (field_bytes (info_fields i t)) → e₁ ≡ at + 82 → b₂ ≡ written b₁ e₁ (field_bytes (link_fields (refs_of rs 0 (t.includes + t.witness))))
-      → e₂ ≡ e₁ + (t.includes + t.witness) * 33 → d ≡ written b₂ e₂ (field_bytes (payload_fields t)) → d ≡ written b at (field_bytes (all_fields i t rs))
-  unfolding info_fields count_fields size
-  resolve-put b b₁ b₂ d at e₁ e₂ p i₁ q i₂ r =
-      put_fields b b₁ d at e₁ 82 _ _ (fields_length (info_fields i t)) i₁ p
-      (put_fields b₁ b₂ d e₁ e₂ _ _ (payload_fields t) (links-size (refs_of rs 0 (t.includes + t.witness)) ∙ ap (λ (n : ℕ). n * 33) (refs_length rs 0 (t.includes + t.witness))) i₂ q r)

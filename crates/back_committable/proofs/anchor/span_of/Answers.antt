@@ -1,7 +1,6 @@
 use mathlib.Core.Path.{◌∙◌, ap}
 use Rattle.dag_round_order.specs.Span.{below}
 use Rattle.back_committable.specs.Model.{span_by}
-use borrow.Author.Rules.{rules}
 use Rattle.back_committable.proofs.anchor.span_of.Goals as goal
 
 pub returns : goal.returns

@@ -1,5 +1,4 @@
 use mathlib.Core.Path.{sym, ◌∙◌, ap}
-use borrow.Author.Rules.{rules}
 use Rattle.models.specs.Digest.{Fit}
 use Rattle.back_history.specs.Supposing.{supposing}
 use Rattle.back_committable.specs.Model.{history_span, tested_by, gathered_span, anchor-words, code_ready}

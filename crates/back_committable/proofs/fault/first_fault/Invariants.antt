@@ -1,10 +1,7 @@
-use borrow.Author.Rules.{rules}
 use Prim.Native.Nat.{◌≤◌, ◌-◌}
 use mathlib.Core.Path.{◌≡◌}
-use native.Mathlib.Omega.{arith}
-use Rattle.back_history.specs.Down.{down_none, down_end}
-use Rattle.back_committable.specs.Scan.{scanned, scanned_most, scanned_hit, scanned_miss}
-use Rattle.back_committable.specs.ModelPoints.{faulty_at, round_of, first_fault, faulty_at_lem, round-fits}
+use Rattle.back_committable.specs.Scan.{scanned}
+use Rattle.back_committable.specs.ModelPoints.{faulty_at, round_of}
 use Rattle.back_committable.proofs.fault.first_fault.Given as goal
 
 abbrev pub invariant-loop-p : goal.invariant-loop-p

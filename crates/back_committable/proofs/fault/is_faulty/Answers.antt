@@ -1,7 +1,6 @@
 use borrow.Author.Tests.{not-true, not-false}
 use Rattle.models.specs.Refusal.{is_failed}
 use Rattle.back_committable.specs.ModelPoints.{faulty_not, faulty_by}
-use borrow.Author.Rules.{rules}
 use Rattle.back_committable.proofs.fault.is_faulty.Goals as goal
 
 -- src/fault.rt:58:9

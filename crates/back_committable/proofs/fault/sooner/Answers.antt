@@ -1,7 +1,6 @@
 use mathlib.Core.Path.{sym, ◌∙◌}
 use Rattle.back_committable.specs.Scan.{sooner-first, sooner-same, sooner_kept}
 use Rattle.back_committable.specs.ModelPoints.{round_of_lem}
-use borrow.Author.Rules.{rules}
 use Rattle.back_committable.proofs.fault.sooner.Goals as goal
 
 pub returns-then-found-none : goal.returns-then-found-none

@@ -1,5 +1,4 @@
 use Rattle.inspector_counters.specs.Counters.{leads-none, leads-some}
-use borrow.Author.Rules.{rules}
 use Rattle.inspector_counters.proofs.counters.is_leader.Goals as goal
 
 pub returns-then-used-eq0 : goal.returns-then-used-eq0

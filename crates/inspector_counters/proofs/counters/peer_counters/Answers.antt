@@ -1,5 +1,4 @@
 use Rattle.inspector_counters.specs.Counters.{assembled_is}
-use borrow.Author.Rules.{rules}
 use Rattle.inspector_counters.proofs.counters.peer_counters.Goals as goal
 
 pub returns : goal.returns

@@ -1,6 +1,5 @@
 use mathlib.Core.Path.{refl}
 use native.Mathlib.Omega.{arith}
-use borrow.Author.Rules.{rules}
 use Rattle.inspector_counters.proofs.counts.add_if.Goals as goal
 
 pub returns-then-holds : goal.returns-then-holds

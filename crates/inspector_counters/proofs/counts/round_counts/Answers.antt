@@ -1,8 +1,6 @@
-use Prim.Native.Nat.{◌-◌, ◌≤◌}
 use mathlib.Core.Path.{◌∙◌}
-use mathlib.Core.Logic.{⊎_elim}
 use native.Mathlib.Omega.{arith}
-use Rattle.inspector_counters.specs.Counts.{Counted, counted_start, counted_end, counted-yes, counted_no, cell-few}
+use Rattle.inspector_counters.specs.Counts.{counted_start, counted_end, counted-yes, counted_no, cell-few}
 use borrow.Author.Rules.{rules}
 use Rattle.inspector_counters.proofs.counts.round_counts.Goals as goal
 use Rattle.inspector_counters.proofs.counts.round_counts.Goals.{then-author-lt-PEERS_MAX, else-author-lt-PEERS_MAX}

@@ -1,9 +1,5 @@
 use Prim.Native.Nat.{◌-◌, ◌≤◌}
-use mathlib.Core.Path.{◌∙◌}
-use mathlib.Core.Logic.{⊎_elim}
-use native.Mathlib.Omega.{arith}
-use Rattle.inspector_counters.specs.Counts.{Counted, counted_start, counted_end, counted-yes, counted_no, cell-few}
-use borrow.Author.Rules.{rules}
+use Rattle.inspector_counters.specs.Counts.{Counted}
 use Rattle.inspector_counters.proofs.counts.round_counts.Given as goal
 
 abbrev pub invariant-loop-k : goal.invariant-loop-k

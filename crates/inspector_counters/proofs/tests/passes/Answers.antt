@@ -1,6 +1,5 @@
 use mathlib.Core.Path.{sym, ◌∙◌}
 use Rattle.inspector_counters.specs.Count.{passes_not, passes_by}
-use borrow.Author.Rules.{rules}
 use Rattle.inspector_counters.proofs.tests.passes.Goals as goal
 
 pub returns-then-by-author : goal.returns-then-by-author

@@ -1,5 +1,4 @@
 use Rattle.inspector_counters.specs.Tests.{version_is}
-use borrow.Author.Rules.{rules}
 use Rattle.inspector_counters.proofs.tests.version_at.Goals as goal
 
 pub returns : goal.returns

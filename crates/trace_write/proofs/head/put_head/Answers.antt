@@ -1,5 +1,5 @@
 use native.Mathlib.Omega.{arith}
-use Rattle.trace_write.specs.Puts.{head_unfit, head_long, head_short, head_done}
+use Rattle.trace_write.proofs.Puts.{head_unfit, head_long, head_short, head_done}
 use borrow.Author.Tests.{not-true, not-false}
 use Rattle.trace_write.proofs.head.put_head.Goals as goal
 

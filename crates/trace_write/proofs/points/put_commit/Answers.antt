@@ -1,5 +1,6 @@
 use native.Mathlib.Omega.{arith}
-use Rattle.trace_write.specs.Puts.{head_room, put_refused, put-done}
+use Rattle.trace_write.proofs.Puts.{put_refused, put-done}
+use Rattle.trace_write.proofs.Puts.{head_room}
 use Rattle.trace_write.specs.Points.{commit_said, commit-put}
 use Rattle.trace_write.proofs.points.put_commit.Goals as goal
 

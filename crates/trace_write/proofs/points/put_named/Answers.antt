@@ -1,5 +1,7 @@
 use native.Mathlib.Omega.{arith}
-use Rattle.trace_write.specs.Puts.{head_room, said_as, put_refused, put-done}
+use Rattle.trace_write.specs.Puts.{said_as}
+use Rattle.trace_write.proofs.Puts.{put_refused, put-done}
+use Rattle.trace_write.proofs.Puts.{head_room}
 use Rattle.trace_write.specs.Fields.{put_id, put-none}
 use Rattle.trace_write.proofs.points.put_named.Goals as goal
 

@@ -1,8 +1,10 @@
 use native.Mathlib.Omega.{arith}
 use mathlib.Core.Path.{sym, ◌∙◌}
 use borrow.Author.Tests.{not-true, not-false}
-use Rattle.trace_write.specs.Puts.{head_room, put_refused, put-done}
-use Rattle.trace_write.specs.Resolve.{told_small, info_small, resolve_said, resolve-lent, resolve_untold, resolve-put}
+use Rattle.trace_write.proofs.Puts.{put_refused, put-done}
+use Rattle.trace_write.proofs.Puts.{head_room}
+use Rattle.trace_write.specs.Resolve.{told_small, info_small}
+use Rattle.trace_write.proofs.ResolveSaid.{resolve_said, resolve-lent, resolve_untold, resolve-put}
 use Rattle.trace_write.proofs.resolve.put_resolve.Goals as goal
 
 pub returns-then-not-links_told : goal.returns-then-not-links_told

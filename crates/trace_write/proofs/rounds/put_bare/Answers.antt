@@ -1,4 +1,4 @@
-use Rattle.trace_write.specs.Puts.{put_refused, put-done}
+use Rattle.trace_write.proofs.Puts.{put_refused, put-done}
 use mathlib.Core.Path.{refl}
 use Rattle.trace_write.specs.Fields.{put-none}
 use Rattle.trace_write.proofs.rounds.put_bare.Goals as goal

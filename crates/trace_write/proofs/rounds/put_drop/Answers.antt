@@ -1,5 +1,6 @@
 use native.Mathlib.Omega.{arith}
-use Rattle.trace_write.specs.Puts.{head_room, put_refused, put-done}
+use Rattle.trace_write.proofs.Puts.{put_refused, put-done}
+use Rattle.trace_write.proofs.Puts.{head_room}
 use Rattle.trace_write.specs.Rounds.{drop_said}
 use Rattle.trace_write.specs.Fields.{put_last}
 use borrow.Author.Rules.{rules}

@@ -1,5 +1,6 @@
 use native.Mathlib.Omega.{arith}
-use Rattle.trace_write.specs.Puts.{head_room, put_refused, put-done}
+use Rattle.trace_write.proofs.Puts.{put_refused, put-done}
+use Rattle.trace_write.proofs.Puts.{head_room}
 use Rattle.trace_write.specs.Rounds.{start_said, start-put}
 use borrow.Author.Rules.{rules}
 use Rattle.trace_write.proofs.rounds.put_start.Goals as goal

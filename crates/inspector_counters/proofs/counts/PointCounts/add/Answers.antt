@@ -1,5 +1,4 @@
 use Rattle.inspector_counters.specs.Counts.{counting_is}
-use borrow.Author.Rules.{rules}
 use Rattle.inspector_counters.proofs.counts.PointCounts.add.Goals as goal
 
 pub returns : goal.returns

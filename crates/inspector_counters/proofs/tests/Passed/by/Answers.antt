@@ -1,7 +1,6 @@
 use mathlib.Core.Path.{ap, sym}
 use Rattle.inspector_counters.specs.Tests.{chosen}
 use Rattle.inspector_counters.specs.declared.tests.PointTest.{PointTest}
-use borrow.Author.Rules.{rules}
 use Rattle.inspector_counters.proofs.tests.Passed.by.Goals as goal
 
 pub returns-in-Found : goal.returns-in-Found

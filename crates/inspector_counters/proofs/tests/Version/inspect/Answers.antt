@@ -1,6 +1,5 @@
 use mathlib.Core.Path.{refl}
 use Rattle.inspector_counters.specs.Tests.{inspect_by, inspect_by_lem}
-use borrow.Author.Rules.{rules}
 use Rattle.inspector_counters.proofs.tests.Version.inspect.Goals as goal
 
 pub returns-in-Resolved : goal.returns-in-Resolved

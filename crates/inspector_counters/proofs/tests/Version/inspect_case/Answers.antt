@@ -1,5 +1,4 @@
 use Rattle.inspector_counters.specs.Tests.{case_valid, case_trans_invalid, case_invalid, case_ill_formed, case_not_found}
-use borrow.Author.Rules.{rules}
 use Rattle.inspector_counters.proofs.tests.Version.inspect_case.Goals as goal
 
 pub returns-in-Valid : goal.returns-in-Valid
