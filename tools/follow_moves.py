@@ -17,7 +17,7 @@ for f in files:
         gone = MAP.get(crate, {}).get(mod)
         if gone is None:
             return m.group(0)
-        to = {("skipped", "Proof"): "InRow", ("trace_write", "Resolve"): "ResolveSaid"}.get((crate, mod), mod)      # rattle has a module Proof of its own
+        to = {("skipped", "Proof"): "InRow", ("trace_write", "Resolve"): "ResolveSaid", ("inspector_counters", "Tests"): "TestsLaws", ("inspector_counters", "Counters"): "CountersLaws"}.get((crate, mod), mod)      # rattle has a module Proof of its own
         whole = m.group(0).replace(f"Rattle.{crate}.specs.{mod}", f"Rattle.{crate}.proofs.{to}")
         if gone == "*":
             return whole
@@ -31,7 +31,7 @@ for f in files:
         if a:
             out.append(f"{lead}Rattle.{crate}.specs.{mod}.{{{', '.join(a)}}}{tail}")
         if b:
-            out.append(f"{lead}Rattle.{crate}.proofs.{mod}.{{{', '.join(b)}}}{tail}")
+            out.append(f"{lead}Rattle.{crate}.proofs.{to}.{{{', '.join(b)}}}{tail}")
         return "\n".join(out)
 
     new = re.sub(r"^(\s*(?:pub )?(?:ghost )?use )Rattle\.(\w+)\.specs\.(\w+)((?:\.\w+)*)(?:\.\{([^}]*)\})?(.*)$", line, t, flags=re.M)

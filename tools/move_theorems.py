@@ -77,10 +77,12 @@ def parse(text):
             pend = []
         cur.lines.append(l)
         if cur.kinds[0] == "module":
-            mm = re.match(r"^  ((?:(?:abbrev|pub|unfoldable|data|record)\s+)*)([^\s:(){}]+)(?:\s[^=\n]*?)?\s:(?:\s|$)", l)
-            if mm and not l.startswith("   "):
-                cur.names.append(mm.group(2))
-                cur.kinds.append("def" if re.search(r"abbrev|unfoldable|data|record", mm.group(1)) else "plain")
+            mm = re.match(r"^(\s+)((?:(?:abbrev|pub|unfoldable|data|record)\s+)*)([^\s:(){}]+)(?:\s[^=\n]*?)?\s:(?:\s|$)", l)
+            words = mm.group(2).split() if mm else []
+            # an abbreviation of the section alone is no name of the file
+            if mm and ("pub" in words or (len(mm.group(1)) == 2 and words[:1] != ["abbrev"])) and mm.group(3) != "module":
+                cur.names.append(mm.group(3))
+                cur.kinds.append("def" if set(words) & {"abbrev", "unfoldable", "data", "record"} else "plain")
     return head, blocks
 
 

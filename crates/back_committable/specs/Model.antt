@@ -74,37 +74,6 @@ span_by s ks os r x y low high a b c d = λ i. record {
   high = d i;
 }
 
-module _ (s : State) (ks cs os : List ℕ) (m : List Bool) (x : HistorySpan) (r : ℕ) where
-  -- at genesis
-  pub code_genesis : r ≤ s.genesis.0 → failed 22 ≡ code_of s ks cs os m x r
-  unfolding code_of
-  code_genesis l = rw (le-leb r s.genesis.0 l) refl
-
-  module _ (l : s.genesis.0 < r) (f : Check) (e : f ≡ found_fault ks cs os m x.low x.high) where
-    -- a point is refused
-    pub code_fault : (w : Refusal) → f ≡ Failed w → Failed w ≡ code_of s ks cs os m x r
-    unfolding code_of or_next
-    code_fault w h = rw (lt-leb r s.genesis.0 l, sym e ∙ h) refl
-
-    -- none is
-    module _ (z : f ≡ Passed) (a : Bool) (h : a ≡ missing s.full_history_bottom.0 x.limit.0 s.bottom.0) where
-      -- rounds are missing
-      pub code_missing : a ≡ true → failed 17 ≡ code_of s ks cs os m x r
-      unfolding code_of or_next
-      code_missing t = rw (lt-leb r s.genesis.0 l, sym e ∙ z, ← h, t) refl
-
-      -- none are
-      module _ (n : a ≡ false) (b : Bool) (g : b ≡ any (x.high - x.low) (uncertified_at cs os m x.low)) where
-        -- a point has the height 0
-        pub code_flat : b ≡ true → failed 18 ≡ code_of s ks cs os m x r
-        unfolding code_of or_next
-        code_flat t = rw (lt-leb r s.genesis.0 l, sym e ∙ z, ← h, n, ← g, t) refl
-
-        -- none has
-        pub code_none : b ≡ false → Passed ≡ code_of s ks cs os m x r
-        unfolding code_of or_next
-        code_none t = rw (lt-leb r s.genesis.0 l, sym e ∙ z, ← h, n, ← g, t) refl
-
 -- the history
 pub gathered_by : (s : State) (ks ls cs os : List ℕ) (a : ℕ) (r : ℕ) (x : HistorySpan) (m : List Bool) (c : ℕ) → r ≡ round_at ks a → x ≡ history_span s ks os r → m ≡ marks s.bottom.0 ks ls cs os x.low x.high a
     → c ≡ length (those (x.high - x.low) (uncommitted_at cs os m x.low)) → record { span = x; count = c; marks = m } ≡ gathered_of s ks ls cs os a

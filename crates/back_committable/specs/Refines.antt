@@ -18,37 +18,15 @@ use Rattle.back_history.specs.RefinesNeeded.{used_round}
 use Rattle.back_history.specs.Refines.{history-count, flat_is, missing_is}
 use Rattle.back_committable.specs.declared.anchor.Tested.{Tested}
 use Rattle.back_committable.specs.Model.{history_span, code_of, gathered_in, gathered_of, tested_in, tested_of}
-use Rattle.back_committable.specs.RefinesPoints.{faults_is}
 
 -- one test
-refuse_is : {A : Type 0} (b : Bool) (k : ℕ) (o p : Out A) (c : Check) → o ≡ unless_failed c p → refuse b k o ≡ unless_failed (cond b (failed k) c) p
+pub refuse_is : {A : Type 0} (b : Bool) (k : ℕ) (o p : Out A) (c : Check) → o ≡ unless_failed c p → refuse b k o ≡ unless_failed (cond b (failed k) c) p
 unfolding refuse unless_failed refusal_of
 refuse_is true k o p c h = refl
 refuse_is false k o p c h = h
 
 -- the points, then the rest
-then_is : {A B : Type 0} (c d : Check) (a : A) (o p : Out B) → o ≡ unless_failed d p → then (unless_failed c (good a)) (λ x. o) ≡ unless_failed (or_next c d) p
+pub then_is : {A B : Type 0} (c d : Check) (a : A) (o p : Out B) → o ≡ unless_failed d p → then (unless_failed c (good a)) (λ x. o) ≡ unless_failed (or_next c d) p
 unfolding or_next unless_failed
 then_is Passed d a o p h = h
 then_is (Failed r) d a o p h = refl
-
-module _ (s : State) (ks ls cs os : List ℕ) (fk : Fit ks) (fl : Fit ls) (t : Started s ks ls cs os) (a : ℕ) (used : Used os s.count a) where
-  -- the store
-  abbrev v : Store
-  v = view s ks ls cs os
-
-  -- the tests of an anchor
-  pub tested_is : unless_failed (tested_of s ks ls cs os a).check (good a) ≡ tested v a
-  unfolding tested_of tested_in gathered_of gathered_in history_span code_of tested unless_failed view conf_of
-  tested_is = sym (
-      (λ i. refuse (leb (used_round s ks ls cs os fk fl t a used i) s.genesis.0) 22 (then (faults_is s ks ls cs os fk fl t a used i) (λ x. refuse (missing_is s ks ls cs os fk fl t a used i) 17 (refuse (flat_is s ks ls cs os fk fl t a used i) 18 (good a)))))
-      ∙ refuse_is _ 22 _ _ _ (then_is _ _ 0 _ _ (refuse_is _ 17 _ _ _ (refuse_is _ 18 _ (good a) Passed refl))))
-
-  -- the same of what the code returns
-  pub outcome_by : (r : Tested) → r ≡ tested_of s ks ls cs os a → unless_failed r.check (good a) ≡ tested v a
-  outcome_by r e = ap (λ (y : Tested). unless_failed y.check (good a)) e ∙ tested_is
-
-  -- the number of points in its history
-  pub tested-count : (tested_of s ks ls cs os a).count ≡ length (history v a)
-  unfolding tested_of tested_in gathered_of gathered_in history_span
-  tested-count = sym (history-count s ks ls cs os fk fl t a used)

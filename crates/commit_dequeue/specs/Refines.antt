@@ -36,7 +36,7 @@ use Rattle.back_history.specs.RefinesNeeded.{named_used, low_high}
 use Rattle.back_history.specs.Refines.{well, in_elim, in_intro}
 use Rattle.back_committable.specs.declared.anchor.Tested as code
 use Rattle.back_committable.specs.Model.{history_span, gathered_in, gathered_of, tested_in, tested_of}
-use Rattle.back_committable.specs.Refines.{tested_is, tested-count}
+use Rattle.back_committable.proofs.Refines.{tested_is, tested-count}
 use Rattle.back_order.specs.Drawn.{drawn_by}
 use Rattle.back_order.specs.Refines.{counts_are, rest_is}
 use Rattle.answer_bytes.specs.Bytes.{place_id}

@@ -36,7 +36,7 @@ use Rattle.back_order.specs.Refines.{counts_are}
 use Rattle.back_committable.specs.declared.anchor.Gathered.{Gathered}
 use Rattle.back_committable.specs.declared.anchor.Tested.{Tested}
 use Rattle.back_committable.specs.Model.{history_span, gathered_in, gathered_of, tested_in, tested_of, gathered_span, span_asked, span_range}
-use Rattle.back_committable.specs.Refines.{tested-count}
+use Rattle.back_committable.proofs.Refines.{tested-count}
 use Rattle.answer_bytes.specs.Bytes.{place_id}
 use Rattle.output_record.specs.Marks.{marks_all, marks-yes, marks_no}
 

@@ -21,7 +21,7 @@ use Rattle.back_history.specs.Supposing.{supposing, supposing-none}
 use Rattle.back_committable.specs.declared.anchor.Gathered.{Gathered}
 use Rattle.back_committable.specs.declared.anchor.Tested as code
 use Rattle.back_committable.specs.Model.{history_span, code_of, gathered_in, gathered_of, tested_in, tested_of}
-use Rattle.back_committable.specs.Refines.{tested_is}
+use Rattle.back_committable.proofs.Refines.{tested_is}
 use Rattle.output_record.specs.Marks.{marks_all}
 use Rattle.output_record.specs.ModelState.{after_state}
 use Rattle.commit_dequeue.specs.Refines.{held, anchor_used, marked-view, marked-counts}

@@ -119,7 +119,7 @@ test_of test.IllFormed = is_ill_formed
 test_of test.Trusted = is_trusted
 
 -- the tests by the status
-abbrev by_status : ℕ → Bool → Bool → Bool → Passed
+abbrev pub by_status : ℕ → Bool → Bool → Bool → Passed
 by_status st g p m = record {
   found = ltb 0 st && ltb st 5;
   valid = eqb st 1;
@@ -130,23 +130,12 @@ by_status st g p m = record {
   trusted = eqb st 1 || ((eqb st 2 || eqb st 3) && g);
 }
 
--- they are those by the look-up
-status_case : (st q : ℕ) (g p m : Bool) → st ≤ 5 → inspect_by (look_as (case_of st) q) g p m ≡ by_status st g p m
-unfolding inspect_by inspect_case case_of look_as
-status_case zero q g p m l = refl
-status_case (suc zero) q g p m l = refl
-status_case (suc (suc zero)) q g p m l = refl
-status_case (suc (suc (suc zero))) q g p m l = refl
-status_case (suc (suc (suc (suc zero)))) q g p m l = refl
-status_case (suc (suc (suc (suc (suc zero))))) q g p m l = refl
-status_case (suc (suc (suc (suc (suc (suc st)))))) q g p m l = absurd (omega (arith, l))
-
 -- what the tests read of a point of the store
-abbrev passed_in : Store → ℕ → Passed
+abbrev pub passed_in : Store → ℕ → Passed
 passed_in v q = by_status (store.status_at v q) (certified v q) (proved v q) (v.pt q).resolution.cause
 
 -- they test that
-test-passed : (w : PointTest) (v : Store) (q : ℕ) → (v.pt q).named ≡ true → test_of w v q ≡ chosen w (passed_in v q)
+pub test-passed : (w : PointTest) (v : Store) (q : ℕ) → (v.pt q).named ≡ true → test_of w v q ≡ chosen w (passed_in v q)
 unfolding test_of chosen is_valid is_trans_invalid is_invalid is_ill_formed is_trusted resolved
 test-passed test.Found v q h = found_at v q ∙ rw h refl
 test-passed test.Valid v q h = refl
@@ -157,41 +146,5 @@ test-passed test.IllFormed v q h = refl
 test-passed test.Trusted v q h = refl
 
 -- an unresolved point fails all of them, so its cause doesn't matter
-cause_free : (st : ℕ) (g p m : Bool) → by_status st g p (cond (eqb st 0) false m) ≡ by_status st g p m
+pub cause_free : (st : ℕ) (g p m : Bool) → by_status st g p (cond (eqb st 0) false m) ≡ by_status st g p m
 cause_free st g p m = same_or st 0 (λ e. rw e refl) (λ d. rw (ne_eqb st 0 d) refl)
-
-module _ (s : State) (ks ls cs os : List ℕ) (fk : Fit ks) (fl : Fit ls) (t : Started s ks ls cs os) (q : ℕ) (u : Used os s.count q) where
-  -- the store
-  abbrev v : Store
-  v = view s ks ls cs os
-
-  -- its point is that of its words
-  point : v.pt q ≡ point_at ks ls cs q
-  point = used_point s ks ls cs os fk fl t q u
-
-  -- what is read of it
-  passed_used : passed_in v q ≡ by_status (status_at ks q) (version_at ks cs q).certified (version_at ks cs q).proved (cond (eqb (status_at ks q) 0) false (bit_of 4 (marks_at ks q)))
-  unfolding version_at has_proof certified proved point_at resolution_at
-  passed_used =
-      let resolution : store.status_at v q ≡ status_at ks q = ap (λ (p : Point). p.resolution.status) point ∙ same_or (status_at ks q) 0 (λ e. rw (eq-eqb (status_at ks q) 0 e) (sym e)) (λ d. rw (ne_eqb (status_at ks q) 0 d) refl) in
-      let cause : (v.pt q).resolution.cause ≡ cond (eqb (status_at ks q) 0) false (bit_of 4 (marks_at ks q)) = ap (λ (p : Point). p.resolution.cause) point ∙ same_or (status_at ks q) 0 (λ e. rw (eq-eqb (status_at ks q) 0 e) refl) (λ d. rw (ne_eqb (status_at ks q) 0 d) refl) in
-      let high : height v q ≡ height_of (get_or cs q 0) = sym (used_height s ks ls cs os fk fl t q u) in
-      let top : (v.pt q).flags.top ≡ (flags_of (get_or cs q 0)).top = ap (λ (p : Point). p.flags.top) point in
-      λ i. by_status (resolution i) (ltb 0 (high i)) (ltb 0 (high i) && top i) (cause i)
-
-  -- the tests of its words are those of 01
-  pub test_is : (w : PointTest) → chosen w (inspected (version_at ks cs q)) ≡ test_of w v q
-  unfolding inspected version_at look_place
-  test_is w =
-      let g = (version_at ks cs q).certified in
-      let p = (version_at ks cs q).proved in
-      let m = bit_of 4 (marks_at ks q) in
-      ap (chosen w) (status_case (status_at ks q) q g p m (t.facts.words q u).named.status ∙ (sym (cause_free (status_at ks q) g p m) ∙ sym passed_used)) ∙ sym (test-passed w v q (used_named s ks ls cs os fk fl t q u))
-
-  -- and so for one author
-  pub passes_is : (a : ℕ) (w : PointTest) → passes ks cs a w q ≡ of (test_of w v) v a q
-  unfolding passes point_at
-  passes_is a w = (λ i. eqb (author i) a && test_is w i)
-    where
-      author : author_at ks q ≡ (v.pt q).id.author
-      author = ap (λ (p : Point). p.id.author) (sym point)

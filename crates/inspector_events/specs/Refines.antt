@@ -21,7 +21,7 @@ use Rattle.back_history.specs.RefinesNeeded.{used_point}
 use Rattle.back_history.specs.Refines.{picked, picked_elim}
 use Rattle.inspector_counters.specs.Places.{low_of, high_of, high_le}
 use Rattle.inspector_counters.specs.Tests.{passes, test_of}
-use Rattle.inspector_counters.specs.Count.{keep_is}
+use Rattle.inspector_counters.proofs.Count.{keep_is}
 use Rattle.inspector_counters.specs.declared.tests.PointTest.{PointTest}
 use Rattle.inspector_counters.specs.declared.tests.PointTest.TheVariants.{Found}
 use Rattle.inspector_events.specs.Told.{one_if}

@@ -29,7 +29,7 @@ use Rattle.models.specs.Ids.{Placed}
 use Rattle.back_history.specs.Model.{Range}
 use Rattle.back_history.specs.Refines.{well}
 use Rattle.inspector_counters.specs.Places.{span-few}
-use Rattle.inspector_counters.specs.Count.{span_ready, round_ready}
+use Rattle.inspector_counters.proofs.Count.{span_ready, round_ready}
 use Rattle.dag_round_order.specs.Span.{span_of}
 use Rattle.dag_round_order.specs.declared.span.Span.{Span}
 use Rattle.inspector_references.specs.Trusted.{Listed, trusted_in, trusted_is}

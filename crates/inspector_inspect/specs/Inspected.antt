@@ -26,7 +26,8 @@ use Rattle.tables_test.specs.Refines.{Started}
 use Rattle.back_history.specs.Refines.{well}
 use Rattle.dag_round_order.specs.Span.{span_of}
 use Rattle.inspector_counters.specs.Counts.{no_counts, Counted}
-use Rattle.inspector_counters.specs.Counters.{assembled, leads, peer-counted, peer-few}
+use Rattle.inspector_counters.specs.Counters.{assembled, leads}
+use Rattle.inspector_counters.proofs.CountersLaws.{peer-counted, peer-few}
 use Rattle.inspector_counters.specs.declared.counts.PointCounts.{PointCounts}
 use Rattle.dag_round_order.specs.declared.span.Span.{Span}
 use Rattle.inspector_rows.specs.Rows.{entries-length}

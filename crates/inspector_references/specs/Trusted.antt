@@ -18,7 +18,8 @@ use Rattle.tables_test.specs.Refines.{Started}
 use Rattle.back_history.specs.Refines.{one, picked}
 use Rattle.inspector_counters.specs.Places.{low_of, high_of, places_in_lem, round_used}
 use Rattle.inspector_counters.specs.Count.{keep-between, picked_same}
-use Rattle.inspector_counters.specs.Tests.{version_at, inspected, chosen, test_of, test_is}
+use Rattle.inspector_counters.specs.Tests.{version_at, inspected, chosen, test_of}
+use Rattle.inspector_counters.proofs.TestsLaws.{test_is}
 use Rattle.inspector_counters.specs.declared.tests.PointTest.TheVariants as test
 use Rattle.inspector_counters.specs.declared.tests.Version.{Version}
 use Rattle.inspector_counters.specs.declared.tests.Passed.{Passed}

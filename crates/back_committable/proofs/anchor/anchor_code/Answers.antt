@@ -1,6 +1,6 @@
 use Rattle.back_history.specs.Supposing.{supposing}
-use Rattle.back_committable.specs.ModelPoints.{found_by_lem}
-use Rattle.back_committable.specs.Model.{code_genesis, code_fault, code_missing, code_flat, code_none}
+use Rattle.back_committable.proofs.ModelPoints.{found_by_lem}
+use Rattle.back_committable.proofs.Model.{code_genesis, code_fault, code_missing, code_flat, code_none}
 use Rattle.back_committable.proofs.anchor.anchor_code.Goals as goal
 
 pub returns-then-round-genesis : goal.returns-then-round-genesis

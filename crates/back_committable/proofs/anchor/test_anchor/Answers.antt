@@ -4,7 +4,7 @@ use Prim.Native.Nat.{ℕ}
 use Rattle.models.specs.Digest.{Fit}
 use Rattle.back_history.specs.Supposing.{supposing-none}
 use Rattle.back_committable.specs.Model.{tested_of}
-use Rattle.back_committable.specs.Refines.{outcome_by}
+use Rattle.back_committable.proofs.Refines.{outcome_by}
 use Rattle.back_committable.proofs.anchor.test_anchor.Goals as goal
 
 pub returns : goal.returns

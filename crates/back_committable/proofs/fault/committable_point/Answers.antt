@@ -1,5 +1,6 @@
 use mathlib.Core.Path.{refl}
-use Rattle.back_committable.specs.ModelPoints.{committable_of, fault_of, fault_none, fault_by, trans_proved, trans_unproved}
+use Rattle.back_committable.specs.ModelPoints.{committable_of, fault_of, fault_none, fault_by}
+use Rattle.back_committable.proofs.ModelPoints.{trans_proved, trans_unproved}
 use Rattle.back_committable.proofs.fault.committable_point.Goals as goal
 
 pub returns-then-has_proof : goal.returns-then-has_proof

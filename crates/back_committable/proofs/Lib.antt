@@ -1,0 +1,4 @@
+pub mod ModelPoints
+pub mod Model
+pub mod RefinesPoints
+pub mod Refines

@@ -1,0 +1,3 @@
+pub mod TestsLaws
+pub mod Count
+pub mod CountersLaws
