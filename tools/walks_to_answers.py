@@ -338,6 +338,13 @@ def convert(path):
                     body = lets + " let told = " + tail.strip() + " in record {" + "; ".join(f"{c} = told.{k}" for k, c in enumerate(clauses)) + "}"
             args = re.sub(r" κs\b", "", args)
             out += cc + [f"pub {new} : goal.{new}"] + head + [f"{new}{args} ={body}", ""]
+        # a fact of the walk's beginning, by its path
+        text = "\n".join(out)
+        m = re.search(r"(?:--[^\n]*\n)?(\w+) : \(b : tie\.Start\)[^\n]*\n\1 b = sym \(length-map [^\n]*?\) ∙ b\.well[-_]formed\.([\d.]+)\n\n?", text)
+        if m:
+            text = text.replace(m.group(0), "")
+            text = re.sub(rf"\(?\b{m.group(1)} c\b(?:(?:\.before)*)?\)?", f"c.well_formed.{m.group(2)}", text)
+            out = text.split("\n")
         if turn.ways:
             out.insert(len(uses) + 1, f"use {module}.Goals." + "{" + ", ".join(dict.fromkeys(turn.ways)) + "}")
         open(os.path.join(base, "Answers.antt"), "w", encoding="utf-8").write("\n".join(out).rstrip("\n") + "\n")

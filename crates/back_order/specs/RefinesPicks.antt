@@ -7,6 +7,7 @@ use Rattle.laws.specs.Test.{same_or}
 use Rattle.spec.specs.Store.{Store}
 use Rattle.spec.specs.History.{linked_in}
 use Rattle.spec.specs.Picks as spec
+use Rattle.spec.proofs.Picks as picks
 use Rattle.spec.specs.Picks.{pick}
 use Rattle.models.specs.Digest.{Fit}
 use Rattle.models.specs.Tables.{round_at, place_at, Used}
@@ -63,7 +64,7 @@ module _ (s : State) (ks ls cs os : List ℕ) (fk : Fit ks) (fl : Fit ls) (t : S
 
     -- one is left
     pick-found : next < high → pick v a r (take k all) ≡ some (place_at os next)
-    pick-found h = spec.pick_next v (well s ks ls cs os fk fl t) a (used_named s ks ls cs os fk fl t a used) r k more ∙ ap some is
+    pick-found h = picks.pick_next v (well s ks ls cs os fk fl t) a (used_named s ks ls cs os fk fl t a used) r k more ∙ ap some is
       where
         rest : List ℕ
         rest = left_by os m high (next + 1)
@@ -79,7 +80,7 @@ module _ (s : State) (ks ls cs os : List ℕ) (fk : Fit ks) (fl : Fit ls) (t : S
 
     -- none is
     pick-ended : next ≡ high → pick v a r (take k all) ≡ none
-    pick-ended e = ap (pick v a r) (take_all k all few) ∙ spec.pick_end v a r
+    pick-ended e = ap (pick v a r) (take_all k all few) ∙ picks.pick_end v a r
       where
         few : length all ≤ k
         few = omega (arith, counted, ap length (parts ∙ (ap (λ x. done ++ x) ((pick_end os m high p to).0 e) ∙ append-nil done)))

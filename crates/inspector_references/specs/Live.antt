@@ -1,16 +1,15 @@
 -- A link into a retained round is known by its target word (01: 'Forms of the Rust', links as 12 tests them).
 use Prim.Native.Nat.{ℕ, zero, suc, ◌+◌, ◌*◌, ◌/◌, ◌%◌, ◌<◌, ◌≤◌}
-use Rattle.std.specs.Prelude.{◌≡◌, refl, List, Bool, true, false, ◌&&◌, eqb, ltb}
+use Rattle.std.specs.Prelude.{◌≡◌, List, true, eqb, ltb}
 use Rattle.std.proofs.Common.{sym, ap, ◌∙◌, eqb-true, eq-eqb, ltb-true, lt-ltb}
 use Rattle.std.proofs.Math.Path.{subst}
 use native.Mathlib.Omega.{arith}
 use Rattle.laws.specs.Test.{both, and_l, and_r, same_test}
 use Rattle.laws.specs.Scan.{any_intro, any_elim}
 use Rattle.models.specs.Digest.{Fit, digest_at}
-use Rattle.models.specs.Tables.{round_at, author_at, digest_of, status_at, Used, target_at, dist}
+use Rattle.models.specs.Tables.{round_at, author_at, digest_of, status_at, Used, target_at}
 use Rattle.models.specs.Live.{Live}
 use Rattle.tables_links.specs.Links.{dig_at}
-use Rattle.tables_links.specs.Named.{Names, Found}
 use Rattle.commit_state.specs.declared.state.State.{State}
 use Rattle.tables_test.specs.Edges.{one_place}
 use Rattle.tables_test.specs.Whole.{low_of_lem}

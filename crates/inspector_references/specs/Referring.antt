@@ -1,18 +1,17 @@
 -- Which authors of a round's trusted points refer to the previous point of a row (01: inspector.rs).
 -- A row has 11 words: author, digest (four), previous, previous digest (four), the peers that signed the previous point and did not include
 -- it. Previous is 0 without a previous point. Of a row made from a place it is the target word of the link to that point.
-use Prim.Native.Nat.{ℕ, zero, suc, ◌+◌, ◌-◌, ◌*◌, ◌^◌, ◌<◌, ◌≤◌}
-use Rattle.std.specs.Prelude.{◌≡◌, true, false, ◌&&◌, cond, ltb, length, get_or, take}
+use Prim.Native.Nat.{ℕ, ◌+◌, ◌*◌, ◌^◌, ◌<◌, ◌≤◌}
+use Rattle.std.specs.Prelude.{◌≡◌, true, false, ◌&&◌, cond, length, get_or}
 use Rattle.std.proofs.Math.Path.{refl, sym, ap, subst}
-use Rattle.std.proofs.Common.{◌∙◌, arith, ltb-true}
+use Rattle.std.proofs.Common.{◌∙◌, arith}
 use mathlib.Core.List.{List, Memᴰ}
 use Rattle.std.proofs.Math.Bool.{Bool}
 use Rattle.std.proofs.Math.Dec.{eqb}
-use Rattle.std.specs.Int.Bits.{bit_or}
-use Rattle.laws.specs.Test.{by_test, clash, and_l, and_r, same_or}
-use Rattle.laws.specs.Scan.{any, any_same}
+use Rattle.laws.specs.Test.{by_test, clash, same_or}
+use Rattle.laws.specs.Scan.{any_same}
 use Rattle.laws.specs.Lists.{has, has_same, keep, keep_in}
-use Rattle.laws.specs.Peers.{member, with_peer}
+use Rattle.laws.specs.Peers.{member}
 use Rattle.spec.specs.Ids.{Ref}
 use Rattle.spec.specs.Store as store
 use Rattle.spec.specs.Store.{Store, Point}

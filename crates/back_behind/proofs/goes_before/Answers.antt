@@ -1,7 +1,6 @@
 use Rattle.back_behind.specs.Model.{goes_none, goes_some}
 use mathlib.Core.Path.{refl, ◌∙◌}
 use lib.Dec.{eqb}
-use borrow.Author.Rules.{rules}
 use Rattle.back_behind.proofs.goes_before.Goals as goal
 
 pub returns-then-noted-eq0 : goal.returns-then-noted-eq0

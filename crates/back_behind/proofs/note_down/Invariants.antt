@@ -1,10 +1,7 @@
 use Prim.Native.Nat.{◌≤◌, ◌-◌}
-use mathlib.Core.Path.{◌≡◌, sym, subst}
-use native.Mathlib.Omega.{arith}
+use mathlib.Core.Path.{◌≡◌}
 use lib.ListN.{length}
-use Rattle.back_history.specs.Down.{down_none, down_end}
-use Rattle.back_behind.specs.Model.{Sourced, note_down, down_hit, down_miss, links_sourced}
-use borrow.Author.Rules.{rules}
+use Rattle.back_behind.specs.Model.{Sourced, note_down}
 use Rattle.back_behind.proofs.note_down.Given as goal
 
 abbrev pub invariant-loop-p : goal.invariant-loop-p

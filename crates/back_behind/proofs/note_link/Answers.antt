@@ -1,5 +1,4 @@
 use Rattle.back_behind.specs.Model.{note_none, note_out, note_yes, note_no}
-use borrow.Author.Rules.{rules}
 use Rattle.back_behind.proofs.note_link.Goals as goal
 
 pub returns-then-word-eq0 : goal.returns-then-word-eq0

@@ -1,9 +1,6 @@
 use Prim.Native.Nat.{◌≤◌, ◌-◌}
-use mathlib.Core.Path.{◌≡◌, refl, sym, subst}
-use native.Mathlib.Omega.{arith}
-use lib.ListN.{length}
-use Rattle.back_behind.specs.Model.{Sourced, note_links, note_more, note_end, links_sourced}
-use borrow.Author.Rules.{rules}
+use mathlib.Core.Path.{◌≡◌}
+use Rattle.back_behind.specs.Model.{note_links}
 use Rattle.back_behind.proofs.note_links.Given as goal
 
 abbrev pub invariant-loop-k : goal.invariant-loop-k

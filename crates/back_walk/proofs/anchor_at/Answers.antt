@@ -1,5 +1,4 @@
 use native.Mathlib.Omega.{arith}
-use borrow.Author.Rules.{rules}
 use Rattle.back_walk.specs.Model.{placed, topped, place-fits, needed_at_lem, anchor_no, anchor_is}
 use Rattle.back_walk.proofs.anchor_at.Goals as goal
 

@@ -1,6 +1,5 @@
 use mathlib.Core.Path.{refl}
 use Rattle.back_walk.specs.Model.{judge_of, judge_by}
-use borrow.Author.Rules.{rules}
 use Rattle.back_walk.proofs.judge.Goals as goal
 
 pub returns-in-Valid : goal.returns-in-Valid

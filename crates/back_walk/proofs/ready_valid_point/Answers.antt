@@ -2,7 +2,6 @@ use mathlib.Core.Path.{refl}
 use native.Mathlib.Omega.{arith}
 use Rattle.dag_round_points.specs.Point.{searchable}
 use Rattle.back_walk.specs.Model.{needed_at, needed_of, needed_by, needed-inside, needed_judged}
-use borrow.Author.Rules.{rules}
 use Rattle.back_walk.proofs.ready_valid_point.Goals as goal
 
 pub look_up-look-requires : goal.look_up-look-requires

@@ -1,4 +1,3 @@
-use borrow.Author.Rules.{rules}
 use Rattle.commit_state.specs.View.{record_of}
 use Rattle.back_walk.specs.Model.{step-pass, step_above, step_used, step-bad, step_low, step_on, proof_used}
 use Rattle.back_walk.proofs.visit.Goals as goal

@@ -19,7 +19,7 @@ cut-k-requires c =
     let fk : Fit a.keys.now = λ p. (c.slice_known-1.given p).fits in
     let fl : Fit a.links.now = λ p. (c.slice_known-2-1.given p).fits in
     let g = given a.s a.keys.now a.links.now a.certs.now a.order.now fk fl _ c.counts_as_started.ensures c.if-not-counts_as_started.false-raw in
-    record { keys_len = (g.keys, g.room, g.inside); sorted = g.sorted }
+     record {keys_len = (g.keys, g.room, g.inside); sorted = g.sorted}
 
 pub drain_upto-requires : goal.drain_upto-requires
 drain_upto-requires c =
@@ -28,7 +28,7 @@ drain_upto-requires c =
     let fl : Fit a.links.now = λ p. (c.slice_known-2-1.given p).fits in
     let g = given a.s a.keys.now a.links.now a.certs.now a.order.now fk fl _ c.counts_as_started.ensures c.if-not-counts_as_started.false-raw in
     let l = below-le a.keys.now a.order.now a.s.count c.max-lowest.result.0 in
-    record { k_le_n = (omega (arith, l, c.cut-k.ensures), g.room, g.keys, g.links, g.certs); inside = g.inside }
+     record {k_le_n = (omega (arith, l, c.cut-k.ensures), g.room, g.keys, g.links, g.certs); inside = g.inside}
 
 pub overflow_sub-n : goal.overflow_sub-n
 overflow_sub-n c =
@@ -48,4 +48,4 @@ pub returns : goal.returns
 returns c =
     let a = c.args in
     let k = c.drain_upto.ensures in
-    drop_did _ _ (λ p. (c.slice_known-1.given p).fits) (λ p. (c.slice_known-2-1.given p).fits) _ (left-done _ _ _ (tested_by (counts_as_started (view a.s a.keys.now a.links.now a.certs.now a.order.now)) _ _ c.counts_as_started.ensures c.if-not-counts_as_started.false-raw _ refl) _ (dropped_is _ _ _ _ _ c.min-actual.ensures c.max-lowest.ensures c.cut-k.ensures _ c.drop_state-next.ensures k.keys k.links.0 k.links.1.0 k.links.1.1))
+    drop_did _ _ (λ p. (c.slice_known-1.given p).fits) (λ p. (c.slice_known-2-1.given p).fits) _ (left-done _ _ _ (tested_by (counts_as_started (view a.s a.keys.now a.links.now a.certs.now a.order.now)) _ _ c.counts_as_started.ensures c.if-not-counts_as_started.false-raw _ refl) _ (dropped_is _ _ _ _ _ c.min-actual.ensures c.max-lowest.ensures c.cut-k.ensures _ c.drop_state-next.ensures k.keys k.links k.certs k.order))

@@ -1,10 +1,7 @@
-use Prim.Native.Nat.{ℕ, ◌-◌, ◌^◌, ◌≤◌}
-use mathlib.Core.Path.{◌≡◌, ◌∙◌, ap}
-use mathlib.Core.Logic.{⊎_elim}
-use lib.ListN.{get_or}
-use Rattle.models.specs.Tables.{author_at}
+use Prim.Native.Nat.{ℕ, ◌^◌}
+use mathlib.Core.Path.{◌∙◌, ap}
 use Rattle.laws.specs.Peers.{with_peer}
-use Rattle.inspector_references.specs.Sets.{union_of, union_none, union_yes, union_no, union_end}
+use Rattle.inspector_references.specs.Sets.{union_none, union_yes, union_no, union_end}
 use Rattle.inspector_references.specs.Referring.{refers_row, referring_by}
 use borrow.Author.Rules.{rules}
 use Rattle.inspector_references.proofs.referring.Goals as goal

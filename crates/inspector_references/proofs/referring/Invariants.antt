@@ -1,12 +1,9 @@
-use Prim.Native.Nat.{ℕ, ◌-◌, ◌^◌, ◌≤◌}
-use mathlib.Core.Path.{◌≡◌, ◌∙◌, ap}
-use mathlib.Core.Logic.{⊎_elim}
+use Prim.Native.Nat.{◌-◌, ◌^◌, ◌≤◌}
+use mathlib.Core.Path.{◌≡◌}
 use lib.ListN.{get_or}
 use Rattle.models.specs.Tables.{author_at}
-use Rattle.laws.specs.Peers.{with_peer}
-use Rattle.inspector_references.specs.Sets.{union_of, union_none, union_yes, union_no, union_end}
-use Rattle.inspector_references.specs.Referring.{refers_row, referring_by}
-use borrow.Author.Rules.{rules}
+use Rattle.inspector_references.specs.Sets.{union_of}
+use Rattle.inspector_references.specs.Referring.{refers_row}
 use Rattle.inspector_references.proofs.referring.Given as goal
 
 abbrev pub invariant-loop-j : goal.invariant-loop-j

@@ -1,11 +1,8 @@
-use Prim.Native.Nat.{◌+◌, ◌-◌, ◌≤◌}
-use mathlib.Core.Path.{◌≡◌, refl, sym, ◌∙◌}
-use mathlib.Core.Bool.{false}
+use mathlib.Core.Path.{refl, sym, ◌∙◌}
 use Rattle.laws.specs.Scan.{any, any_intro}
-use Rattle.models.specs.Digest.{digest_at}
 use borrow.Author.Rules.{rules}
 use Rattle.info_checks.specs.Dangling.{none_more, none_end}
-use Rattle.inspector_references.specs.Refs.{refers_by, refers_at}
+use Rattle.inspector_references.specs.Refs.{refers_at}
 use Rattle.inspector_references.proofs.refers.Goals as goal
 
 pub loop-k-init : goal.loop-k-init

@@ -1,11 +1,9 @@
 use Prim.Native.Nat.{◌+◌, ◌-◌, ◌≤◌}
-use mathlib.Core.Path.{◌≡◌, refl, sym, ◌∙◌}
+use mathlib.Core.Path.{◌≡◌}
 use mathlib.Core.Bool.{false}
-use Rattle.laws.specs.Scan.{any, any_intro}
+use Rattle.laws.specs.Scan.{any}
 use Rattle.models.specs.Digest.{digest_at}
-use borrow.Author.Rules.{rules}
-use Rattle.info_checks.specs.Dangling.{none_more, none_end}
-use Rattle.inspector_references.specs.Refs.{refers_by, refers_at}
+use Rattle.inspector_references.specs.Refs.{refers_by}
 use Rattle.inspector_references.proofs.refers.Given as goal
 
 abbrev pub invariant-loop-k : goal.invariant-loop-k

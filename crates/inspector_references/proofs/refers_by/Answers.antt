@@ -1,6 +1,5 @@
 use mathlib.Core.Path.{sym, ◌∙◌}
 use Rattle.inspector_references.specs.Refs.{refers-none, refers_there}
-use borrow.Author.Rules.{rules}
 use Rattle.inspector_references.proofs.refers_by.Goals as goal
 
 pub returns-then-target-eq0 : goal.returns-then-target-eq0

@@ -1,5 +1,4 @@
 use Rattle.inspector_references.specs.Referring.{row_live, row_digest_lem}
-use borrow.Author.Rules.{rules}
 use Rattle.inspector_references.proofs.refers_row.Goals as goal
 
 pub returns-then-live : goal.returns-then-live

@@ -1,7 +1,5 @@
-use Prim.Native.Nat.{◌-◌, ◌≤◌}
-use mathlib.Core.Logic.{⊎_elim}
 use native.Mathlib.Omega.{arith}
-use Rattle.inspector_references.specs.Trusted.{Listed, trusted_in, listed_none, listed_yes, listed_no, listed_end}
+use Rattle.inspector_references.specs.Trusted.{listed_none, listed_yes, listed_no, listed_end}
 use borrow.Author.Rules.{rules}
 use Rattle.inspector_references.proofs.trusted_places.Goals as goal
 use Rattle.inspector_references.proofs.trusted_places.Goals.{then-passed, else-passed}

@@ -4,7 +4,6 @@ use native.Mathlib.Omega.{arith}
 use lib.Bits.{bit_or}
 use Rattle.laws.specs.Peers.{with_peer}
 use Rattle.inspector_references.specs.Sets.{one_shifted}
-use borrow.Author.Rules.{rules}
 use Rattle.inspector_references.proofs.with_peer.Goals as goal
 
 pub returns : goal.returns
