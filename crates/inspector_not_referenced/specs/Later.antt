@@ -1,10 +1,10 @@
 -- The signers that later rows report for the previous point of row k (01: "the greater proof digest is reported").
-use Rattle.std.specs.Prelude.{ℕ, zero, suc, ◌+◌, ◌-◌, ◌*◌, ◌<◌, ◌≤◌, ◌≡◌, refl, List, Bool, true, false, ◌&&◌, cond, eqb, ltb, drop}
+use Rattle.std.specs.Prelude.{ℕ, suc, ◌+◌, ◌-◌, ◌<◌, ◌≡◌, refl, List, Bool, true, false, ◌&&◌, cond, eqb, ltb, drop}
 use Rattle.std.proofs.Math.Path.{sym}
 use Rattle.std.proofs.Common.{ap, ◌∙◌, arith, add-one, lt-ltb, le-ltb}
-use Rattle.std.proofs.Math.Option.{Option, none, some}
+use Rattle.std.proofs.Math.Option.{none, some}
 use Rattle.laws.specs.Test.{and_no, and_yes}
-use Rattle.laws.specs.Scan.{any, any_same}
+use Rattle.laws.specs.Scan.{any_same}
 use Rattle.laws.specs.Lists.{has}
 use Rattle.laws.specs.Peers.{member}
 use Rattle.spec.specs.Inspect.{holds}

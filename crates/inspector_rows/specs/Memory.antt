@@ -3,9 +3,9 @@ use Prim.Native.Nat.{ℕ, zero, suc, ◌+◌, ◌*◌, ◌<◌, ◌≤◌}
 use Rattle.std.specs.Prelude.{◌≡◌, Bool, leb, length, get_or, set, take, replicate}
 use Rattle.std.proofs.Math.Path.{refl, sym, ap}
 use Rattle.std.proofs.Common.{◌∙◌, add-one, get_or-set_same}
-use mathlib.Core.List.{List, [], ◌∷◌, map}
+use mathlib.Core.List.{List, map}
 use Rattle.std.proofs.Math.Bool.{true, false, cond}
-use Rattle.std.proofs.Math.Option.{Option, none, some}
+use Rattle.std.proofs.Math.Option.{none, some}
 use native.Mathlib.Omega.{arith}
 use Rattle.std.proofs.Math.Dec.{ltb}
 use Rattle.std.proofs.Math.ListN.{length-replicate, length-set}
@@ -14,7 +14,6 @@ use borrow.Author.Tests.{leb-true}
 use Rattle.laws.specs.Test.{same_or, and_l, and_r}
 use Rattle.laws.specs.Scan.{every_elim}
 use Rattle.laws.specs.Peers.{member}
-use Rattle.spec.specs.Store as store
 use Rattle.models.specs.Digest.{digest_at}
 use Rattle.models.specs.declared.parts.Round.{Round}
 use Rattle.commit_state.specs.State.{no_entry}

@@ -1,13 +1,11 @@
 use borrow.Author.Rules.{rules}
-use Prim.Native.Nat.{◌≤◌, ◌+◌}
-use mathlib.Core.Path.{◌≡◌, refl, ◌∙◌, ap}
+use mathlib.Core.Path.{refl, ◌∙◌, ap}
 use Rattle.back_chain.specs.declared.Chain.{Chain}
-use mathlib.Core.List.{[]}
 use native.Mathlib.Omega.{arith}
 use lib.ListN.{length, length-set}
 use Rattle.back_walk.specs.Model.{topped, found_used}
-use Rattle.back_chain.specs.Chain.{chain_of, chain_more}
-use Rattle.back_chain.specs.RefinesWalk.{walked, walked-pass, walked_end, walked-bad, walked-found, walked_none, walked_start}
+use Rattle.back_chain.specs.Chain.{chain_more}
+use Rattle.back_chain.specs.RefinesWalk.{walked-pass, walked_end, walked-bad, walked-found, walked_none, walked_start}
 use Rattle.back_chain.proofs.anchor_chain.Goals as goal
 
 pub loop-k-init : goal.loop-k-init

@@ -3,7 +3,6 @@ use Rattle.dag_round_points.specs.Tests.{ready}
 use Rattle.dag_round_points.specs.Words.{id_fit}
 use Rattle.back_walk.specs.Refines.{walkable, linked}
 use Rattle.back_chain.specs.Refines.{none-few, trigger_in, of_below, of_refused, of_trigger, of_none, of_chain, of_ready}
-use borrow.Author.Rules.{rules}
 use Rattle.back_chain.proofs.chain_of.Goals as goal
 
 pub returns-then-below_bottom : goal.returns-then-below_bottom

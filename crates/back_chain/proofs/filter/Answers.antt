@@ -1,6 +1,5 @@
 use mathlib.Core.Path.{refl}
 use Rattle.back_chain.specs.Model.{trigger_of, trigger_by, trigger_case, trans_proved, trans_flat, trans_certified}
-use borrow.Author.Rules.{rules}
 use Rattle.back_chain.proofs.filter.Goals as goal
 
 pub returns-then-has_proof : goal.returns-then-has_proof

@@ -1,7 +1,6 @@
 use Prim.Native.Nat.{ℕ, ◌/◌, ◌%◌}
 use mathlib.Core.Path.{sym, ap, ◌∙◌}
 use Rattle.back_chain.specs.Model.{walks_invalid, walks_unmarked, walks-genesis, walks_by}
-use borrow.Author.Rules.{rules}
 use Rattle.back_chain.proofs.has_walk.Goals as goal
 
 pub returns-then-not-is_valid : goal.returns-then-not-is_valid

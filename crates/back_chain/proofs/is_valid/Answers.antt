@@ -1,7 +1,6 @@
 use mathlib.Core.Path.{ap, sym}
 use Rattle.models.specs.DagPoint.{is_valid}
 use Rattle.back_chain.specs.Model.{valid_of, valid_case}
-use borrow.Author.Rules.{rules}
 use Rattle.back_chain.proofs.is_valid.Goals as goal
 
 pub returns-in-Never : goal.returns-in-Never

@@ -1,5 +1,4 @@
 use Rattle.back_chain.specs.Model.{low_none, low_last, low_bottom}
-use borrow.Author.Rules.{rules}
 use Rattle.back_chain.proofs.lowest_walked.Goals as goal
 
 pub returns-then-last-eq0 : goal.returns-then-last-eq0

@@ -1,4 +1,3 @@
-use borrow.Author.Rules.{rules}
 use Rattle.commit_rounds.specs.Round.{round-beyond, round_last, round_old, round_full, round-new}
 use Rattle.commit_rounds.proofs.check_round.Goals as goal
 

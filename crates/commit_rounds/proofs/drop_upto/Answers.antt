@@ -2,7 +2,6 @@ use mathlib.Core.Path.{refl}
 use Rattle.commit_answer.specs.Answer.{tested_no, tested_by, left-refused, left-done}
 use Rattle.commit_rounds.specs.Drain.{given}
 use Rattle.commit_rounds.specs.Drop.{drop_did, dropped_is}
-use borrow.Author.Rules.{rules}
 use native.Mathlib.Omega.{arith}
 use Rattle.spec.specs.Rules.{counts_as_started}
 use Rattle.models.specs.Digest.{Fit}
@@ -19,7 +18,7 @@ cut-k-requires c =
     let fk : Fit a.keys.now = λ p. (c.slice_known-1.given p).fits in
     let fl : Fit a.links.now = λ p. (c.slice_known-2-1.given p).fits in
     let g = given a.s a.keys.now a.links.now a.certs.now a.order.now fk fl _ c.counts_as_started.ensures c.if-not-counts_as_started.false-raw in
-     record {keys_len = (g.keys, g.room, g.inside); sorted = g.sorted}
+    record { keys_len = (g.keys, g.room, g.inside); sorted = g.sorted }
 
 pub drain_upto-requires : goal.drain_upto-requires
 drain_upto-requires c =
@@ -28,7 +27,7 @@ drain_upto-requires c =
     let fl : Fit a.links.now = λ p. (c.slice_known-2-1.given p).fits in
     let g = given a.s a.keys.now a.links.now a.certs.now a.order.now fk fl _ c.counts_as_started.ensures c.if-not-counts_as_started.false-raw in
     let l = below-le a.keys.now a.order.now a.s.count c.max-lowest.result.0 in
-     record {k_le_n = (omega (arith, l, c.cut-k.ensures), g.room, g.keys, g.links, g.certs); inside = g.inside}
+    record { k_le_n = (omega (arith, l, c.cut-k.ensures), g.room, g.keys, g.links, g.certs); inside = g.inside }
 
 pub overflow_sub-n : goal.overflow_sub-n
 overflow_sub-n c =

@@ -1,8 +1,6 @@
-use mathlib.Core.Path.{◌≡◌, refl, sym, ◌∙◌}
-use lib.ListN.{length, length-map}
+use mathlib.Core.Path.{refl, sym, ◌∙◌}
 use Rattle.commit_answer.specs.Answer.{left-same, tested_no, tested_by, left-refused, left-done}
 use Rattle.commit_rounds.specs.Round.{round_did, round_ready, round_small}
-use borrow.Author.Rules.{rules}
 use Rattle.commit_rounds.proofs.extend_from_ahead.Goals as goal
 
 pub returns-then-not-counts_as_started : goal.returns-then-not-counts_as_started

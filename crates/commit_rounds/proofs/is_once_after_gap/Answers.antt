@@ -1,7 +1,6 @@
 use mathlib.Core.Path.{refl}
 use Rattle.commit_answer.specs.Answer.{tested_no, tested_by, left-refused, left-done}
 use Rattle.commit_rounds.specs.Gap.{gap_did, put_other, put_asked}
-use borrow.Author.Rules.{rules}
 use Rattle.commit_rounds.proofs.is_once_after_gap.Goals as goal
 
 pub returns-then-not-counts_as_started : goal.returns-then-not-counts_as_started

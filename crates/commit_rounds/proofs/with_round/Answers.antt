@@ -1,4 +1,3 @@
-use borrow.Author.Rules.{rules}
 use Rattle.commit_rounds.specs.Round.{with_old, with_new}
 use Rattle.commit_rounds.proofs.with_round.Goals as goal
 

@@ -1,6 +1,5 @@
 use mathlib.Core.Path.{refl}
 use Rattle.inspector_not_referenced.specs.Signers.{active_not, active_by}
-use borrow.Author.Rules.{rules}
 use Rattle.inspector_not_referenced.proofs.active.Goals as goal
 
 pub returns-then-not-adjacent : goal.returns-then-not-adjacent

@@ -1,8 +1,6 @@
-use Prim.Native.Nat.{◌-◌, ◌≤◌}
-use mathlib.Core.Path.{◌≡◌, refl, ap₂, ◌∙◌}
+use mathlib.Core.Path.{refl}
 use native.Mathlib.Omega.{arith}
-use lib.Bits.{bit_and}
-use Rattle.inspector_not_referenced.specs.Signers.{cell_of, Cells, cells_none, cells_more, cells_end, cell_by}
+use Rattle.inspector_not_referenced.specs.Signers.{cells_none, cells_more, cells_end, cell_by}
 use borrow.Author.Rules.{rules}
 use Rattle.inspector_not_referenced.proofs.not_referenced.Goals as goal
 

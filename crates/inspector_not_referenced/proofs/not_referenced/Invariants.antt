@@ -1,9 +1,5 @@
 use Prim.Native.Nat.{◌-◌, ◌≤◌}
-use mathlib.Core.Path.{◌≡◌, refl, ap₂, ◌∙◌}
-use native.Mathlib.Omega.{arith}
-use lib.Bits.{bit_and}
-use Rattle.inspector_not_referenced.specs.Signers.{cell_of, Cells, cells_none, cells_more, cells_end, cell_by}
-use borrow.Author.Rules.{rules}
+use Rattle.inspector_not_referenced.specs.Signers.{cell_of, Cells}
 use Rattle.inspector_not_referenced.proofs.not_referenced.Given as goal
 
 abbrev pub invariant-loop-k : goal.invariant-loop-k

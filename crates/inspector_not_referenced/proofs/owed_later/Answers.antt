@@ -1,9 +1,6 @@
-use Prim.Native.Nat.{◌+◌, ◌-◌, ◌≤◌}
-use mathlib.Core.Path.{◌≡◌, refl}
-use mathlib.Core.Logic.{⊎_elim}
-use Rattle.inspector_references.specs.Sets.{union_of, union_none, union_yes, union_no, union_end}
-use Rattle.inspector_references.specs.Referring.{row_peers}
-use Rattle.inspector_not_referenced.specs.Later.{same_previous, owed_later}
+use mathlib.Core.Path.{refl}
+use Rattle.inspector_references.specs.Sets.{union_none, union_yes, union_no, union_end}
+use Rattle.inspector_not_referenced.specs.Later.{owed_later}
 use borrow.Author.Rules.{rules}
 use Rattle.inspector_not_referenced.proofs.owed_later.Goals as goal
 use Rattle.inspector_not_referenced.proofs.owed_later.Goals.{then-same_previous, else-same_previous}

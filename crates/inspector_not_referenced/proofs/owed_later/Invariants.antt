@@ -1,10 +1,8 @@
 use Prim.Native.Nat.{◌+◌, ◌-◌, ◌≤◌}
-use mathlib.Core.Path.{◌≡◌, refl}
-use mathlib.Core.Logic.{⊎_elim}
-use Rattle.inspector_references.specs.Sets.{union_of, union_none, union_yes, union_no, union_end}
+use mathlib.Core.Path.{◌≡◌}
+use Rattle.inspector_references.specs.Sets.{union_of}
 use Rattle.inspector_references.specs.Referring.{row_peers}
-use Rattle.inspector_not_referenced.specs.Later.{same_previous, owed_later}
-use borrow.Author.Rules.{rules}
+use Rattle.inspector_not_referenced.specs.Later.{same_previous}
 use Rattle.inspector_not_referenced.proofs.owed_later.Given as goal
 
 abbrev pub invariant-loop-i : goal.invariant-loop-i

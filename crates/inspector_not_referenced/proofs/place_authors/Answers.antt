@@ -1,11 +1,9 @@
-use Prim.Native.Nat.{ℕ, ◌-◌, ◌^◌, ◌≤◌}
-use mathlib.Core.Path.{◌≡◌, refl, ap}
+use Prim.Native.Nat.{ℕ, ◌^◌}
+use mathlib.Core.Path.{refl, ap}
 use mathlib.Core.Bool.{true}
-use lib.ListN.{get_or}
 use Rattle.laws.specs.Peers.{with_peer}
-use Rattle.models.specs.Tables.{author_at}
-use Rattle.inspector_references.specs.Sets.{union_of, union_none, union_yes, union_end}
-use Rattle.inspector_not_referenced.specs.Signers.{always, place_authors}
+use Rattle.inspector_references.specs.Sets.{union_none, union_yes, union_end}
+use Rattle.inspector_not_referenced.specs.Signers.{place_authors}
 use borrow.Author.Rules.{rules}
 use Rattle.inspector_not_referenced.proofs.place_authors.Goals as goal
 

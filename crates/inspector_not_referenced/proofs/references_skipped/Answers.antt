@@ -1,7 +1,4 @@
-use Prim.Native.Nat.{◌-◌, ◌≤◌}
-use mathlib.Core.Path.{◌≡◌}
-use mathlib.Core.Logic.{⊎_elim}
-use Rattle.inspector_not_referenced.specs.Signers.{skipped_by, skipped_none, skipped_yes, skipped_no, skipped_end}
+use Rattle.inspector_not_referenced.specs.Signers.{skipped_none, skipped_yes, skipped_no, skipped_end}
 use borrow.Author.Rules.{rules}
 use Rattle.inspector_not_referenced.proofs.references_skipped.Goals as goal
 use Rattle.inspector_not_referenced.proofs.references_skipped.Goals.{then-set-a-eq1, else-set-a-eq1}

@@ -1,8 +1,6 @@
 use Prim.Native.Nat.{◌-◌, ◌≤◌}
 use mathlib.Core.Path.{◌≡◌}
-use mathlib.Core.Logic.{⊎_elim}
-use Rattle.inspector_not_referenced.specs.Signers.{skipped_by, skipped_none, skipped_yes, skipped_no, skipped_end}
-use borrow.Author.Rules.{rules}
+use Rattle.inspector_not_referenced.specs.Signers.{skipped_by}
 use Rattle.inspector_not_referenced.proofs.references_skipped.Given as goal
 
 abbrev pub invariant-loop-k : goal.invariant-loop-k

@@ -1,10 +1,8 @@
-use Prim.Native.Nat.{◌-◌, ◌^◌, ◌≤◌}
-use mathlib.Core.Path.{◌≡◌, refl, ◌∙◌}
+use mathlib.Core.Path.{refl}
 use mathlib.Core.Bool.{true}
 use Rattle.laws.specs.Peers.{with_peer}
-use Rattle.inspector_references.specs.Sets.{union_of, union_none, union_yes, union_end}
-use Rattle.inspector_references.specs.Referring.{row_author}
-use Rattle.inspector_not_referenced.specs.Signers.{always, row_authors}
+use Rattle.inspector_references.specs.Sets.{union_none, union_yes, union_end}
+use Rattle.inspector_not_referenced.specs.Signers.{row_authors}
 use borrow.Author.Rules.{rules}
 use Rattle.inspector_not_referenced.proofs.row_authors.Goals as goal
 

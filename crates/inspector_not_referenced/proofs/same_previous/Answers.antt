@@ -1,5 +1,4 @@
 use Rattle.inspector_not_referenced.specs.Later.{same_none, same_some}
-use borrow.Author.Rules.{rules}
 use Rattle.inspector_not_referenced.proofs.same_previous.Goals as goal
 
 pub returns-then-previous-eq0 : goal.returns-then-previous-eq0

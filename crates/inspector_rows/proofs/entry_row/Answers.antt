@@ -1,5 +1,4 @@
 use Rattle.inspector_rows.specs.Memory.{entry_row}
-use borrow.Author.Rules.{rules}
 use Rattle.inspector_rows.proofs.entry_row.Goals as goal
 
 pub returns : goal.returns

@@ -1,6 +1,5 @@
 use mathlib.Core.Path.{refl}
 use Rattle.inspector_rows.specs.Rows.{words_from}
-use borrow.Author.Rules.{rules}
 use Rattle.inspector_rows.proofs.four_words.Goals as goal
 
 pub returns : goal.returns

@@ -1,6 +1,5 @@
-use Prim.Native.Nat.{◌-◌, ◌≤◌}
-use mathlib.Core.Path.{◌≡◌, refl}
-use Rattle.inspector_rows.specs.Memory.{entries_from, entries_none, entries-more, memory_by}
+use mathlib.Core.Path.{refl}
+use Rattle.inspector_rows.specs.Memory.{entries_none, entries-more, memory_by}
 use borrow.Author.Rules.{rules}
 use Rattle.inspector_rows.proofs.memory_of.Goals as goal
 

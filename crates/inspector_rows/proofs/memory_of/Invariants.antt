@@ -1,7 +1,6 @@
 use Prim.Native.Nat.{◌-◌, ◌≤◌}
-use mathlib.Core.Path.{◌≡◌, refl}
-use Rattle.inspector_rows.specs.Memory.{entries_from, entries_none, entries-more, memory_by}
-use borrow.Author.Rules.{rules}
+use mathlib.Core.Path.{◌≡◌}
+use Rattle.inspector_rows.specs.Memory.{entries_from}
 use Rattle.inspector_rows.proofs.memory_of.Given as goal
 
 abbrev pub invariant-loop-k : goal.invariant-loop-k

@@ -1,8 +1,5 @@
-use Prim.Native.Nat.{◌-◌, ◌≤◌}
-use mathlib.Core.Path.{◌≡◌, refl}
-use lib.ListN.{length, get_or}
-use Rattle.inspector_rows.specs.Rows.{stacked, stacked-none, stacked-size, stacked-more, stacked_end}
-use Rattle.inspector_rows.specs.Must.{must_row}
+use mathlib.Core.Path.{refl}
+use Rattle.inspector_rows.specs.Rows.{stacked-none, stacked-size, stacked-more, stacked_end}
 use borrow.Author.Rules.{rules}
 use Rattle.inspector_rows.proofs.must_reference.Goals as goal
 

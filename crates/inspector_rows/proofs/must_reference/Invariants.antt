@@ -1,9 +1,8 @@
 use Prim.Native.Nat.{◌-◌, ◌≤◌}
-use mathlib.Core.Path.{◌≡◌, refl}
+use mathlib.Core.Path.{◌≡◌}
 use lib.ListN.{length, get_or}
-use Rattle.inspector_rows.specs.Rows.{stacked, stacked-none, stacked-size, stacked-more, stacked_end}
+use Rattle.inspector_rows.specs.Rows.{stacked}
 use Rattle.inspector_rows.specs.Must.{must_row}
-use borrow.Author.Rules.{rules}
 use Rattle.inspector_rows.proofs.must_reference.Given as goal
 
 abbrev pub invariant-loop-k : goal.invariant-loop-k

@@ -1,6 +1,5 @@
 use mathlib.Core.Path.{refl}
 use Rattle.inspector_rows.specs.Must.{must_by, point_ready}
-use borrow.Author.Rules.{rules}
 use Rattle.inspector_rows.proofs.must_row.Goals as goal
 
 pub point_row-row-requires : goal.point_row-row-requires

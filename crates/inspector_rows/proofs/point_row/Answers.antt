@@ -1,5 +1,4 @@
 use Rattle.inspector_rows.specs.Must.{point_by}
-use borrow.Author.Rules.{rules}
 use Rattle.inspector_rows.proofs.point_row.Goals as goal
 
 pub returns : goal.returns

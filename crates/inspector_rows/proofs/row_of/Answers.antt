@@ -1,6 +1,5 @@
 use mathlib.Core.Path.{refl}
 use Rattle.inspector_rows.specs.Rows.{row_from}
-use borrow.Author.Rules.{rules}
 use Rattle.inspector_rows.proofs.row_of.Goals as goal
 
 pub returns : goal.returns

@@ -1,9 +1,5 @@
-use Prim.Native.Nat.{◌-◌, ◌≤◌}
-use mathlib.Core.Path.{◌≡◌, refl}
-use lib.ListN.{length, get_or}
-use Rattle.commit_state.specs.Memory.{beyond}
-use Rattle.inspector_rows.specs.Rows.{stacked, stacked-none, stacked-size, stacked-more, stacked_end}
-use Rattle.inspector_rows.specs.Memory.{entry_row}
+use mathlib.Core.Path.{refl}
+use Rattle.inspector_rows.specs.Rows.{stacked-none, stacked-size, stacked-more, stacked_end}
 use borrow.Author.Rules.{rules}
 use Rattle.inspector_rows.proofs.rows_of.Goals as goal
 

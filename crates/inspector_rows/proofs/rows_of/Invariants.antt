@@ -1,10 +1,9 @@
 use Prim.Native.Nat.{◌-◌, ◌≤◌}
-use mathlib.Core.Path.{◌≡◌, refl}
+use mathlib.Core.Path.{◌≡◌}
 use lib.ListN.{length, get_or}
 use Rattle.commit_state.specs.Memory.{beyond}
-use Rattle.inspector_rows.specs.Rows.{stacked, stacked-none, stacked-size, stacked-more, stacked_end}
+use Rattle.inspector_rows.specs.Rows.{stacked}
 use Rattle.inspector_rows.specs.Memory.{entry_row}
-use borrow.Author.Rules.{rules}
 use Rattle.inspector_rows.proofs.rows_of.Given as goal
 
 abbrev pub invariant-loop-k : goal.invariant-loop-k

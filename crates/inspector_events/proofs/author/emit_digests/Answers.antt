@@ -1,10 +1,7 @@
-use Prim.Native.Nat.{◌-◌, ◌≤◌}
 use mathlib.Core.Path.{refl}
-use mathlib.Core.Logic.{⊎_elim}
 use native.Mathlib.Omega.{arith}
-use Rattle.laws.specs.Bytes.{be}
-use Rattle.inspector_events.specs.Told.{Told, told-one, told-length, ready_one, passing-none, passing-yes, passing_no, passing_ready, passing_end}
-use Rattle.inspector_events.specs.Author.{digests_of, digest_room}
+use Rattle.inspector_events.specs.Told.{told-one, ready_one, passing-none, passing-yes, passing_no, passing_ready, passing_end}
+use Rattle.inspector_events.specs.Author.{digest_room}
 use borrow.Author.Rules.{rules}
 use Rattle.inspector_events.proofs.author.emit_digests.Goals as goal
 use Rattle.inspector_events.proofs.author.emit_digests.Goals.{then-passes, else-passes}
@@ -31,7 +28,7 @@ loop-k-preserved c =
     let l = c.loop-k in
     let at = c.place-q.ensures.value in
     let is = c.passes.ensures in
-    elim c.if-passes.branch [ then-passes w ↦ (search rules, passing-yes _ _ _ _ _ _ _ _ _ _ l.invariant.1 _ at _ is _ _ _ _ w.if-passes.true (told-one _ _ _ _ _ _ _ w.emit_digest-at.ensures refl) w.out-is w.b-is) | else-passes w ↦ (search rules, passing_no _ _ _ _ _ _ _ _ _ _ l.invariant.1 _ at _ is _ _ w.if-passes.false w.out-is w.1) ]
+    elim c.if-passes.branch [ then-passes w ↦ (search rules, passing-yes _ _ _ _ _ _ _ _ _ _ l.invariant.1 _ at _ is _ _ _ _ w.if-passes.true (told-one _ _ _ _ _ _ _ w.emit_digest-at.ensures refl) w.out-is w.b-is) | else-passes w ↦ (search rules, passing_no _ _ _ _ _ _ _ _ _ _ l.invariant.1 _ at _ is _ _ w.if-passes.false w.out-is w.b-is) ]
 
 pub returns : goal.returns
 returns c = passing_end _ _ _ _ _ _ _ _ _ _ c.loop-k.invariant.1 _ (omega arith)

@@ -2,7 +2,6 @@ use mathlib.Core.Path.{refl}
 use native.Mathlib.Omega.{arith}
 use Rattle.inspector_events.specs.Told.{ready_one}
 use Rattle.inspector_events.specs.Author.{single-first, single_rest, single-told}
-use borrow.Author.Rules.{rules}
 use Rattle.inspector_events.proofs.author.emit_single.Goals as goal
 
 pub emit_number-id-requires : goal.emit_number-id-requires

@@ -1,10 +1,7 @@
 use Prim.Native.Nat.{◌-◌, ◌≤◌}
-use mathlib.Core.Logic.{⊎_elim}
-use native.Mathlib.Omega.{arith}
 use Rattle.spec.specs.Inspect.{event_bytes}
-use Rattle.inspector_events.specs.Told.{Told, told-length, passing-none, passing-yes, passing_no, passing_ready, passing_end}
+use Rattle.inspector_events.specs.Told.{Told}
 use Rattle.inspector_events.specs.Author.{singles_of}
-use borrow.Author.Rules.{rules}
 use Rattle.inspector_events.proofs.author.emit_singles.Given as goal
 
 abbrev pub invariant-loop-k : goal.invariant-loop-k
