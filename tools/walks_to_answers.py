@@ -85,6 +85,8 @@ class Turn:
                 if a.replace(" ", "").split(".")[1:] == [x, rest[0]]:
                     rest = [b.replace(" ", "").split(".")[2]] + rest[1:]
                     break
+        if x == "args" and rest:
+            rest = [norm(rest[0])] + rest[1:]
         if x in ("args", "lifetimes", "well_formed", "ranges"):
             return ".".join(["c", x] + rest)
         if x == "requires":
@@ -335,7 +337,10 @@ def convert(path):
                     body = lets + " record {" + "; ".join(f"{c} = {p}" for c, p in zip(clauses, parts)) + "}"
                 else:
                     print(f"{path}: {new}: clauses {clauses}")
-                    body = lets + " let told = " + tail.strip() + " in record {" + "; ".join(f"{c} = told.{k}" for k, c in enumerate(clauses)) + "}"
+                    if re.match(r"(search|omega|cc)\b", tail.strip()):
+                        body = lets + " record {" + "; ".join(f"{c} = {tail.strip()}" for c in clauses) + "}"
+                    else:
+                        body = lets + " let told = " + tail.strip() + " in record {" + "; ".join(f"{c} = told.{k}" for k, c in enumerate(clauses)) + "}"
             args = re.sub(r" κs\b", "", args)
             out += cc + [f"pub {new} : goal.{new}"] + head + [f"{new}{args} ={body}", ""]
         # a fact of the walk's beginning, by its path

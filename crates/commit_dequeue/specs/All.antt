@@ -143,7 +143,9 @@ words_after ks ls os s cs (e ∷ es) =
 pub words_append : (ks ls os : List ℕ) (s : State) (cs : List ℕ) (es fs : List chain.EnqueuedAnchor) → words_after ks ls os s cs (es ++ fs) ≡ words_after ks ls os (words_after ks ls os s cs es).0 (words_after ks ls os s cs es).1 fs
 unfolding words_after
 words_append ks ls os s cs [] fs = refl
-words_append ks ls os s cs (e ∷ es) fs = words_append ks ls os _ _ es fs
+words_append ks ls os s cs (e ∷ es) fs =
+    let t = tested_of s ks ls cs os e.anchor in
+    words_append ks ls os (after_state s (Tables.round_at ks e.anchor) (Tables.round_at ks e.proof) (author_at ks e.anchor)) (marks_all os t.marks t.low cs t.high) es fs
 
 pub all_words : (ks ls os : List ℕ) (s : State) (cs l : List ℕ) (from : ℕ) (b : List ℕ) (at n : ℕ) (es : List chain.EnqueuedAnchor) → (all_of ks ls os s cs l from b at n es).stopped ≡ Passed
     → ((all_of ks ls os s cs l from b at n es).state, (all_of ks ls os s cs l from b at n es).certs) ≡ words_after ks ls os s cs es

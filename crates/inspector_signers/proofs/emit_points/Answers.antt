@@ -26,7 +26,7 @@ emit_id-at-requires c =
 pub loop-k-preserved : goal.loop-k-preserved
 loop-k-preserved c =
     let l = c.loop-k in
-    elim c.if-author-signer.branch [ then-author-signer w ↦ (search rules, passing-yes _ _ _ _ _ _ _ _ _ _ l.invariant.1 _ refl _ refl _ _ _ _ (eq-eqb _ _ (sym c.author-author.ensures ∙ w.if-author-signer.true)) (told-one _ _ _ _ _ _ _ w.emit_id-at.ensures refl) w.7 w.6) | else-author-signer w ↦ (search rules, passing_no _ _ _ _ _ _ _ _ _ _ l.invariant.1 _ refl _ refl _ _ (ne_eqb _ _ (λ e. w.if-author-signer.false (c.author-author.ensures ∙ e))) w.2 w.1) ]
+    elim c.if-author-signer.branch [ then-author-signer w ↦ (search rules, passing-yes _ _ _ _ _ _ _ _ _ _ l.invariant.1 _ refl _ refl _ _ _ _ (eq-eqb _ _ (sym c.author-author.ensures ∙ w.if-author-signer.true)) (told-one _ _ _ _ _ _ _ w.emit_id-at.ensures refl) w.out-is w.b-is) | else-author-signer w ↦ (search rules, passing_no _ _ _ _ _ _ _ _ _ _ l.invariant.1 _ refl _ refl _ _ (ne_eqb _ _ (λ e. w.if-author-signer.false (c.author-author.ensures ∙ e))) w.out-is w.b-is) ]
 
 pub returns : goal.returns
 returns c = passing_end _ _ _ _ _ _ _ _ _ _ c.loop-k.invariant.1 _ (omega arith)

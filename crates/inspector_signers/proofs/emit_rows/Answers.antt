@@ -27,7 +27,7 @@ pub loop-k-preserved : goal.loop-k-preserved
 loop-k-preserved c =
     let l = c.loop-k in
     let is = c.row_passes.ensures in
-    elim c.if-row_passes.branch [ then-row_passes w ↦ (search rules, passing-yes _ _ _ _ _ _ _ _ _ _ l.invariant.1 _ refl _ is _ _ _ _ w.if-row_passes.true (told-one _ _ _ _ _ _ _ w.emit_row_id-at.ensures refl) w.7 w.6) | else-row_passes w ↦ (search rules, passing_no _ _ _ _ _ _ _ _ _ _ l.invariant.1 _ refl _ is _ _ w.if-row_passes.false w.2 w.1) ]
+    elim c.if-row_passes.branch [ then-row_passes w ↦ (search rules, passing-yes _ _ _ _ _ _ _ _ _ _ l.invariant.1 _ refl _ is _ _ _ _ w.if-row_passes.true (told-one _ _ _ _ _ _ _ w.emit_row_id-at.ensures refl) w.out-is w.b-is) | else-row_passes w ↦ (search rules, passing_no _ _ _ _ _ _ _ _ _ _ l.invariant.1 _ refl _ is _ _ w.if-row_passes.false w.out-is w.b-is) ]
 
 pub returns : goal.returns
 returns c = passing_end _ _ _ _ _ _ _ _ _ _ c.loop-k.invariant.1 _ (omega arith)

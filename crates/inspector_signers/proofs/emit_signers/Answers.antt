@@ -26,7 +26,7 @@ pub loop-signer-preserved : goal.loop-signer-preserved
 unfolding member
 loop-signer-preserved c =
     let l = c.loop-signer in
-    elim c.if-signers-signer-eq1.branch [ then-signers-signer-eq1 w ↦ (search rules, passing-yes _ _ _ _ _ _ _ _ _ _ l.invariant.1 _ refl _ refl _ _ _ _ (eq-eqb _ _ w.if-signers-signer-eq1.true) w.2.ensures w.6 w.5) | else-signers-signer-eq1 w ↦ (search rules, passing_no _ _ _ _ _ _ _ _ _ _ l.invariant.1 _ refl _ refl _ _ (ne_eqb _ _ w.if-signers-signer-eq1.false) w.2 w.1) ]
+    elim c.if-signers-signer-eq1.branch [ then-signers-signer-eq1 w ↦ (search rules, passing-yes _ _ _ _ _ _ _ _ _ _ l.invariant.1 _ refl _ refl _ _ _ _ (eq-eqb _ _ w.if-signers-signer-eq1.true) w.emit_signer-out.ensures w.out-is w.b-is) | else-signers-signer-eq1 w ↦ (search rules, passing_no _ _ _ _ _ _ _ _ _ _ l.invariant.1 _ refl _ refl _ _ (ne_eqb _ _ w.if-signers-signer-eq1.false) w.out-is w.b-is) ]
 
 pub returns : goal.returns
 returns c = passing_end _ _ _ _ _ _ _ _ _ _ c.loop-signer.invariant.1 _ (omega arith)

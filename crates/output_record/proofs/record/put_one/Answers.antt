@@ -8,7 +8,7 @@ use Rattle.output_record.specs.Listed.{span_run, counted, counted_list, counted_
 use Rattle.output_record.proofs.record.put_one.Goals as goal
 
 pub span_at-span-requires : goal.span_at-span-requires
-span_at-span-requires c = let h = c.requires.round_listed.0 in  let told = search rules in record {keys_len = told.0; sorted = told.1}
+span_at-span-requires c = let h = c.requires.round_listed.0 in record {keys_len = search rules; sorted = search rules}
 
 pub count_linked-count-requires : goal.count_linked-count-requires
 count_linked-count-requires c = span_run _ _ _ _ _ _ _ _ c.requires.round_listed.0 _ c.span_at-span.ensures
