@@ -30,3 +30,9 @@ loop-k-preserved c =
 
 pub returns : goal.returns
 returns c = passing_end _ _ _ _ _ _ _ _ _ _ c.loop-k.invariant.1 _ (omega arith)
+
+pub overflow_add-out : goal.overflow_add-out
+overflow_add-out c =
+    let l = c.loop-k in
+    let n = (ready_one _ _ _ _ _ (passing_ready _ _ _ _ _ _ _ l.k _ _ l.invariant.1 _ refl _ refl _ c.loop-k-test.true (eq-eqb _ _ (sym c.author-author.ensures ∙ c.if-author-signer.true)) c.requires.ready)).1 in
+    omega (arith, n)

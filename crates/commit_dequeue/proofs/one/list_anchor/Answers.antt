@@ -12,4 +12,4 @@ lists_fit-requires c =
 pub returns : goal.returns
 returns c =
     let a = c.args in
-     let told = listed_by a.s a.keys.now a.order.now a.lists.now a.from a.marks.now a.lowest.0 (enqueued_of a.e) _ c.round_at-round.ensures _ _ c.lists_fit.ensures in record {ok_value = told.0; end_value = told.1}
+     let told = listed_by a.s a.keys.now a.order.now a.lists.now a.from a.marks.now a.lowest.0 (enqueued_of a.e) _ c.round_at-round.ensures _ _ (c.lists_fit.ensures.ok_value, c.lists_fit.ensures.end_value) in record {ok_value = told.0; end_value = told.1}
