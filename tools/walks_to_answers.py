@@ -340,7 +340,7 @@ def convert(path):
                     if re.match(r"(search|omega|cc)\b", tail.strip()):
                         body = lets + " record {" + "; ".join(f"{c} = {tail.strip()}" for c in clauses) + "}"
                     else:
-                        body = lets + " let told = " + tail.strip() + " in record {" + "; ".join(f"{c} = told.{k}" for k, c in enumerate(clauses)) + "}"
+                        body = lets + " let told = " + tail.strip() + " in record {" + "; ".join(f"{c} = told" + ".1" * k + (".0" if k < len(clauses) - 1 else "") for k, c in enumerate(clauses)) + "}"
             args = re.sub(r" κs\b", "", args)
             out += cc + [f"pub {new} : goal.{new}"] + head + [f"{new}{args} ={body}", ""]
         # a fact of the walk's beginning, by its path

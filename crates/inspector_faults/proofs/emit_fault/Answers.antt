@@ -16,12 +16,12 @@ pub emit_fork-requires : goal.emit_fork-requires
 emit_fork-requires c =
     let p = c.requires in
     let is = c.in-Equivocated.is in
-     record {range = p.range; found_value = fork_counts _ _ _ _ _ _ _ _ is p.n_value; ready = forks_ready _ _ _ _ _ _ _ _ _ _ _ is p.ready}
+    record { range = p.range; found_value = fork_counts _ _ _ _ _ _ _ _ is p.n_value; ready = forks_ready _ _ _ _ _ _ _ _ _ _ _ is p.ready }
 
 pub emit_singles-requires : goal.emit_singles-requires
 emit_singles-requires c =
     let p = c.requires in
-     record {range = p.range; ready = singles_ready _ _ _ _ _ _ _ _ _ _ _ (λ (e : c.args.fault ≡ fault.Equivocated). search rules) _ _ c.kind-kind.ensures c.test-test.ensures p.ready}
+    record { range = p.range; ready = singles_ready _ _ _ _ _ _ _ _ _ _ _ (λ (e : c.args.fault ≡ fault.Equivocated). search rules) _ _ c.kind-kind.ensures c.test-test.ensures p.ready }
 
 pub returns-in-Equivocated : goal.returns-in-Equivocated
 returns-in-Equivocated c = forks_told _ _ _ _ _ _ _ _ _ _ _ _ _ c.in-Equivocated.is c.emit_fork.ensures

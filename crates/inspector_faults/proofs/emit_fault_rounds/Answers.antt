@@ -19,7 +19,7 @@ pub span_at-span-requires : goal.span_at-span-requires
 span_at-span-requires c =
     let p = c.requires in
     let h = p.by_index c.loop-k.k c.loop-k-test.true in
-     record {keys_len = p.keys_len; sorted = (p.sorted.0, omega (arith, h, c.plus-round.ensures))}
+    record { keys_len = p.keys_len; sorted = (p.sorted.0, omega (arith, h, c.plus-round.ensures)) }
 
 pub emit_faults-out-requires : goal.emit_faults-out-requires
 emit_faults-out-requires c =
@@ -27,7 +27,7 @@ emit_faults-out-requires c =
     let a = c.args in
     let l = c.loop-k in
     let x = c.span_at-span.ensures in
-     record {range = (span_range a.keys.now a.certs.now a.order.now a.n _ _ x p.sorted.0 p.keys_len.1 p.sorted.1 p.sorted.2 p.keys_len.2, p.keys_len.0); ready = round_ready _ _ _ _ _ _ _ c.plus-round.ensures _ x _ _ _ (upto_ready _ _ _ _ _ l.k _ _ l.invariant.1 _ c.loop-k-test.true p.ready)}
+    record { range = (span_range a.keys.now a.certs.now a.order.now a.n _ _ x p.sorted.0 p.keys_len.1 p.sorted.1 p.sorted.2 p.keys_len.2, p.keys_len.0); ready = round_ready _ _ _ _ _ _ _ c.plus-round.ensures _ x _ _ _ (upto_ready _ _ _ _ _ l.k _ _ l.invariant.1 _ c.loop-k-test.true p.ready) }
 
 pub loop-k-preserved : goal.loop-k-preserved
 loop-k-preserved c =

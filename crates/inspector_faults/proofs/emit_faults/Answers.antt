@@ -16,7 +16,7 @@ emit_fault-out-requires c =
     let p = c.requires in
     let l = c.loop-author in
     let h = c.loop-author-test.true in
-     record {range = p.range; n_value = cell-counts _ _ _ _ _ _ l.author _ _ h c.round_counts-counts.ensures c.count-n.ensures; ready = upto_ready _ _ _ _ _ l.author _ _ l.invariant.1 _ h p.ready}
+    record { range = p.range; n_value = cell-counts _ _ _ _ _ _ l.author _ _ h c.round_counts-counts.ensures c.count-n.ensures; ready = upto_ready _ _ _ _ _ l.author _ _ l.invariant.1 _ h p.ready }
 
 pub loop-author-preserved : goal.loop-author-preserved
 loop-author-preserved c = (search rules, upto_more _ _ _ _ _ _ _ _ c.loop-author.invariant.1 _ _ _ _ c.emit_fault-out.ensures refl refl)

@@ -6,13 +6,13 @@ use borrow.Author.Rules.{rules}
 use Rattle.inspector_signers.proofs.emit_blamed.Goals as goal
 
 pub emit_rows-then-requires : goal.emit_rows-then-requires
-emit_rows-then-requires c = let p = c.requires in let a = c.args in  record {n_in_bounds = p.n_in_bounds; ready = both_first _ _ _ (row_ids a.rows.now a.sets.now a.n a.last.0 a.signer false) _ p.fact _ refl refl}
+emit_rows-then-requires c = let p = c.requires in let a = c.args in record { n_in_bounds = p.n_in_bounds; ready = both_first _ _ _ (row_ids a.rows.now a.sets.now a.n a.last.0 a.signer false) _ p.fact _ refl refl }
 
 pub emit_points-both-requires : goal.emit_points-both-requires
 emit_points-both-requires c =
     let p = c.requires in
     let a = c.args in
-     record {m_in_bounds = p.m_in_bounds; ready = both-next _ _ _ (row_ids a.rows.now a.sets.now a.n a.last.0 a.signer false) _ p.fact _ refl refl _ _ c.emit_rows-then.ensures}
+    record { m_in_bounds = p.m_in_bounds; ready = both-next _ _ _ (row_ids a.rows.now a.sets.now a.n a.last.0 a.signer false) _ p.fact _ refl refl _ _ c.emit_rows-then.ensures }
 
 pub emit_number-from-requires : goal.emit_number-from-requires
 emit_number-from-requires c =
@@ -22,13 +22,13 @@ pub emit_rows-next-requires : goal.emit_rows-next-requires
 emit_rows-next-requires c =
     let p = c.requires in
     let a = c.args in
-     record {n_in_bounds = p.n_in_bounds; ready = both-then _ _ _ (row_ids a.rows.now a.sets.now a.n a.last.0 a.signer false) _ p.fact _ refl refl _ _ c.emit_rows-then.ensures _ _ c.emit_points-both.ensures _ _ c.emit_number-from.ensures _ refl refl}
+    record { n_in_bounds = p.n_in_bounds; ready = both-then _ _ _ (row_ids a.rows.now a.sets.now a.n a.last.0 a.signer false) _ p.fact _ refl refl _ _ c.emit_rows-then.ensures _ _ c.emit_points-both.ensures _ _ c.emit_number-from.ensures _ refl refl }
 
 pub emit_points-end-requires : goal.emit_points-end-requires
 emit_points-end-requires c =
     let p = c.requires in
     let a = c.args in
-     record {m_in_bounds = p.m_in_bounds; ready = both_last _ _ _ (row_ids a.rows.now a.sets.now a.n a.last.0 a.signer false) _ p.fact _ refl refl _ _ c.emit_rows-then.ensures _ _ c.emit_points-both.ensures _ _ c.emit_number-from.ensures _ refl refl _ _ c.emit_rows-next.ensures}
+    record { m_in_bounds = p.m_in_bounds; ready = both_last _ _ _ (row_ids a.rows.now a.sets.now a.n a.last.0 a.signer false) _ p.fact _ refl refl _ _ c.emit_rows-then.ensures _ _ c.emit_points-both.ensures _ _ c.emit_number-from.ensures _ refl refl _ _ c.emit_rows-next.ensures }
 
 pub returns : goal.returns
 returns c =

@@ -16,13 +16,13 @@ pub emit_blamed-a3-requires : goal.emit_blamed-a3-requires
 unfolding signer_of
 emit_blamed-a3-requires c =
     let p = c.requires in
-     record {m_in_bounds = p.m_in_bounds; n_in_bounds = p.n_in_bounds; fact = signer_blamed _ _ _ _ _ _ p.ready _ _ c.emit_number-a1.ensures _ _ c.emit_number-a2.ensures}
+    record { m_in_bounds = p.m_in_bounds; n_in_bounds = p.n_in_bounds; fact = signer_blamed _ _ _ _ _ _ p.ready _ _ c.emit_number-a1.ensures _ _ c.emit_number-a2.ensures }
 
 pub emit_proofs-at-requires : goal.emit_proofs-at-requires
 unfolding signer_of
 emit_proofs-at-requires c =
     let p = c.requires in
-     record {n_in_bounds = p.n_in_bounds; fact = signer_proofs _ _ _ _ _ _ p.ready _ _ c.emit_number-a1.ensures _ _ c.emit_number-a2.ensures _ _ c.emit_blamed-a3.ensures}
+    record { n_in_bounds = p.n_in_bounds; fact = signer_proofs _ _ _ _ _ _ p.ready _ _ c.emit_number-a1.ensures _ _ c.emit_number-a2.ensures _ _ c.emit_blamed-a3.ensures }
 
 pub overflow_add-result : goal.overflow_add-result
 unfolding signer_of

@@ -20,7 +20,7 @@ emit_signer-out-requires c =
     let p = c.requires in
     let l = c.loop-signer in
     let h = c.loop-signer-test.true in
-     record {m_in_bounds = p.m_in_bounds; n_in_bounds = (p.n_in_bounds.0, p.n_in_bounds.1, h); ready = passing_ready _ _ _ _ _ _ _ l.signer _ _ l.invariant.1 _ refl _ refl _ h (eq-eqb _ _ c.if-signers-signer-eq1.true) p.ready}
+    record { m_in_bounds = p.m_in_bounds; n_in_bounds = (p.n_in_bounds.0, p.n_in_bounds.1, h); ready = passing_ready _ _ _ _ _ _ _ l.signer _ _ l.invariant.1 _ refl _ refl _ h (eq-eqb _ _ c.if-signers-signer-eq1.true) p.ready }
 
 pub loop-signer-preserved : goal.loop-signer-preserved
 unfolding member

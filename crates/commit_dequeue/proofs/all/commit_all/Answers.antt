@@ -18,14 +18,14 @@ dequeue_anchor-o-requires c =
     let a = c.args in
     let l = c.loop-k in
     let g = l.invariant.2 in
-     record {order_value = g.started; anchored = going_anchored a.keys.now a.links.now a.order.now a.s a.certs.now a.lists.now a.b.now _ a.count l.cur l.certs l.from l.b l.end l.finished l.k l.invariant.2 c.loop-k-test.true; from_in_bounds = (g.listed, g.within)}
+    record { order_value = g.started; anchored = going_anchored a.keys.now a.links.now a.order.now a.s a.certs.now a.lists.now a.b.now _ a.count l.cur l.certs l.from l.b l.end l.finished l.k l.invariant.2 c.loop-k-test.true; from_in_bounds = (g.listed, g.within) }
 
 pub returns-in-Failed : goal.returns-in-Failed
 returns-in-Failed c =
     let a = c.args in
     let l = c.loop-k in
     let o = c.dequeue_anchor-o in
-     let told = going_refused a.keys.now a.links.now a.order.now a.s a.certs.now a.lists.now a.b.now _ a.count l.cur l.certs l.from l.b l.end l.finished l.k l.invariant.2 c.loop-k-test.true _ o.ensures.words o.ensures.says _ c.in-Failed.is in record {words = told.0; finished = told.1}
+    let told = going_refused a.keys.now a.links.now a.order.now a.s a.certs.now a.lists.now a.b.now _ a.count l.cur l.certs l.from l.b l.end l.finished l.k l.invariant.2 c.loop-k-test.true _ o.ensures.words o.ensures.says _ c.in-Failed.is in record { words = told.0; finished = told.1 }
 
 pub overflow_add-finished : goal.overflow_add-finished
 overflow_add-finished c = omega (arith, c.loop-k.invariant.2.number, c.requires.count_bound)
@@ -41,4 +41,4 @@ pub returns : goal.returns
 returns c =
     let a = c.args in
     let l = c.loop-k in
-     let told = going_end a.keys.now a.links.now a.order.now a.s a.certs.now a.lists.now a.b.now _ a.count l.cur l.certs l.from l.b l.end l.finished l.k l.invariant.2 (omega (arith, c.loop-k-test.false)) in record {words = told.0; finished = told.1}
+    let told = going_end a.keys.now a.links.now a.order.now a.s a.certs.now a.lists.now a.b.now _ a.count l.cur l.certs l.from l.b l.end l.finished l.k l.invariant.2 (omega (arith, c.loop-k-test.false)) in record { words = told.0; finished = told.1 }

@@ -10,7 +10,7 @@ put_record-requires c =
     let a = c.args in
     let p = c.requires in
     let (l, n) = draw_by a.s a.keys.now a.certs.now a.order.now a.lists.now a.lists_end a.marks.now a.lowest.0 (enqueued_of a.e) _ c.round_at-round.ensures _ p.drawable.0 in
-     record {listable = (l, p.drawable.1); anchor_in_bounds = (p.placed.3, p.placed.4, n, p.count_in_bounds)}
+    record { listable = (l, p.drawable.1); anchor_in_bounds = (p.placed.3, p.placed.4, n, p.count_in_bounds) }
 
 pub returns : goal.returns
 returns c =

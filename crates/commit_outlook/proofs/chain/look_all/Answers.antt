@@ -12,7 +12,7 @@ pub loop-k-init : goal.loop-k-init
 loop-k-init c =
     let a = c.args in
     let p = c.requires in
-    let records : length a.s.rounds ≡ 512 = sym (length-map a.s.rounds _) ∙ c.well_formed.0.1.1.1.1.1.1.1.1.1.1.1.1.1.1.0.1.0.1 in
+    let records : length a.s.rounds ≡ 512 = c.well_formed.0.1.1.1.1.1.1.1.1.1.1.1.1.1.1.0.1.0.1 in
     looking_first a.s a.keys.now a.links.now a.certs.now a.order.now _ a.count a.room records p.order_value p.rising
 
 pub bounds-list-k : goal.bounds-list-k
@@ -25,7 +25,7 @@ look_one-o-requires c =
     let fk : Fit a.keys.now = λ q. (c.shared_slice_known-1.given q).fits in
     let fl : Fit a.links.now = λ q. (c.shared_slice_known-2-1.given q).fits in
     let l = c.loop-k in
-     record {started = counted a.s a.keys.now a.links.now a.certs.now a.order.now fk fl p.order_value; used = (standing_used a.s a.keys.now a.links.now a.certs.now a.order.now _ fk fl l.taken l.k l.invariant.stands c.loop-k-test.true, l.invariant.stands.long)}
+    record { started = counted a.s a.keys.now a.links.now a.certs.now a.order.now fk fl p.order_value; used = (standing_used a.s a.keys.now a.links.now a.certs.now a.order.now _ fk fl l.taken l.k l.invariant.stands c.loop-k-test.true, l.invariant.stands.long) }
 
 pub returns-in-Failed : goal.returns-in-Failed
 returns-in-Failed c =

@@ -12,7 +12,7 @@ pub loop-k-init : goal.loop-k-init
 loop-k-init c =
     let a = c.args in
     let p = c.requires in
-    let records : length a.s.rounds ≡ 512 = sym (length-map a.s.rounds _) ∙ c.well_formed.0.1.1.1.1.1.1.1.1.1.1.1.1.1.1.0.1.0.1 in
+    let records : length a.s.rounds ≡ 512 = c.well_formed.0.1.1.1.1.1.1.1.1.1.1.1.1.1.1.0.1.0.1 in
     putting_first a.s a.keys.now a.links.now a.certs.now a.order.now _ a.count a.b.now records p.order_value p.rising p.count_bound.1
 
 pub bounds-list-k : goal.bounds-list-k
@@ -26,7 +26,7 @@ put_look-at-requires c =
     let fl : Fit a.links.now = λ q. (c.shared_slice_known-2-1.given q).fits in
     let l = c.loop-k in
     let more = c.loop-k-test.true in
-     record {started = counted a.s a.keys.now a.links.now a.certs.now a.order.now fk fl p.order_value; used = (standing_used a.s a.keys.now a.links.now a.certs.now a.order.now _ fk fl l.taken l.k l.invariant.stands more, l.invariant.stands.long); anchor_in_bounds = putting_room a.s a.keys.now a.links.now a.certs.now a.order.now _ a.count a.b.now fk fl l.taken l.b l.at l.k l.invariant more p.count_in_bounds}
+    record { started = counted a.s a.keys.now a.links.now a.certs.now a.order.now fk fl p.order_value; used = (standing_used a.s a.keys.now a.links.now a.certs.now a.order.now _ fk fl l.taken l.k l.invariant.stands more, l.invariant.stands.long); anchor_in_bounds = putting_room a.s a.keys.now a.links.now a.certs.now a.order.now _ a.count a.b.now fk fl l.taken l.b l.at l.k l.invariant more p.count_in_bounds }
 
 pub loop-k-preserved : goal.loop-k-preserved
 loop-k-preserved c =

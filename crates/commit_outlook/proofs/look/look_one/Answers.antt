@@ -8,7 +8,7 @@ use Rattle.commit_outlook.specs.Look.{look-round, look-tested, look_full, look-p
 use Rattle.commit_outlook.proofs.look.look_one.Goals as goal
 
 pub test_supposed-t-requires : goal.test_supposed-t-requires
-test_supposed-t-requires c = let p = c.requires in  record {started = p.started; used = p.used.0}
+test_supposed-t-requires c = let p = c.requires in record { started = p.started; used = p.used.0 }
 
 pub round_at-round-requires : goal.round_at-round-requires
 round_at-round-requires c =
@@ -27,14 +27,14 @@ returns-in-Failed c =
     let a = c.args in
     let t = c.test_supposed-t in
     let size = c.look_size-size.ensures ∙ tested-size a.s a.keys.now a.links.now (supposing a.taken.now a.certs.now) a.order.now a.e.anchor t.result t.ensures c.round_at-round.result.0 c.round_at-round.ensures in
-     record {outcome = look-tested a.s a.keys.now a.links.now (supposing a.taken.now a.certs.now) a.order.now a.e.anchor t.result t.ensures a.left _ _ size _ c.in-Failed.is; bytes = size; took = λ z. absurd (not_failed _ z)}
+    record { outcome = look-tested a.s a.keys.now a.links.now (supposing a.taken.now a.certs.now) a.order.now a.e.anchor t.result t.ensures a.left _ _ size _ c.in-Failed.is; bytes = size; took = λ z. absurd (not_failed _ z) }
 
 pub returns-then-left-size : goal.returns-then-left-size
 returns-then-left-size c =
     let a = c.args in
     let t = c.test_supposed-t in
     let size = c.look_size-size.ensures ∙ tested-size a.s a.keys.now a.links.now (supposing a.taken.now a.certs.now) a.order.now a.e.anchor t.result t.ensures c.round_at-round.result.0 c.round_at-round.ensures in
-     record {outcome = look_full a.s a.keys.now a.links.now (supposing a.taken.now a.certs.now) a.order.now a.e.anchor t.result t.ensures a.left _ _ size c.in_default.is c.if-left-size.true; bytes = size; took = λ z. absurd (not_failed _ z)}
+    record { outcome = look_full a.s a.keys.now a.links.now (supposing a.taken.now a.certs.now) a.order.now a.e.anchor t.result t.ensures a.left _ _ size c.in_default.is c.if-left-size.true; bytes = size; took = λ z. absurd (not_failed _ z) }
 
 pub take_history-requires : goal.take_history-requires
 take_history-requires c =
@@ -43,11 +43,11 @@ take_history-requires c =
     let fk : Fit a.keys.now = λ q. (c.shared_slice_known-1.given q).fits in
     let fl : Fit a.links.now = λ q. (c.shared_slice_known-2-1.given q).fits in
     let t = c.test_supposed-t in
-     record {range = tested_range a.s a.keys.now a.links.now (supposing a.taken.now a.certs.now) a.order.now a.e.anchor t.result t.ensures a.certs.now fk fl p.started p.used.0; taken_len = p.used.1}
+    record { range = tested_range a.s a.keys.now a.links.now (supposing a.taken.now a.certs.now) a.order.now a.e.anchor t.result t.ensures a.certs.now fk fl p.started p.used.0; taken_len = p.used.1 }
 
 pub returns : goal.returns
 returns c =
     let a = c.args in
     let t = c.test_supposed-t in
     let size = c.look_size-size.ensures ∙ tested-size a.s a.keys.now a.links.now (supposing a.taken.now a.certs.now) a.order.now a.e.anchor t.result t.ensures c.round_at-round.result.0 c.round_at-round.ensures in
-     record {outcome = look-pass a.s a.keys.now a.links.now (supposing a.taken.now a.certs.now) a.order.now a.e.anchor t.result t.ensures a.left _ _ size c.in_default.is c.if-left-size.false; bytes = size; took = λ z. tested_took a.s a.keys.now a.links.now (supposing a.taken.now a.certs.now) a.order.now a.e.anchor t.result t.ensures a.certs.now a.taken.now _ c.take_history.ensures}
+    record { outcome = look-pass a.s a.keys.now a.links.now (supposing a.taken.now a.certs.now) a.order.now a.e.anchor t.result t.ensures a.left _ _ size c.in_default.is c.if-left-size.false; bytes = size; took = λ z. tested_took a.s a.keys.now a.links.now (supposing a.taken.now a.certs.now) a.order.now a.e.anchor t.result t.ensures a.certs.now a.taken.now _ (c.take_history.ensures.words, c.take_history.ensures.places) }

@@ -12,7 +12,7 @@ pub overflow_add-low : goal.overflow_add-low
 overflow_add-low c = let p = c.requires.sorted.1 in let h = c.loop-k.invariant.0 in search rules
 
 pub count_round-count-requires : goal.count_round-count-requires
-count_round-count-requires c = let p = c.requires in  record {keys_len = p.keys_len; sorted = (p.sorted.0, omega (arith, p.sorted.1, c.loop-k-test.true))}
+count_round-count-requires c = let p = c.requires in record { keys_len = p.keys_len; sorted = (p.sorted.0, omega (arith, p.sorted.1, c.loop-k-test.true)) }
 
 pub put_number-next-requires : goal.put_number-next-requires
 put_number-next-requires c =
@@ -31,4 +31,4 @@ pub returns : goal.returns
 returns c =
     let l = c.loop-k in
     let a = c.args in
-     let told = counting_end _ _ _ _ _ _ _ l.b l.next l.k l.invariant.1 (a.round.0 + 1 - a.lowest.0) (omega (arith, l.invariant.0, c.loop-k-test.false)) in record {next = told.0; bytes = told.1}
+    let told = counting_end _ _ _ _ _ _ _ l.b l.next l.k l.invariant.1 (a.round.0 + 1 - a.lowest.0) (omega (arith, l.invariant.0, c.loop-k-test.false)) in record { next = told.0; bytes = told.1 }

@@ -33,7 +33,7 @@ outlook_chain-requires c =
     let h = c.chain_of-c in
     let n = walked-counts (view a.s a.keys.now a.links.now a.certs.now a.order.now) (id_of a.id) _ c.counts_as_started.ensures c.if-not-counts_as_started.false-raw in
     let g = walked-good (view a.s a.keys.now a.links.now a.certs.now a.order.now) (id_of a.id) _ c.counts_as_started.ensures c.if-not-counts_as_started.false-raw h.result h.ensures.result_value c.in_default.is in
-     record {order_value = n; rising = chain-rises a.s a.keys.now a.links.now a.certs.now a.order.now fk fl n (id_of a.id) (chain_of h.result.list h.result.count) g; count_bound = h.ensures.count_bound}
+    record { order_value = n; rising = chain-rises a.s a.keys.now a.links.now a.certs.now a.order.now fk fl n (id_of a.id) (chain_of h.result.list h.result.count) g; count_bound = h.ensures.count_bound }
 
 pub returns : goal.returns
 returns c =

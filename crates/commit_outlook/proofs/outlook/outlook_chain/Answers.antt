@@ -7,7 +7,7 @@ use borrow.Author.Rules.{rules}
 use Rattle.commit_outlook.proofs.outlook.outlook_chain.Goals as goal
 
 pub look_chain-check-requires : goal.look_chain-check-requires
-look_chain-check-requires c = let p = c.requires in  record {order_value = p.order_value; rising = p.rising; count_bound = omega (arith, p.count_bound)}
+look_chain-check-requires c = let p = c.requires in record { order_value = p.order_value; rising = p.rising; count_bound = omega (arith, p.count_bound) }
 
 pub returns-in-Failed : goal.returns-in-Failed
 returns-in-Failed c =

@@ -27,7 +27,7 @@ put_one-done-requires c =
     let is = c.plus-r.ensures in
     let t : l.k < a.round.0 + 1 - a.lowest.0 = omega (arith, c.loop-k-test.true, c.minus-rounds.ensures, c.plus-above.ensures) in
     let room = sofar_room _ _ _ _ _ _ _ _ _ p.listable.0 l.k _ _ t is l.invariant.2.0 _ _ _ _ (l.invariant.2.1.0 ∙ zero-add _) p.room in
-     record {round_listed = (round_listed _ _ _ _ _ _ _ _ _ p.listable.0 l.k _ _ t is l.invariant.2.0, p.listable.1); room = (room.0, omega (arith, room.1, l.invariant.1))}
+    record { round_listed = (round_listed _ _ _ _ _ _ _ _ _ p.listable.0 l.k _ _ t is l.invariant.2.0, p.listable.1); room = (room.0, omega (arith, room.1, l.invariant.1)) }
 
 pub loop-k-preserved : goal.loop-k-preserved
 loop-k-preserved c =

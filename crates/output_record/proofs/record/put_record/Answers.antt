@@ -17,7 +17,7 @@ put_points-requires c =
     let p = c.requires in
     let h = c.put_head-ids.ensures in
     let e = ap length h.1 ∙ written-length _ _ _ in
-     record {listable = p.listable; room = (omega (arith, p.anchor_in_bounds.2), omega (arith, p.anchor_in_bounds.2, p.anchor_in_bounds.3, h.0, e))}
+    record { listable = p.listable; room = (omega (arith, p.anchor_in_bounds.2), omega (arith, p.anchor_in_bounds.2, p.anchor_in_bounds.3, h.0, e)) }
 
 pub put_sums-requires : goal.put_sums-requires
 put_sums-requires c =

@@ -16,7 +16,7 @@ pub ranked-q-requires : goal.ranked-q-requires
 ranked-q-requires c =
     let a = c.args in
     let v = byte_small a.lists.now a.from a.n c.requires.n_in_bounds.1 (a.n - 1 - c.loop-j.j) _ (omega (arith, c.loop-j-test.true)) c.byte_at-v.ensures.0 in
-     record {run = c.requires.run.0; v_in_bounds = omega (arith, v, c.requires.run.1)}
+    record { run = c.requires.run.0; v_in_bounds = omega (arith, v, c.requires.run.1) }
 
 pub put_new-end-requires : goal.put_new-end-requires
 put_new-end-requires c =
@@ -25,7 +25,7 @@ put_new-end-requires c =
     let q = c.ranked-q.ensures in
     let l = c.loop-j.invariant in
     let room = last_room a.lists.now a.from a.n p.n_in_bounds.1 a.certs.now _ c.loop-j.j _ _ c.loop-j-test.true c.byte_at-v.ensures.0 q.value _ _ _ _ _ l.2.0 p.room in
-     record {q_bound = (omega (arith, q.upper_bound, p.n_in_bounds.4), omega (arith, q.upper_bound, p.n_in_bounds.3), p.n_in_bounds.2, p.n_in_bounds.5); room = (room.0, omega (arith, room.1, l.1))}
+    record { q_bound = (omega (arith, q.upper_bound, p.n_in_bounds.4), omega (arith, q.upper_bound, p.n_in_bounds.3), p.n_in_bounds.2, p.n_in_bounds.5); room = (room.0, omega (arith, room.1, l.1)) }
 
 pub loop-j-preserved : goal.loop-j-preserved
 loop-j-preserved c =

@@ -1,0 +1,49 @@
+use Prim.Native.Nat.{ℕ, ◌≤◌}
+use mathlib.Core.Path.{◌≡◌}
+use native.Mathlib.Omega.{arith}
+use Rattle.models.specs.Digest.{Fit}
+use Rattle.inspector_inspect.specs.Filled.{positions_ready, trusted_ready, trusted_here}
+use Rattle.inspector_inspect.specs.Report.{is_reported}
+use borrow.Author.Rules.{rules}
+use Rattle.inspector_inspect.proofs.round.report.Goals as goal
+
+-- the rows stay as many
+room : (n m : ℕ) → m ≡ n → 1_408 ≤ n → 1_408 ≤ m
+room n m e h = omega arith
+
+pub span_at-span-requires : goal.span_at-span-requires
+span_at-span-requires c =
+    let a = c.args in
+    let p = c.requires in
+    let fk : Fit a.keys.now = λ i. (c.shared_slice_known-1.given i).fits in
+    let fl : Fit a.links.now = λ i. (c.shared_slice_known-2-1.given i).fits in
+     let told = positions_ready a.s a.keys.now a.links.now a.certs.now a.order.now fk fl p.order_value a.round.0 p.round_bound.0 in record {keys_len = told.0; sorted = told.1}
+
+pub trusted_places-trusted-requires : goal.trusted_places-trusted-requires
+trusted_places-trusted-requires c =
+    let a = c.args in
+    let p = c.requires in
+    let fk : Fit a.keys.now = λ i. (c.shared_slice_known-1.given i).fits in
+    let fl : Fit a.links.now = λ i. (c.shared_slice_known-2-1.given i).fits in
+     let told = trusted_ready a.s a.keys.now a.links.now a.certs.now a.order.now fk fl p.order_value a.round.0 c.span_at-span.result c.span_at-span.ensures in record {range = told.0; keys_len = told.1}
+
+pub signers_at-owed-requires : goal.signers_at-owed-requires
+signers_at-owed-requires c =
+    let a = c.args in
+    let p = c.requires in
+    let fk : Fit a.keys.now = λ i. (c.shared_slice_known-1.given i).fits in
+    let fl : Fit a.links.now = λ i. (c.shared_slice_known-2-1.given i).fits in
+    let x = c.span_at-span in
+    let y = c.trusted_places-trusted in
+     record {order_value = p.order_value; listed = trusted_here a.s a.keys.now a.links.now a.certs.now a.order.now fk fl p.order_value a.round.0 x.result x.ensures y.result.places y.result.count y.ensures; rows_before = (c.fill_before-n.ensures, room _ _ c.rows-1.given p.round_bound.1)}
+
+pub returns : goal.returns
+returns c =
+    let a = c.args in
+    let p = c.requires in
+    let fk : Fit a.keys.now = λ i. (c.shared_slice_known-1.given i).fits in
+    let fl : Fit a.links.now = λ i. (c.shared_slice_known-2-1.given i).fits in
+    let x = c.span_at-span in
+    let y = c.trusted_places-trusted in
+    is_reported a.s a.keys.now a.links.now a.certs.now a.order.now a.round.0 _ _ (room _ _ c.rows-1.given p.round_bound.1) c.fill_before-n.ensures
+    (trusted_here a.s a.keys.now a.links.now a.certs.now a.order.now fk fl p.order_value a.round.0 x.result x.ensures y.result.places y.result.count y.ensures) c.signers_at-owed.ensures
