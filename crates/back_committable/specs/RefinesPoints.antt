@@ -42,6 +42,7 @@ use Rattle.back_history.specs.RefinesNeeded.{low_of, high_of, marks_of, used_poi
 use Rattle.back_history.specs.Refines.{ids_rise}
 use Rattle.back_committable.specs.Scan.{First, Earlier, first_is}
 use Rattle.back_committable.specs.ModelPoints.{committable_of, fault_of, fault_at, faulty, faulty_at, round_of, first_fault, found_fault}
+
 -- ---- one point
 
 -- ---- the points in the order of the tests

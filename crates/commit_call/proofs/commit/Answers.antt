@@ -3,7 +3,6 @@ use Rattle.models.specs.Parts.{id_of}
 use Rattle.tables_test.specs.View.{view}
 use Rattle.back_chain.specs.Walked.{walked_no, walked-counts, walked-bad, walked-good, chain-rises}
 use Rattle.commit_call.specs.Commit.{says_refused, says_ended}
-use borrow.Author.Rules.{rules}
 use Rattle.commit_call.proofs.commit.Goals as goal
 
 pub returns-then-not-counts_as_started : goal.returns-then-not-counts_as_started
@@ -29,7 +28,7 @@ commit_chain-requires c =
     let fl : Fit a.links.now = λ p. (c.shared_slice_known-2-1.given p).fits in
     let h = c.chain_of-c in
     let n = walked-counts (view a.s a.keys.now a.links.now a.certs.now a.order.now) (id_of a.id) _ c.counts_as_started.ensures c.if-not-counts_as_started.false-raw in
-     record {order_value = n; rising = chain-rises a.s a.keys.now a.links.now a.certs.now a.order.now fk fl n (id_of a.id) _ (walked-good (view a.s a.keys.now a.links.now a.certs.now a.order.now) (id_of a.id) _ c.counts_as_started.ensures c.if-not-counts_as_started.false-raw h.result h.ensures.result_value c.in_default.is); count_bound = h.ensures.count_bound}
+    record { order_value = n; rising = chain-rises a.s a.keys.now a.links.now a.certs.now a.order.now fk fl n (id_of a.id) _ (walked-good (view a.s a.keys.now a.links.now a.certs.now a.order.now) (id_of a.id) _ c.counts_as_started.ensures c.if-not-counts_as_started.false-raw h.result h.ensures.result_value c.in_default.is); count_bound = h.ensures.count_bound }
 
 pub returns : goal.returns
 returns c =

@@ -1,10 +1,9 @@
 use native.Mathlib.Omega.{arith}
 use Rattle.commit_call.specs.Commit.{ended_by}
-use borrow.Author.Rules.{rules}
 use Rattle.commit_call.proofs.commit_chain.Goals as goal
 
 pub commit_all-all-requires : goal.commit_all-all-requires
-commit_all-all-requires c = let p = c.requires in  record {order_value = p.order_value; rising = p.rising; count_bound = omega (arith, p.count_bound)}
+commit_all-all-requires c = let p = c.requires in record { order_value = p.order_value; rising = p.rising; count_bound = omega (arith, p.count_bound) }
 
 pub returns : goal.returns
 returns c =

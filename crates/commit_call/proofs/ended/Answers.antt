@@ -1,5 +1,4 @@
 use Rattle.commit_call.specs.Commit.{answer_from, ended-by_check}
-use borrow.Author.Rules.{rules}
 use Rattle.commit_call.proofs.ended.Goals as goal
 
 pub returns-in-Passed : goal.returns-in-Passed

@@ -9,7 +9,7 @@ span_at-span-requires c =
     let p = c.requires in
     let fk : Fit a.keys.now = λ i. (c.shared_slice_known-1.given i).fits in
     let fl : Fit a.links.now = λ i. (c.shared_slice_known-2-1.given i).fits in
-     let told = positions_ready a.s a.keys.now a.links.now a.certs.now a.order.now fk fl p.order_value a.round.0 p.round_bound.0 in record {keys_len = told.0; sorted = told.1}
+    let told = positions_ready a.s a.keys.now a.links.now a.certs.now a.order.now fk fl p.order_value a.round.0 p.round_bound.0 in record { keys_len = told.0; sorted = told.1 }
 
 pub trusted_places-trusted-requires : goal.trusted_places-trusted-requires
 trusted_places-trusted-requires c =
@@ -17,7 +17,7 @@ trusted_places-trusted-requires c =
     let p = c.requires in
     let fk : Fit a.keys.now = λ i. (c.shared_slice_known-1.given i).fits in
     let fl : Fit a.links.now = λ i. (c.shared_slice_known-2-1.given i).fits in
-     let told = trusted_ready a.s a.keys.now a.links.now a.certs.now a.order.now fk fl p.order_value a.round.0 c.span_at-span.result c.span_at-span.ensures in record {range = told.0; keys_len = told.1}
+    let told = trusted_ready a.s a.keys.now a.links.now a.certs.now a.order.now fk fl p.order_value a.round.0 c.span_at-span.result c.span_at-span.ensures in record { range = told.0; keys_len = told.1 }
 
 pub must_reference-requires : goal.must_reference-requires
 must_reference-requires c =
@@ -27,7 +27,7 @@ must_reference-requires c =
     let fl : Fit a.links.now = λ i. (c.shared_slice_known-2-1.given i).fits in
     let x = c.span_at-span in
     let y = c.trusted_places-trusted in
-     let told = must_ready a.s a.keys.now a.links.now a.certs.now a.order.now fk fl p.order_value a.round.0 y.result.places y.result.count (trusted_here a.s a.keys.now a.links.now a.certs.now a.order.now fk fl p.order_value a.round.0 x.result x.ensures y.result.places y.result.count y.ensures) a.rows.now p.round_bound.1 in record {n_in_bounds = told.0; by_index = told.1}
+    let told = must_ready a.s a.keys.now a.links.now a.certs.now a.order.now fk fl p.order_value a.round.0 y.result.places y.result.count (trusted_here a.s a.keys.now a.links.now a.certs.now a.order.now fk fl p.order_value a.round.0 x.result x.ensures y.result.places y.result.count y.ensures) a.rows.now p.round_bound.1 in record { n_in_bounds = told.0; by_index = told.1 }
 
 pub returns : goal.returns
 returns c =

@@ -11,7 +11,7 @@ span_at-span-requires c =
     let p = c.requires in
     let fk : Fit a.keys.now = λ i. (c.shared_slice_known-1.given i).fits in
     let fl : Fit a.links.now = λ i. (c.shared_slice_known-2-1.given i).fits in
-     let told = positions_ready a.s a.keys.now a.links.now a.certs.now a.order.now fk fl p.order_value a.round.0 (retained_low a.s a.keys.now a.links.now a.certs.now a.order.now fk fl p.order_value a.round.0 p.bottom_le_round.1) in record {keys_len = told.0; sorted = told.1}
+    let told = positions_ready a.s a.keys.now a.links.now a.certs.now a.order.now fk fl p.order_value a.round.0 (retained_low a.s a.keys.now a.links.now a.certs.now a.order.now fk fl p.order_value a.round.0 p.bottom_le_round.1) in record { keys_len = told.0; sorted = told.1 }
 
 pub round_counts-counts-requires : goal.round_counts-counts-requires
 round_counts-counts-requires c =
@@ -20,7 +20,7 @@ round_counts-counts-requires c =
     let fk : Fit a.keys.now = λ i. (c.shared_slice_known-1.given i).fits in
     let fl : Fit a.links.now = λ i. (c.shared_slice_known-2-1.given i).fits in
     let (x, y) = trusted_ready a.s a.keys.now a.links.now a.certs.now a.order.now fk fl p.order_value a.round.0 c.span_at-span.result c.span_at-span.ensures in
-     record {range = x; keys_len = y.0}
+    record { range = x; keys_len = y.0 }
 
 pub returns : goal.returns
 unfolding record_of

@@ -17,7 +17,7 @@ span_at-span-requires c =
     let p = c.requires in
     let fk : Fit a.keys.now = λ i. (c.shared_slice_known-1.given i).fits in
     let fl : Fit a.links.now = λ i. (c.shared_slice_known-2-1.given i).fits in
-     let told = positions_ready a.s a.keys.now a.links.now a.certs.now a.order.now fk fl p.order_value a.round.0 p.round_bound.0 in record {keys_len = told.0; sorted = told.1}
+    let told = positions_ready a.s a.keys.now a.links.now a.certs.now a.order.now fk fl p.order_value a.round.0 p.round_bound.0 in record { keys_len = told.0; sorted = told.1 }
 
 pub trusted_places-trusted-requires : goal.trusted_places-trusted-requires
 trusted_places-trusted-requires c =
@@ -25,7 +25,7 @@ trusted_places-trusted-requires c =
     let p = c.requires in
     let fk : Fit a.keys.now = λ i. (c.shared_slice_known-1.given i).fits in
     let fl : Fit a.links.now = λ i. (c.shared_slice_known-2-1.given i).fits in
-     let told = trusted_ready a.s a.keys.now a.links.now a.certs.now a.order.now fk fl p.order_value a.round.0 c.span_at-span.result c.span_at-span.ensures in record {range = told.0; keys_len = told.1}
+    let told = trusted_ready a.s a.keys.now a.links.now a.certs.now a.order.now fk fl p.order_value a.round.0 c.span_at-span.result c.span_at-span.ensures in record { range = told.0; keys_len = told.1 }
 
 pub signers_at-owed-requires : goal.signers_at-owed-requires
 signers_at-owed-requires c =
@@ -35,7 +35,7 @@ signers_at-owed-requires c =
     let fl : Fit a.links.now = λ i. (c.shared_slice_known-2-1.given i).fits in
     let x = c.span_at-span in
     let y = c.trusted_places-trusted in
-     record {order_value = p.order_value; listed = trusted_here a.s a.keys.now a.links.now a.certs.now a.order.now fk fl p.order_value a.round.0 x.result x.ensures y.result.places y.result.count y.ensures; rows_before = (c.fill_before-n.ensures, room _ _ c.rows-1.given p.round_bound.1)}
+    record { order_value = p.order_value; listed = trusted_here a.s a.keys.now a.links.now a.certs.now a.order.now fk fl p.order_value a.round.0 x.result x.ensures y.result.places y.result.count y.ensures; rows_before = (c.fill_before-n.ensures, room _ _ c.rows-1.given p.round_bound.1) }
 
 pub returns : goal.returns
 returns c =

@@ -9,7 +9,7 @@ not_referenced-requires c =
     let p = c.requires in
     let fk : Fit a.keys.now = λ i. (c.shared_slice_known-1.given i).fits in
     let fl : Fit a.links.now = λ i. (c.shared_slice_known-2-1.given i).fits in
-     let told = owed_ready a.s a.keys.now a.links.now a.certs.now a.order.now fk fl p.order_value a.round.0 a.places.now a.m p.listed a.rows.now a.n p.rows_before.0 p.rows_before.1 in record {m_in_bounds = told.0; by_index = told.1.0; by_index_2 = told.1.1}
+    let told = owed_ready a.s a.keys.now a.links.now a.certs.now a.order.now fk fl p.order_value a.round.0 a.places.now a.m p.listed a.rows.now a.n p.rows_before.0 p.rows_before.1 in record { m_in_bounds = told.0; by_index = told.1.0; by_index_2 = told.1.1 }
 
 pub returns : goal.returns
 returns c =
