@@ -13,7 +13,6 @@ use borrow.Author.Tests.{eq-eqb, ne_eqb, ltb-true, leb-true}
 use Rattle.laws.specs.Test.{and_l}
 use Rattle.laws.specs.Lists.{keep}
 use Rattle.spec.specs.Ids.{prev}
-use Rattle.spec.specs.Store as store
 use Rattle.spec.specs.Store.{Store}
 use Rattle.spec.specs.Rules.{counts_as_started}
 use Rattle.spec.specs.Inspect.{is_trusted, places_in, round_data}

@@ -11,7 +11,6 @@ use Rattle.std.proofs.lemmas.List.{get_or-replicate}
 use Rattle.laws.specs.Test.{by_test, both, same_or, le_or, cond_yes, cond_no}
 use Rattle.laws.specs.Lists.{joined, joined-append, up_to}
 use Rattle.laws.specs.Peers.{member}
-use Rattle.spec.specs.Store as store
 use Rattle.spec.specs.Store.{Store}
 use Rattle.spec.specs.WellFormed.{Wf}
 use Rattle.spec.specs.Rules.{counts_as_started}

@@ -1,8 +1,5 @@
-use mathlib.Core.Path.{◌≡◌, sym, ◌∙◌}
-use lib.ListN.{length, length-map}
 use Rattle.models.specs.Digest.{Fit}
 use Rattle.inspector_inspect.specs.Filled.{memory_ready, memory_before, round-before}
-use borrow.Author.Rules.{rules}
 use Rattle.inspector_inspect.proofs.fill_before.Goals as goal
 
 pub rows_of-requires : goal.rows_of-requires

@@ -1,6 +1,5 @@
 use Rattle.models.specs.Digest.{Fit}
 use Rattle.inspector_inspect.specs.Filled.{positions_ready, trusted_ready, trusted_here, must_ready, round_rows_lem}
-use borrow.Author.Rules.{rules}
 use Rattle.inspector_inspect.proofs.fill_round.Goals as goal
 
 pub span_at-span-requires : goal.span_at-span-requires

@@ -1,6 +1,5 @@
 use Rattle.models.specs.Digest.{Fit}
 use Rattle.inspector_inspect.specs.After.{shown-first, genesis-fits}
-use borrow.Author.Rules.{rules}
 use Rattle.inspector_inspect.proofs.first_shown.Goals as goal
 
 pub plus-requires : goal.plus-requires

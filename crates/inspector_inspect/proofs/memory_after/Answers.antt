@@ -1,5 +1,4 @@
 use Rattle.inspector_inspect.specs.After.{memory_stays, memory_fills}
-use borrow.Author.Rules.{rules}
 use Rattle.inspector_inspect.proofs.memory_after.Goals as goal
 
 pub returns-then-low-first : goal.returns-then-low-first

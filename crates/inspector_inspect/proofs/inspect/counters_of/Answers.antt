@@ -1,6 +1,5 @@
-use Prim.Native.Nat.{◌-◌, ◌≤◌}
 use mathlib.Core.Path.{refl}
-use Rattle.inspector_inspect.specs.Inspected.{Peers, peers_none, peers_more, peers_end}
+use Rattle.inspector_inspect.specs.Inspected.{peers_none, peers_more, peers_end}
 use borrow.Author.Rules.{rules}
 use Rattle.inspector_inspect.proofs.inspect.counters_of.Goals as goal
 

@@ -1,7 +1,5 @@
 use Prim.Native.Nat.{◌-◌, ◌≤◌}
-use mathlib.Core.Path.{refl}
-use Rattle.inspector_inspect.specs.Inspected.{Peers, peers_none, peers_more, peers_end}
-use borrow.Author.Rules.{rules}
+use Rattle.inspector_inspect.specs.Inspected.{Peers}
 use Rattle.inspector_inspect.proofs.inspect.counters_of.Given as goal
 
 abbrev pub invariant-loop-a : goal.invariant-loop-a

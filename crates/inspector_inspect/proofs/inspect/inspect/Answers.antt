@@ -2,7 +2,6 @@ use mathlib.Core.Path.{refl}
 use Rattle.models.specs.Digest.{Fit}
 use Rattle.inspector_inspect.specs.Report.{send_ready}
 use Rattle.inspector_inspect.specs.Inspected.{retained_low, reported_skips, count_ready, inspected_is}
-use borrow.Author.Rules.{rules}
 use Rattle.inspector_inspect.proofs.inspect.inspect.Goals as goal
 
 pub report-x-requires : goal.report-x-requires

@@ -2,7 +2,6 @@ use Rattle.models.specs.Digest.{Fit}
 use Rattle.commit_state.specs.View.{record_of}
 use Rattle.inspector_inspect.specs.Filled.{positions_ready, trusted_ready}
 use Rattle.inspector_inspect.specs.Inspected.{retained_low, counters_are}
-use borrow.Author.Rules.{rules}
 use Rattle.inspector_inspect.proofs.inspect.round_counters.Goals as goal
 
 pub span_at-span-requires : goal.span_at-span-requires

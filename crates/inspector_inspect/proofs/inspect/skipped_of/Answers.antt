@@ -1,5 +1,4 @@
 use Rattle.inspector_inspect.specs.Inspected.{skipped_in, skipped_out}
-use borrow.Author.Rules.{rules}
 use Rattle.inspector_inspect.proofs.inspect.skipped_of.Goals as goal
 
 pub returns-then-signers-a-eq1 : goal.returns-then-signers-a-eq1

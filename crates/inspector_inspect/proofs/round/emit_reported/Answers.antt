@@ -1,6 +1,5 @@
 use Rattle.models.specs.Digest.{Fit}
 use Rattle.inspector_inspect.specs.Report.{send_ready, owed_ready, owed_told}
-use borrow.Author.Rules.{rules}
 use Rattle.inspector_inspect.proofs.round.emit_reported.Goals as goal
 
 pub emit_signers-requires : goal.emit_signers-requires

@@ -1,5 +1,4 @@
 use Rattle.inspector_inspect.specs.Owed.{last_bottom, last_above}
-use borrow.Author.Rules.{rules}
 use Rattle.inspector_inspect.proofs.round.last_before.Goals as goal
 
 pub returns-then-round-bottom : goal.returns-then-round-bottom

@@ -4,7 +4,6 @@ use native.Mathlib.Omega.{arith}
 use Rattle.models.specs.Digest.{Fit}
 use Rattle.inspector_inspect.specs.Filled.{positions_ready, trusted_ready, trusted_here}
 use Rattle.inspector_inspect.specs.Report.{is_reported}
-use borrow.Author.Rules.{rules}
 use Rattle.inspector_inspect.proofs.round.report.Goals as goal
 
 -- the rows stay as many

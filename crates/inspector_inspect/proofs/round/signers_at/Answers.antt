@@ -1,6 +1,5 @@
 use Rattle.models.specs.Digest.{Fit}
 use Rattle.inspector_inspect.specs.Owed.{owed_ready, owed_is}
-use borrow.Author.Rules.{rules}
 use Rattle.inspector_inspect.proofs.round.signers_at.Goals as goal
 
 pub not_referenced-requires : goal.not_referenced-requires

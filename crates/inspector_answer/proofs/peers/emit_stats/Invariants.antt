@@ -1,0 +1,15 @@
+use Prim.Native.Nat.{◌-◌, ◌≤◌}
+use mathlib.Core.Path.{◌∙◌}
+use native.Mathlib.Omega.{arith}
+use Rattle.laws.specs.Lists.{up_to}
+use Rattle.spec.specs.Inspect.{stats_bytes}
+use Rattle.answer_bytes.specs.Sent.{Sent, sent_length}
+use Rattle.inspector_answer.specs.Peers.{peer_of, lists-none, lists-more, lists_end, lists_open, with_ones, peers_first, peers_open, peers_sent}
+use borrow.Author.Rules.{rules}
+use Rattle.inspector_answer.proofs.peers.emit_stats.Given as goal
+
+abbrev pub invariant-loop-k : goal.invariant-loop-k
+invariant-loop-k l = (l.k ≤ 32) × Sent l.write l.initial.b l.initial.out (up_to l.k (λ a. stats_bytes a (peer_of l.stats a))) l.out l.b
+
+abbrev pub decreases-loop-k : goal.decreases-loop-k
+decreases-loop-k l = 32 - l.k

@@ -1,0 +1,14 @@
+use Prim.Native.Nat.{◌-◌, ◌≤◌}
+use mathlib.Core.Path.{◌≡◌, refl}
+use mathlib.Core.Logic.{⊎_elim}
+use native.Mathlib.Omega.{arith}
+use Rattle.inspector_references.specs.Sets.{union_none, union_end}
+use Rattle.inspector_answer.specs.Peers.{with_stats_to, with_stats, with_yes, with_no}
+use borrow.Author.Rules.{rules}
+use Rattle.inspector_answer.proofs.peers.peers_with_stats.Given as goal
+
+abbrev pub invariant-loop-k : goal.invariant-loop-k
+invariant-loop-k l = (l.k ≤ 32) × (l.peers ≡ with_stats_to l.stats l.k)
+
+abbrev pub decreases-loop-k : goal.decreases-loop-k
+decreases-loop-k l = 32 - l.k
