@@ -9,7 +9,6 @@ use Rattle.std.specs.Int.Count.{ones}
 use Rattle.laws.specs.Bytes.{be, be-length}
 use Rattle.laws.specs.Lists.{joined, up_to}
 use Rattle.laws.specs.Scan.{those}
-use Rattle.spec.specs.Inspect as inspect
 use Rattle.spec.specs.Inspect.{Counters, Stats, counter_list, score, stats_bytes, is_some}
 use Rattle.stats.specs.Counters.{counters_of}
 use Rattle.stats.specs.PeerStats.{stats_of, no_stats}

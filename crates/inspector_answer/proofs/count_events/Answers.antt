@@ -2,7 +2,6 @@ use mathlib.Core.Path.{refl}
 use native.Mathlib.Omega.{arith}
 use Rattle.models.specs.Digest.{Fit}
 use Rattle.inspector_answer.specs.Answer.{count_ready, sums_fit, events-counted}
-use borrow.Author.Rules.{rules}
 use Rattle.inspector_answer.proofs.count_events.Goals as goal
 
 pub emit_all_faults-faults-requires : goal.emit_all_faults-faults-requires
@@ -11,7 +10,7 @@ emit_all_faults-faults-requires c =
     let p = c.requires in
     let fk : Fit a.keys.now = λ i. (c.shared_slice_known-1.given i).fits in
     let fl : Fit a.links.now = λ i. (c.shared_slice_known-2-1.given i).fits in
-     record {order_value = p.order_value; first_value = p.first_value; ready = count_ready a.s a.keys.now a.links.now a.certs.now a.order.now fk fl p.order_value a.low.0 p.first_value.1 _ _ refl refl}
+    record { order_value = p.order_value; first_value = p.first_value; ready = count_ready a.s a.keys.now a.links.now a.certs.now a.order.now fk fl p.order_value a.low.0 p.first_value.1 _ _ refl refl }
 
 pub overflow_add-result : goal.overflow_add-result
 overflow_add-result c =

@@ -1,7 +1,6 @@
 use mathlib.Core.Path.{refl}
 use Rattle.models.specs.Digest.{Fit}
 use Rattle.inspector_answer.specs.Answer.{head_length, head_fits, answer-faults, answer_owed, answer-written}
-use borrow.Author.Rules.{rules}
 use Rattle.inspector_answer.proofs.emit_answer.Goals as goal
 
 pub emit_head-at-requires : goal.emit_head-at-requires
@@ -14,7 +13,7 @@ emit_all_faults-faults-requires c =
     let fk : Fit a.keys.now = λ i. (c.shared_slice_known-1.given i).fits in
     let fl : Fit a.links.now = λ i. (c.shared_slice_known-2-1.given i).fits in
     let q = p.first_value in
-     record {order_value = p.order_value; first_value = q; ready = answer-faults a.s a.keys.now a.links.now a.certs.now a.order.now fk fl p.order_value a.low.0 q.1 _ _ (head_length _ _) p.low_in_bounds _ _ c.emit_head-at.ensures _ refl refl}
+    record { order_value = p.order_value; first_value = q; ready = answer-faults a.s a.keys.now a.links.now a.certs.now a.order.now fk fl p.order_value a.low.0 q.1 _ _ (head_length _ _) p.low_in_bounds _ _ c.emit_head-at.ensures _ refl refl }
 
 pub emit_signer_rounds-requires : goal.emit_signer_rounds-requires
 emit_signer_rounds-requires c =
@@ -23,7 +22,7 @@ emit_signer_rounds-requires c =
     let fk : Fit a.keys.now = λ i. (c.shared_slice_known-1.given i).fits in
     let fl : Fit a.links.now = λ i. (c.shared_slice_known-2-1.given i).fits in
     let q = p.first_value in
-     record {order_value = p.order_value; first_value = q; signers_hold = p.signers_hold; ready = answer_owed a.s a.keys.now a.links.now a.certs.now a.order.now fk fl p.order_value a.low.0 q.1 _ _ (head_length _ _) p.low_in_bounds _ _ c.emit_head-at.ensures _ refl refl _ _ c.emit_all_faults-faults.ensures}
+    record { order_value = p.order_value; first_value = q; signers_hold = p.signers_hold; ready = answer_owed a.s a.keys.now a.links.now a.certs.now a.order.now fk fl p.order_value a.low.0 q.1 _ _ (head_length _ _) p.low_in_bounds _ _ c.emit_head-at.ensures _ refl refl _ _ c.emit_all_faults-faults.ensures }
 
 pub returns : goal.returns
 returns c =

@@ -1,6 +1,5 @@
 use native.Mathlib.Omega.{arith}
 use Rattle.inspector_answer.specs.Answer.{head_peers, head_number, head_sent}
-use borrow.Author.Rules.{rules}
 use Rattle.inspector_answer.proofs.emit_head.Goals as goal
 
 pub emit_stats-at-requires : goal.emit_stats-at-requires

@@ -1,9 +1,5 @@
-use Prim.Native.Nat.{◌-◌, ◌≤◌}
 use native.Mathlib.Omega.{arith}
-use lib.ListN.{get_or}
-use Rattle.laws.specs.Bytes.{be, be-length}
-use Rattle.laws.specs.Lists.{up_to}
-use Rattle.answer_bytes.specs.Sent.{Sent, sent_length}
+use Rattle.laws.specs.Bytes.{be-length}
 use Rattle.inspector_events.specs.Told.{open_all}
 use Rattle.inspector_answer.specs.Peers.{lists-none, lists-more, lists_end, lists_open, counters_open, counters_sent}
 use borrow.Author.Rules.{rules}

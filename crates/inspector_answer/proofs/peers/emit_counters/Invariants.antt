@@ -1,12 +1,8 @@
 use Prim.Native.Nat.{◌-◌, ◌≤◌}
-use native.Mathlib.Omega.{arith}
 use lib.ListN.{get_or}
-use Rattle.laws.specs.Bytes.{be, be-length}
+use Rattle.laws.specs.Bytes.{be}
 use Rattle.laws.specs.Lists.{up_to}
-use Rattle.answer_bytes.specs.Sent.{Sent, sent_length}
-use Rattle.inspector_events.specs.Told.{open_all}
-use Rattle.inspector_answer.specs.Peers.{lists-none, lists-more, lists_end, lists_open, counters_open, counters_sent}
-use borrow.Author.Rules.{rules}
+use Rattle.answer_bytes.specs.Sent.{Sent}
 use Rattle.inspector_answer.proofs.peers.emit_counters.Given as goal
 
 abbrev pub invariant-loop-k : goal.invariant-loop-k

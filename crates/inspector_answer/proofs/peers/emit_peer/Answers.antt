@@ -1,6 +1,5 @@
 use native.Mathlib.Omega.{arith}
 use Rattle.inspector_answer.specs.Peers.{peer-none, peer-number, peer-first, peer_last, peer_counters, peer-score, peer_sent}
-use borrow.Author.Rules.{rules}
 use Rattle.inspector_answer.proofs.peers.emit_peer.Goals as goal
 
 pub returns-then-stats-eq0 : goal.returns-then-stats-eq0

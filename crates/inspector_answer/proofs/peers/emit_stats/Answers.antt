@@ -1,10 +1,5 @@
-use Prim.Native.Nat.{◌-◌, ◌≤◌}
-use mathlib.Core.Path.{◌∙◌}
 use native.Mathlib.Omega.{arith}
-use Rattle.laws.specs.Lists.{up_to}
-use Rattle.spec.specs.Inspect.{stats_bytes}
-use Rattle.answer_bytes.specs.Sent.{Sent, sent_length}
-use Rattle.inspector_answer.specs.Peers.{peer_of, lists-none, lists-more, lists_end, lists_open, with_ones, peers_first, peers_open, peers_sent}
+use Rattle.inspector_answer.specs.Peers.{lists-none, lists-more, lists_end, lists_open, with_ones, peers_first, peers_open, peers_sent}
 use borrow.Author.Rules.{rules}
 use Rattle.inspector_answer.proofs.peers.emit_stats.Goals as goal
 

@@ -1,9 +1,6 @@
-use Prim.Native.Nat.{◌-◌, ◌≤◌}
-use mathlib.Core.Path.{◌≡◌, refl}
-use mathlib.Core.Logic.{⊎_elim}
-use native.Mathlib.Omega.{arith}
+use mathlib.Core.Path.{refl}
 use Rattle.inspector_references.specs.Sets.{union_none, union_end}
-use Rattle.inspector_answer.specs.Peers.{with_stats_to, with_stats, with_yes, with_no}
+use Rattle.inspector_answer.specs.Peers.{with_stats, with_yes, with_no}
 use borrow.Author.Rules.{rules}
 use Rattle.inspector_answer.proofs.peers.peers_with_stats.Goals as goal
 use Rattle.inspector_answer.proofs.peers.peers_with_stats.Goals.{then-peer-ne0, else-peer-ne0}
@@ -15,7 +12,7 @@ pub loop-k-preserved : goal.loop-k-preserved
 loop-k-preserved c =
     let l = c.args.stats in
     let h = c.loop-k.invariant.1 in
-    elim c.if-peer-ne0.branch [ then-peer-ne0 w ↦ (search rules, with_yes l _ _ _ h _ w.if-peer-ne0.true refl c.loop-k-test.true w.1) | else-peer-ne0 w ↦ (search rules, with_no l _ _ _ h w.if-peer-ne0.false w.1) ]
+    elim c.if-peer-ne0.branch [ then-peer-ne0 w ↦ (search rules, with_yes l _ _ _ h _ w.if-peer-ne0.true refl c.loop-k-test.true w.peers-is) | else-peer-ne0 w ↦ (search rules, with_no l _ _ _ h w.if-peer-ne0.false w.peers-is) ]
 
 pub returns : goal.returns
 unfolding with_stats

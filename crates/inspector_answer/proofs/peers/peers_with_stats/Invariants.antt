@@ -1,10 +1,6 @@
 use Prim.Native.Nat.{◌-◌, ◌≤◌}
-use mathlib.Core.Path.{◌≡◌, refl}
-use mathlib.Core.Logic.{⊎_elim}
-use native.Mathlib.Omega.{arith}
-use Rattle.inspector_references.specs.Sets.{union_none, union_end}
-use Rattle.inspector_answer.specs.Peers.{with_stats_to, with_stats, with_yes, with_no}
-use borrow.Author.Rules.{rules}
+use mathlib.Core.Path.{◌≡◌}
+use Rattle.inspector_answer.specs.Peers.{with_stats_to}
 use Rattle.inspector_answer.proofs.peers.peers_with_stats.Given as goal
 
 abbrev pub invariant-loop-k : goal.invariant-loop-k
