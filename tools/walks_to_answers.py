@@ -299,7 +299,7 @@ def convert(path):
             invariants.append((cc, rn, cn, text))
         else:
             helpers.append((cc, cn, cs, text))
-    uses = [u for u in cuses if not re.search(r"\.(Statement|Tie|Reads|Lts)\b", u)]
+    uses = [u for u in cuses if not re.search(r"\.proofs\..*\.(Statement|Tie|Reads|Lts)\b", u)]
     module = f"Rattle.{crate}.proofs." + fn_path.replace("/", ".")
     if invariants:
         out = list(uses) + [f"use {module}.Given as goal", ""]
