@@ -8,6 +8,6 @@ pub mod counters;
 pub mod generator;
 pub mod points;
 pub mod reach;
+pub mod records;
 pub mod rounds;
-pub mod trace;
 pub mod version;
