@@ -1,7 +1,7 @@
-pub mod Code
-pub mod Told
-pub mod Skipped
-pub mod Recorded
-pub mod Played
-pub mod Lines
-pub mod Whole
+pub mod CodeLaws
+pub mod ToldLaws
+pub mod SkippedLaws
+pub mod RecordedLaws
+pub mod PlayedLaws
+pub mod LinesLaws
+pub mod WholeLaws

@@ -18,9 +18,9 @@ use Rattle.play_calls.specs.Calls.{takes_buffer}
 use Rattle.play.specs.Runs.{Runs, none_yet, one_more}
 use Rattle.demand.specs.Code.{Made, outcome, calls_of}
 use Rattle.demand.specs.Recorded.{made_in, made_by, code_known}
-use Rattle.demand.proofs.Recorded.{calls_append}
+use Rattle.demand.proofs.RecordedLaws.{calls_append}
 use Rattle.demand.specs.Played.{Ended}
-use Rattle.demand.proofs.Played.{whole_read, run_after, made_done}
+use Rattle.demand.proofs.PlayedLaws.{whole_read, run_after, made_done}
 use Rattle.demand.specs.Lines.{output, output_text}
 
 -- ---- one call

@@ -20,7 +20,7 @@ use Rattle.tables_test.specs.Whole.{sized}
 use Rattle.tables_test.specs.Refines.{counted}
 use Rattle.commit_answer.specs.Answer.{Tables, view_of, answer_of}
 use Rattle.demand.specs.Code.{Made}
-use Rattle.demand.proofs.Code.{answer_is, buffer_is, store_is, made_is}
+use Rattle.demand.proofs.CodeLaws.{answer_is, buffer_is, store_is, made_is}
 use Rattle.demand.specs.Told.{CountsAgree, ListsTold, NoRoomAtMost}
 
 -- ---- the proofs

@@ -21,9 +21,9 @@ use Rattle.trace.proofs.ReadBack.{trace_more, trace_end}
 use Rattle.trace.proofs.WriteBack.{AllBytes, bytes-part}
 use Rattle.play.specs.Runs.{Runs, none_yet, one_more}
 use Rattle.demand.specs.Code.{Made, outcome, calls_of}
-use Rattle.demand.proofs.Code.{last_is}
+use Rattle.demand.proofs.CodeLaws.{last_is}
 use Rattle.demand.specs.Recorded.{made_in, NoReset, AllFit}
-use Rattle.demand.proofs.Recorded.{run_chained, calls_append, bytes_fit, part_in}
+use Rattle.demand.proofs.RecordedLaws.{run_chained, calls_append, bytes_fit, part_in}
 use Rattle.demand.specs.Played.{call_at, prepend, Ended, EachTraced}
 
 reads : (a b c d : Bool) (f : Found) → ◌≡◌ {A = ℕ} (cond a (cond b (cond c (cond d 0 26) 27) 27) 26) 0 → refuse (not a) 26 (refuse (not (b && c)) 27 (refuse (not d) 26 (good f))) ≡ good f

@@ -17,7 +17,7 @@ use Rattle.commit_answer.specs.Answer.{Tables, view_of, Left, outcome_of, answer
 use Rattle.commit_answer.specs.declared.answer.Answer.TheVariants.{Anchors}
 use Rattle.commit_call.specs.Commit.{commit_left, tables_after, tables-append, tables-left}
 use Rattle.demand.specs.Told.{OnTables}
-use Rattle.demand.proofs.Told.{size}
+use Rattle.demand.proofs.ToldLaws.{size}
 use Rattle.demand.specs.Skipped.{Commits, SkippedIf, Skipped, SkippedInRow}
 
 -- ---- the proof

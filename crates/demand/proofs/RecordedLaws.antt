@@ -24,7 +24,7 @@ use Rattle.play_calls.specs.Calls.{takes_buffer, model_by}
 use Rattle.play.specs.Plays.{Plays, PlaysAt, plays_good}
 use Rattle.play.specs.Runs.{Runs, none_yet, one_more}
 use Rattle.demand.specs.Code.{Made, Chained, last_tables, calls_of, histories_in, resolutions_in, AllSaid, EachRecord}
-use Rattle.demand.proofs.Code.{demand_3_of_code, sums_of_code, links_of_code}
+use Rattle.demand.proofs.CodeLaws.{demand_3_of_code, sums_of_code, links_of_code}
 use Rattle.demand.specs.Recorded.{left_by, made_in, Each, NoReset, CommitAt, DigestFits, AllFit, EachOf}
 
 -- ---- what holds of each

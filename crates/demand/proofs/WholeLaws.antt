@@ -10,9 +10,9 @@ use Rattle.lines.specs.Lines.{last_line, end_lines, text}
 use Rattle.play.specs.Runs.{Runs, none_yet, runs_on}
 use Rattle.play_input.specs.Fed.{Fed}
 use Rattle.demand.specs.Played.{Ended}
-use Rattle.demand.proofs.Played.{whole_read, run_after}
+use Rattle.demand.proofs.PlayedLaws.{whole_read, run_after}
 use Rattle.demand.specs.Lines.{output_text}
-use Rattle.demand.proofs.Lines.{whole_text}
+use Rattle.demand.proofs.LinesLaws.{whole_text}
 use Rattle.demand.specs.Whole.{Played}
 
 -- The play has ended; es: what stands in the input behind all that was read, nothing if the input ended with it
