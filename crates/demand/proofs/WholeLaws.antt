@@ -13,10 +13,10 @@ use Rattle.demand.specs.Played.{Ended}
 use Rattle.demand.proofs.PlayedLaws.{whole_read, run_after}
 use Rattle.demand.specs.Lines.{output_text}
 use Rattle.demand.proofs.LinesLaws.{whole_text}
-use Rattle.demand.specs.Whole.{Played}
+use Rattle.demand.specs.Whole.{Played, NothingBehind}
 
 -- The play has ended; es: what stands in the input behind all that was read, nothing if the input ended with it
-module _ (room : List ℕ) (size : ℕ) (b c : Tables) (base code : ℕ) (rest : List ℕ) (f : Fed false room size [] 0 b c base code false rest) (es : List ℕ) (none : f.last ≡ true → es ≡ []) where
+module _ (room : List ℕ) (size : ℕ) (b c : Tables) (base code : ℕ) (rest : List ℕ) (f : Fed false room size [] 0 b c base code false rest) (es : List ℕ) (none : NothingBehind f.last es) where
   abbrev whole : List ℕ
   whole = f.read ++ es
 

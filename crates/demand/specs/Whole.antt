@@ -12,6 +12,10 @@ use Rattle.play_input.specs.Fed.{Fed}
 use Rattle.demand.specs.Played.{Ended}
 use Rattle.demand.specs.Lines.{output_text}
 
+-- nothing stands in the input behind all that was read, if the input ended with it
+abbrev pub NothingBehind : Bool → List ℕ → Type 0
+NothingBehind last es = last ≡ true → es ≡ []
+
 -- Of the bytes bs of an input: they are a trace that ended as the program says; the store is the one after its calls, "made directly"; and the bytes of
 -- the lines, with those at the end, are the whole output of that trace
 pub record Played (room bs : List ℕ) (b c : Tables) (said : List ℕ) (code : ℕ) : Type 0 where

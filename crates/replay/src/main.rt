@@ -66,6 +66,7 @@ fn has_argument(env: &impl Env, i: usize) -> bool {
 }
 
 // The number of places asked for. An argument longer than the text is read as an empty one, which is no number.
+#[tactic(auto, using(crate::specs::Places::places_low))]
 fn places_asked(env: &impl Env) -> usize
     ensures { result ≤ most_places }
 {

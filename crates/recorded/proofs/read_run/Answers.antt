@@ -1,0 +1,7 @@
+use mathlib.Core.Path.{sym}
+use lib.Seq.{length-take-le}
+use borrow.Author.Rules.{rules}
+use Rattle.recorded.proofs.read_run.Goals as goal
+
+pub slice_bounds-read_full-end-2 : goal.slice_bounds-read_full-end-2
+slice_bounds-read_full-end-2 c = sym (length-take-le _ _ c.if-input-n.false)
