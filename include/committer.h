@@ -71,7 +71,7 @@ extern "C" {
 /* ---- platform */
 
 /*
- * The library is one ELF object for x86-64 with the System V calling convention; `.ci/build` writes no other. It has some 53 KB of
+ * The library is one ELF object for x86-64 with the System V calling convention; `.ci/build` writes no other. It has some 45 KB of
  * position-independent code and constants, and no variables. It uses SSE2, which must be enabled, and nothing beyond it.
  *
  * It needs from outside: memcpy, memset.
@@ -80,7 +80,7 @@ extern "C" {
  * Interrupts: a call may be interrupted, and the handler may make calls on a state and tables of its own. What the interrupted call was
  * lent it may not change, nor read where that call changes it. It saves the registers that it changes, those of SSE2 too. It may run on the
  * same stack, 128 bytes below the stack pointer if it may interrupt one of the functions that use those bytes, as the convention allows.
- * It keeps something below the stack pointer in: back_walk::ready_valid_point, committer_write_resolve, info_checks::any_dangling, info_store::put_links.
+ * It keeps something below the stack pointer in: committer_write_resolve.
  *
  * Power cuts: a call isn't atomic. It changes the tables word by word, and the state that goes with them is in its reply. Tables that a
  * call left halfway, with the state that it was given, may be refused with 2, but may pass the tests as well: after a name one point may
@@ -697,17 +697,17 @@ committer_reach committer_reach_of(
  * The bytes of stack that a call takes at most, beside its arguments and its reply, which the caller holds: a state and a reply of some
  * 15 KB each. Measured from the library as built for x86-64 (host/check.sh compares).
  */
-#define COMMITTER_STACK_START 86000u
-#define COMMITTER_STACK_RESET 55000u
-#define COMMITTER_STACK_ROUND 71000u
-#define COMMITTER_STACK_GAP 55000u
+#define COMMITTER_STACK_START 74000u
+#define COMMITTER_STACK_RESET 62000u
+#define COMMITTER_STACK_ROUND 82000u
+#define COMMITTER_STACK_GAP 67000u
 #define COMMITTER_STACK_NAME 71000u
-#define COMMITTER_STACK_RESOLVE 83000u
-#define COMMITTER_STACK_CERTIFY 71000u
-#define COMMITTER_STACK_DROP 55000u
-#define COMMITTER_STACK_COMMIT 241000u
-#define COMMITTER_STACK_OUTLOOK 148000u
-#define COMMITTER_STACK_REMOVE 178000u
+#define COMMITTER_STACK_RESOLVE 75000u
+#define COMMITTER_STACK_CERTIFY 67000u
+#define COMMITTER_STACK_DROP 67000u
+#define COMMITTER_STACK_COMMIT 235000u
+#define COMMITTER_STACK_OUTLOOK 107000u
+#define COMMITTER_STACK_REMOVE 117000u
 #define COMMITTER_STACK_MERGE 100u
 
 /* ---- calls. The numbers named are those that the call is refused with, in the order of the tests. */

@@ -19,12 +19,10 @@ pub fn put_number(b: &mut [u8], at: usize, width: usize, v: u64) -> usize
     requires { at + width ≤ length b.old }
     ensures { (result ≡ at + width) × (b.new ≡ written b.old at (be width v)) }
 {
-    let mut k = width;
     let mut x = v;
-    while 0 < k {
-        k -= 1;
+    for k in (0..width).rev() {
         b[at + k] = (x % 256) as u8;
-        x = x / 256;
+        x /= 256;
     }
     at + width
 }
@@ -34,12 +32,11 @@ pub fn put_bytes(b: &mut [u8], at: usize, bytes: &[u8]) -> usize
     requires { at + length bytes.now ≤ length b.old }
     ensures { (result ≡ at + length bytes.now) × (b.new ≡ written b.old at bytes.now) }
 {
-    let mut k: usize = 0;
-    while k < bytes.len() {
+    // No `copy_from_slice`: it is C's `memmove`, and the library needs `memcpy` and `memset` of a host and no more.
+    for k in 0..bytes.len() {
         b[at + k] = bytes[k];
-        k += 1;
     }
-    at + k
+    at + bytes.len()
 }
 
 // The digest in four words from p on.
@@ -69,6 +66,7 @@ pub fn put_id(b: &mut [u8], at: usize, keys: &[u64], q: usize) -> usize
     put_digest(b, a2, keys, q * KEY_WORDS + KEY_DIGEST)
 }
 
+// Three such functions and no generic one over what is put: a closure at each call would be no plainer.
 pub fn emit_number(b: &mut [u8], at: usize, write: bool, width: usize, v: u64) -> usize
     requires { (Room write b.old at width × (at ≤ 1099511627776)) × (width ≤ 8) }
     ensures { Sent write b.old at (be width v) result b.new }

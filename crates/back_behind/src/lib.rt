@@ -9,6 +9,7 @@ ghost use Rattle.back_history.specs.Model.{Range};
 ghost use Rattle.back_behind.specs.Model.{goes_before, note_at, note_links, note_down, sources, Sourced};
 
 use back_history::is_uncommitted;
+use commit_state::dag::Dag;
 use models::parts::Round;
 use models::place::{live_links, round_word, target};
 use models::tables::{PLACES_MAX, PLACES_MAX_WORD};
@@ -18,11 +19,10 @@ fn goes_before(keys: &[u64], noted: u16, q: usize) -> bool
     requires { (q * 8 + 8 ≤ length keys.now) × (noted * 8 ≤ length keys.now) }
     ensures { result ≡ goes_before keys.now noted q }
 {
-    if noted == 0 {
-        return true;
+    match (noted as usize).checked_sub(1) {
+        None => true,
+        Some(p) => round_word(keys, p) == round_word(keys, q),
     }
-    let p = noted as usize - 1;
-    round_word(keys, p) == round_word(keys, q)
 }
 
 // Notes place q for the place of a target word: 0 for no link, else the place plus 1.
@@ -47,36 +47,29 @@ fn note_links(by: &mut [u16; PLACES_MAX], keys: &[u64], links: &[u64], q: usize,
     requires q_bound { (q < 4096) × (q * 8 + 8 ≤ length keys.now) × Sourced (length keys.now) by.old }
     ensures { by.new ≡ note_links keys.now links.now by.old q m }
 {
-    let mut k: usize = 0;
-    while k < m {
+    for k in 0..m {
         note_link(by, keys, q, target(links, q, k));
-        k += 1;
     }
 }
 
 // From position `high` down to `low`: a place of the history is noted for the places that its live links lead to.
 fn note_down(
     by: &mut [u16; PLACES_MAX],
-    keys: &[u64],
-    links: &[u64],
-    certs: &[u64],
-    order: &[u64],
+    dag: &Dag,
     bottom: Round,
     low: usize,
     high: usize,
     marks: &[bool; PLACES_MAX],
 )
-    requires range { Range certs.now order.now low high }
-    requires keys_len { (length keys.now ≡ length order.now * 8) × (length links.now ≡ length order.now * 328) × Sourced (length keys.now) by.old }
-    ensures { (by.new ≡ note_down bottom.0 keys.now links.now certs.now order.now marks.now
-        by.old high (high - low)) × Sourced (length keys.now) by.new }
+    requires range { Range dag.now.certs.now dag.now.order.now low high }
+    requires keys_len { (length dag.now.keys.now ≡ length dag.now.order.now * 8) × (length dag.now.links.now ≡ length dag.now.order.now * 328) × Sourced (length dag.now.keys.now) by.old }
+    ensures { (by.new ≡ note_down bottom.0 dag.now.keys.now dag.now.links.now dag.now.certs.now dag.now.order.now marks.now
+        by.old high (high - low)) × Sourced (length dag.now.keys.now) by.new }
 {
-    let mut p = high;
-    while low < p {
-        p -= 1;
-        let q = dag_round_keys::place(order, high, p);
-        if is_uncommitted(marks, certs, q) {
-            note_links(by, keys, links, q, live_links(keys, bottom, q));
+    for p in (low..high).rev() {
+        let q = dag_round_keys::place(dag.order, high, p);
+        if is_uncommitted(marks, dag.certs, q) {
+            note_links(by, dag.keys, dag.links, q, live_links(dag.keys, bottom, q));
         }
     }
 }
@@ -84,21 +77,18 @@ fn note_down(
 // For each place of the history, which `marks` and `certs` say in the positions from `low` to `high`, the place of the point that is told
 // for it, plus 1; 0 where none links to it.
 pub fn link_sources(
-    keys: &[u64],
-    links: &[u64],
-    certs: &[u64],
-    order: &[u64],
+    dag: &Dag,
     bottom: Round,
     low: usize,
     high: usize,
     marks: &[bool; PLACES_MAX],
 ) -> [u16; PLACES_MAX]
-    requires range { Range certs.now order.now low high }
-    requires keys_len { (length keys.now ≡ length order.now * 8) × (length links.now ≡ length order.now * 328) }
-    ensures { (result ≡ sources bottom.0 keys.now links.now certs.now order.now marks.now low high)
-        × Sourced (length keys.now) result }
+    requires range { Range dag.now.certs.now dag.now.order.now low high }
+    requires keys_len { (length dag.now.keys.now ≡ length dag.now.order.now * 8) × (length dag.now.links.now ≡ length dag.now.order.now * 328) }
+    ensures { (result ≡ sources bottom.0 dag.now.keys.now dag.now.links.now dag.now.certs.now dag.now.order.now marks.now low high)
+        × Sourced (length dag.now.keys.now) result }
 {
     let mut by = [0u16; PLACES_MAX];
-    note_down(&mut by, keys, links, certs, order, bottom, low, high, marks);
+    note_down(&mut by, dag, bottom, low, high, marks);
     by
 }

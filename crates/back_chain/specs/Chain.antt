@@ -1,26 +1,29 @@
 -- The chain of anchors as the code holds it: newest first, in an array (01: back.rs, 'Chain').
 use Rattle.std.specs.Prelude.{ℕ, zero, suc, ◌+◌, ◌-◌, ◌<◌, ◌≤◌, ◌≡◌, List, [], ◌∷◌, length, get_or, set, replicate}
 use Rattle.std.proofs.Math.Path.{refl}
-use Rattle.std.proofs.Common.{◌∙◌, arith, add-one, get_or-set_same, get_or-set_other}
+use Rattle.std.proofs.Common.{arith, add-one, get_or-set_same, get_or-set_other}
 use borrow.Author.Tests.{lt-ltb, le-ltb}
 use Rattle.spec.specs.Chain as chain
 use Rattle.spec.specs.Chain.{Out, bad, good, then, refuse, unlinked, check_oldest}
-use Rattle.models.specs.Refusal.{refusal_of, unless_failed, failed}
+use Rattle.models.specs.Refusal.{refusal_of}
 use Rattle.models.specs.declared.refusal.Refusal.{Refusal}
 use Rattle.models.specs.declared.refusal.Refusal.TheVariants.{Number}
-use Rattle.models.specs.declared.refusal.Check.{Check}
-use Rattle.models.specs.declared.refusal.Check.TheVariants.{Passed, Failed}
 use Rattle.back_walk.specs.declared.EnqueuedAnchor.{EnqueuedAnchor}
 use Rattle.back_walk.specs.Refines.{enqueued_of}
 use Rattle.back_chain.specs.declared.Chain.{Chain}
+use Rattle.std.specs.Prelude.{Result, Ok, Err}
 
 -- an entry that no anchor has
 abbrev pub no_enqueued : EnqueuedAnchor
 no_enqueued = record { anchor = 0; proof = 0; prev_proof_round = record { 0 = 0 } }
 
 -- no anchors
-abbrev pub no_anchors : Check → Chain
-no_anchors c = record { check = c; count = 0; list = replicate 512 no_enqueued }
+abbrev pub no_anchors : Chain
+no_anchors = record { count = 0; list = replicate 512 no_enqueued }
+
+-- what a walk yields: its anchors, unless it is refused
+abbrev pub Chained : Type 0
+Chained = Result Chain Refusal
 
 -- the first n entries, oldest first
 unfoldable pub chain_of : List EnqueuedAnchor → ℕ → List chain.EnqueuedAnchor
@@ -28,16 +31,17 @@ chain_of l zero = []
 chain_of l (suc n) = enqueued_of (get_or l n no_enqueued) ∷ chain_of l n
 
 -- the chain as the definitions': its anchors, or the refusal
-unfoldable pub chain_out : Chain → Out (List chain.EnqueuedAnchor)
-chain_out c = unless_failed c.check (good (chain_of c.list c.count))
+unfoldable pub chain_out : Chained → Out (List chain.EnqueuedAnchor)
+chain_out (Ok c) = good (chain_of c.list c.count)
+chain_out (Err r) = bad (refusal_of r)
 
-pub out_good : (c : Chain) → c.check ≡ Passed → chain_out c ≡ good (chain_of c.list c.count)
-unfolding chain_out unless_failed
-out_good c z = rw z refl
+pub out_good : (x : Chained) (c : Chain) → x ≡ Ok c → chain_out x ≡ good (chain_of c.list c.count)
+unfolding chain_out
+out_good x c z = rw z refl
 
-pub out_bad : (c : Chain) (r : Refusal) → c.check ≡ Failed r → chain_out c ≡ bad (refusal_of r)
-unfolding chain_out unless_failed
-out_bad c r e = rw e refl
+pub out_bad : (x : Chained) (r : Refusal) → x ≡ Err r → chain_out x ≡ bad (refusal_of r)
+unfolding chain_out
+out_bad x r e = rw e refl
 
 -- ---- the list
 
@@ -66,25 +70,29 @@ chain_head l (suc n) h = rw (sub-one n) refl
 
 -- ---- 19
 
+module _ (low : ℕ) (x : Chained) where
+  -- what a walk is refused with stays
+  pub check_bad : (r : Refusal) → x ≡ Err r → chain_out x ≡ then (chain_out x) (check_oldest low)
+  check_bad r e = rw (out_bad x r e) refl
+
 module _ (low : ℕ) (c : Chain) where
-  pub check_bad : (r : Refusal) → c.check ≡ Failed r → chain_out c ≡ then (chain_out c) (check_oldest low)
-  check_bad r e = rw (out_bad c r e) refl
+  -- the code's chain, tested
+  abbrev oldest_checked : Out (List chain.EnqueuedAnchor)
+  oldest_checked = then (chain_out (Ok c)) (check_oldest low)
 
-  -- the walk came out well
-  module _ (z : c.check ≡ Passed) where
-    pub check_none : c.count ≡ 0 → chain_out c ≡ then (chain_out c) (check_oldest low)
-    unfolding check_oldest unlinked refuse
-    check_none e = rw (out_good c z, e, chain-none c.list) refl
+  pub check_none : c.count ≡ 0 → chain_out (Ok c) ≡ oldest_checked
+  unfolding chain_out check_oldest unlinked refuse
+  check_none e = rw (e, chain-none c.list) refl
 
-    module _ (some : (c.count ≡ 0 → ⊥)) where
-      -- the oldest entry
-      abbrev last : EnqueuedAnchor
-      last = get_or c.list (c.count - 1) no_enqueued
+  module _ (some : (c.count ≡ 0 → ⊥)) where
+    -- the oldest entry
+    abbrev last : EnqueuedAnchor
+    last = get_or c.list (c.count - 1) no_enqueued
 
-      pub check_apart : low < last.prev_proof_round.0 → (r : Chain) → r.check ≡ failed 19 → chain_out r ≡ then (chain_out c) (check_oldest low)
-      unfolding check_oldest unlinked refuse refusal_of
-      check_apart l r e = out_bad r (Number 19) e ∙ rw (out_good c z, chain_head c.list c.count (omega arith), lt-ltb low last.prev_proof_round.0 l) refl
+    pub check_apart : low < last.prev_proof_round.0 → chain_out (Err (Number 19)) ≡ oldest_checked
+    unfolding chain_out check_oldest unlinked refuse refusal_of
+    check_apart l = rw (chain_head c.list c.count (omega arith), lt-ltb low last.prev_proof_round.0 l) refl
 
-      pub check_on : last.prev_proof_round.0 ≤ low → chain_out c ≡ then (chain_out c) (check_oldest low)
-      unfolding check_oldest unlinked refuse
-      check_on l = rw (out_good c z, chain_head c.list c.count (omega arith), le-ltb low last.prev_proof_round.0 l) refl
+    pub check_on : last.prev_proof_round.0 ≤ low → chain_out (Ok c) ≡ oldest_checked
+    unfolding chain_out check_oldest unlinked refuse
+    check_on l = rw (chain_head c.list c.count (omega arith), le-ltb low last.prev_proof_round.0 l) refl

@@ -13,11 +13,8 @@ use Rattle.models.specs.DagPoint.{case_of, is_valid, valid_is}
 use Rattle.models.specs.Refusal.{refusal_of, failed, conflicting, not_valid}
 use Rattle.models.specs.declared.dag_point.DagPoint.{DagPoint}
 use Rattle.models.specs.declared.dag_point.DagPoint.TheVariants.{Valid, TransInvalid, Invalid, IllFormed, NotFound}
-use Rattle.models.specs.declared.dag_point.Resolved as status
-use Rattle.models.specs.declared.dag_point.Resolved.TheVariants.{Case, Nothing}
+use Rattle.models.specs.declared.refusal.Refusal.{Refusal}
 use Rattle.models.specs.declared.refusal.Refusal.TheVariants.{Number}
-use Rattle.models.specs.declared.refusal.Check.{Check}
-use Rattle.models.specs.declared.refusal.Check.TheVariants.{Passed}
 use Rattle.models.specs.declared.parts.PointId.{PointId}
 use Rattle.dag_round_keys.specs.Look.{look_as, look_place}
 use Rattle.dag_round_keys.specs.declared.look.Look.{Look}
@@ -25,8 +22,10 @@ use Rattle.dag_round_keys.specs.declared.look.Look.TheVariants.{Resolved, Named,
 use Rattle.commit_state.specs.declared.state.State.{State}
 use Rattle.models.specs.Ids.{has_previous, previous_id}
 use Rattle.back_chain.specs.RefinesWalk.{walked}
-use Rattle.back_chain.specs.Chain.{no_anchors, chain_out, out_bad}
+use Rattle.back_chain.specs.Chain.{Chained, chain_of, chain_out, out_good, out_bad}
 use Rattle.back_chain.specs.declared.Chain.{Chain}
+use Rattle.std.specs.Prelude.{None, Option, Some, Ok, Err}
+use Rattle.models.specs.Refusal.{Check, no_refusal}
 
 -- the id is of a peer's number and below the bottom
 unfoldable pub is_below : State → PointId → Bool
@@ -40,8 +39,8 @@ low_of s = max (s.last_committed_proof.0 - 1) s.bottom.0
 unfoldable pub trigger_of : Look → ℕ → ℕ → Check
 trigger_of Never c r = failed 9
 trigger_of (Named q) c r = failed 9
-trigger_of (Resolved q Valid) c r = Passed
-trigger_of (Resolved q TransInvalid) c r = cond (has_proof c) (conflicting r) (cond (ltb 0 (height_of c)) Passed (failed 15))
+trigger_of (Resolved q Valid) c r = no_refusal
+trigger_of (Resolved q TransInvalid) c r = cond (has_proof c) (conflicting r) (cond (ltb 0 (height_of c)) no_refusal (failed 15))
 trigger_of (Resolved q Invalid) c r = not_valid c r
 trigger_of (Resolved q IllFormed) c r = not_valid c r
 trigger_of (Resolved q NotFound) c r = not_valid c r
@@ -54,7 +53,7 @@ trigger_code ks cs q r = trigger_of (look_place ks q) (get_or cs q 0) r
 unfoldable pub valid_of : Look → Bool
 valid_of Never = false
 valid_of (Named q) = false
-valid_of (Resolved q p) = is_valid (Case p)
+valid_of (Resolved q p) = is_valid (Some p)
 
 -- the point at the place q, of the round r, is a valid trigger with rounds to walk
 unfoldable pub walks : State → List ℕ → ℕ → ℕ → ℕ → Bool
@@ -108,19 +107,19 @@ module _ (q c r : ℕ) (a : Bool) (proof : a ≡ has_proof c) where
     unfolding trigger_of
     trans_flat k = rw (← proof, h, sym height ∙ not-true b k) refl
 
-    pub trans_certified : not b ≡ false → Passed ≡ trigger_of (Resolved q TransInvalid) c r
+    pub trans_certified : not b ≡ false → no_refusal ≡ trigger_of (Resolved q TransInvalid) c r
     unfolding trigger_of
     trans_certified k = rw (← proof, h, sym height ∙ not-false b k) refl
 
-pub valid_case : (x : Look) (q : ℕ) (p y : DagPoint) → x ≡ Resolved q p → p ≡ y → is_valid (Case y) ≡ valid_of x
+pub valid_case : (x : Look) (q : ℕ) (p y : DagPoint) → x ≡ Resolved q p → p ≡ y → is_valid (Some y) ≡ valid_of x
 unfolding valid_of
-valid_case x q p y e f = ap (λ (z : DagPoint). is_valid (Case z)) (sym f) ∙ ap valid_of (sym e)
+valid_case x q p y e f = ap (λ (z : DagPoint). is_valid (Some z)) (sym f) ∙ ap valid_of (sym e)
 
 -- it is valid exactly if its case is
-valid_by : (c : status.Resolved) (q : ℕ) → valid_of (look_as c q) ≡ is_valid c
+valid_by : (c : Option DagPoint) (q : ℕ) → valid_of (look_as c q) ≡ is_valid c
 unfolding valid_of look_as is_valid
-valid_by (Case p) q = refl
-valid_by Nothing q = refl
+valid_by (Some p) q = refl
+valid_by None q = refl
 
 module _ (s : State) (ks : List ℕ) (q r low : ℕ) (x : Look) (is : x ≡ look_place ks q) (b : Bool) (valid : b ≡ valid_of x) where
   -- the test of the status
@@ -147,12 +146,20 @@ module _ (s : State) (ks : List ℕ) (q r low : ℕ) (x : Look) (is : x ≡ look
       walks_by g = rw (sym status_is ∙ not-false b h, eq-eqb (marks_at ks q / 2 % 2) 1 m, ne_eqb r s.genesis.0 g) refl
 
 module _ (s : State) (ks ls cs os : List ℕ) (q r low : ℕ) (b : Bool) (is : b ≡ has_previous ks ls q) where
-  pub from_none : not b ≡ true → (c : Chain) → c ≡ no_anchors (failed 16) → chain_out c ≡ chained_from s ks ls cs os q r low
+  pub from_none : not b ≡ true → chain_out (Err (Number 16)) ≡ chained_from s ks ls cs os q r low
   unfolding chained_from refusal_of
-  from_none h c e = out_bad c (Number 16) (ap (λ (z : Chain). z.check) e) ∙ rw (sym is ∙ not-true b h) refl
+  from_none h = out_bad (Err (Number 16)) (Number 16) refl ∙ rw (sym is ∙ not-true b h) refl
 
-  pub from_walk : not b ≡ false → (p : ℕ) → p ≡ r - 1 → (i : PointId) → i ≡ previous_id ks ls q p → (c d : Chain) → chain_out c ≡ walked s ks ls cs os low (r - low) i [] → chain_out d ≡ then (chain_out c) (check_oldest low)
-      → chain_out d ≡ chained_from s ks ls cs os q r low
-  unfolding chained_from
-  from_walk h p o i e c d f g =
-      g ∙ (ap (λ x. then x (check_oldest low)) (f ∙ ap (λ (z : PointId). walked s ks ls cs os low (r - low) z []) (e ∙ ap (previous_id ks ls q) o)) ∙ rw (sym is ∙ not-false b h) refl)
+  module _ (h : not b ≡ false) (p : ℕ) (o : p ≡ r - 1) (i : PointId) (e : i ≡ previous_id ks ls q p) (x : Chained) (f : chain_out x ≡ walked s ks ls cs os low (r - low) i []) where
+    -- the walk is made, and then tested
+    chained_is : chained_from s ks ls cs os q r low ≡ then (chain_out x) (check_oldest low)
+    unfolding chained_from
+    chained_is =
+        sym
+        (ap (λ y. then y (check_oldest low)) (f ∙ ap (λ (z : PointId). walked s ks ls cs os low (r - low) z []) (e ∙ ap (previous_id ks ls q) o)) ∙ rw (sym is ∙ not-false b h) refl)
+
+    pub from_bad : (w : Refusal) → x ≡ Err w → chain_out (Err w) ≡ chained_from s ks ls cs os q r low
+    from_bad w z = out_bad (Err w) w refl ∙ sym (chained_is ∙ rw (out_bad x w z) refl)
+
+    pub from_walk : (c : Chain) → x ≡ Ok c → (d : Chained) → chain_out d ≡ then (chain_out (Ok c)) (check_oldest low) → chain_out d ≡ chained_from s ks ls cs os q r low
+    from_walk c z d g = g ∙ sym (chained_is ∙ rw z refl)

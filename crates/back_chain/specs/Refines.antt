@@ -26,8 +26,6 @@ use Rattle.models.specs.Tables.{round_at, author_at, status_at, marks_at, Used}
 use Rattle.models.specs.declared.parts.PointId.{PointId}
 use Rattle.models.specs.Refusal.{refusal_of, unless_failed, failed, conflicting, not_valid}
 use Rattle.models.specs.declared.refusal.Refusal.{Refusal}
-use Rattle.models.specs.declared.refusal.Check.{Check}
-use Rattle.models.specs.declared.refusal.Check.TheVariants.{Passed, Failed}
 use Rattle.dag_round_keys.specs.Look.{look_as, look_place}
 use Rattle.commit_state.specs.Numbers.{rounds_hold}
 use Rattle.commit_state.specs.View.{option_of, progress_of, conf_of}
@@ -37,16 +35,17 @@ use Rattle.tables_test.specs.View.{view}
 use Rattle.tables_test.specs.Refines.{rounds_of_lem}
 use Rattle.dag_round_points.specs.Model.{id_words}
 use Rattle.dag_round_points.specs.Codes.{unless, unless-numbered, found, found_at, found-refused}
-use Rattle.dag_round_points.specs.declared.Found.{Found}
-use Rattle.dag_round_points.specs.declared.Found.TheVariants.{At, Refused}
 use Rattle.dag_round_points.specs.Point.{point_code, place_for, point_used, point-round}
 use Rattle.dag_round_points.specs.RefinesPoint.{point_is}
 use Rattle.models.specs.Ids.{has_previous, previous_id}
 use Rattle.back_walk.specs.Refines.{walkable, round_at_lem, resolved_at_lem, status_at_lem, status_most, certified_at, top_at_lem, kept_at, given_at_lem, previous_at, previous_id_lem, previous_fit}
-use Rattle.back_chain.specs.Chain.{no_anchors, chain_out, chain-none, out_good, out_bad}
+use Rattle.back_chain.specs.Chain.{Chained, no_anchors, chain_out, chain-none, out_good, out_bad}
 use Rattle.back_chain.specs.RefinesWalk.{walked, walked_is}
 use Rattle.back_chain.specs.Model.{is_below, low_of, trigger_of, trigger_code, walks, chained_from}
 use Rattle.back_chain.specs.declared.Chain.{Chain}
+use Rattle.std.specs.Prelude.{Err, Ok}
+use Rattle.models.specs.Refusal.{Check, no_refusal}
+use Rattle.dag_round_points.specs.Codes.{Found}
 
 -- the trigger at the place q, of the round r
 unfoldable pub triggered_at : State → List ℕ → List ℕ → List ℕ → List ℕ → ℕ → ℕ → Out (List chain.EnqueuedAnchor)
@@ -79,7 +78,7 @@ status_is q zero c r o l = refl
 status_is q (suc zero) c r o l = refl
 status_is q (suc (suc zero)) c r o l = by (ltb 0 (height_of c)) (bit_of 0x8000 c)
   where
-    by : (g f : Bool) → other true g f r ≡ unless_failed (cond (g && f) (conflicting r) (cond g Passed (failed 15))) (good [])
+    by : (g f : Bool) → other true g f r ≡ unless_failed (cond (g && f) (conflicting r) (cond g no_refusal (failed 15))) (good [])
     by true true = refl
     by true false = refl
     by false f = refl
@@ -112,16 +111,16 @@ zero-less zero = refl
 zero-less (suc n) = omega arith
 
 -- no anchors
-none-good : (c : Chain) → c ≡ no_anchors Passed → chain_out c ≡ good []
-none-good c e = ap chain_out e ∙ (out_good (no_anchors Passed) refl ∙ ap good (chain-none (no_anchors Passed).list))
+none-good : (c : Chain) → c ≡ no_anchors → chain_out (Ok c) ≡ good []
+none-good c e = ap (λ (x : Chain). chain_out (Ok x)) e ∙ (out_good (Ok no_anchors) no_anchors refl ∙ ap good (chain-none no_anchors.list))
 
 -- a refusal
-none-bad : (c : Chain) (r : Refusal) → c ≡ no_anchors (Failed r) → chain_out c ≡ bad (refusal_of r)
-none-bad c r e = ap chain_out e ∙ out_bad (no_anchors (Failed r)) r refl
+none-bad : (x : Chained) (r : Refusal) → x ≡ Err r → chain_out x ≡ bad (refusal_of r)
+none-bad x r e = out_bad x r e
 
 -- it has no entries
-pub none-few : (c : Chain) (k : Check) → c ≡ no_anchors k → c.count ≤ 511
-none-few c k e = omega (arith, ap (λ (z : Chain). z.count) e)
+pub none-few : (c : Chain) → c ≡ no_anchors → c.count ≤ 511
+none-few c e = omega (arith, ap (λ (z : Chain). z.count) e)
 
 module _ (s : State) (ks ls cs os : List ℕ) (fk : Fit ks) (fl : Fit ls) (h : counts_as_started (view s ks ls cs os) ≡ true) where
   -- the store
@@ -225,22 +224,22 @@ module _ (s : State) (ks ls cs os : List ℕ) (fk : Fit ks) (fl : Fit ls) (h : c
     r = i.round.0
 
     -- what 01 says
-    abbrev Says : Chain → Type 0
-    Says c = chain_out c ≡ anchors_of v (id_of i)
+    abbrev Says : Chained → Type 0
+    Says x = chain_out x ≡ anchors_of v (id_of i)
 
     module _ (b : Bool) (is : b ≡ is_below s i) where
-      pub of_below : b ≡ true → (c : Chain) → c ≡ no_anchors Passed → Says c
+      pub of_below : b ≡ true → (c : Chain) → c ≡ no_anchors → Says (Ok c)
       of_below y c e = none-good c e ∙ sym (anchors_is ∙ rw (sym is ∙ y) refl)
 
       module _ (n : b ≡ false) (f : Found) (g : f ≡ found (point_code s ks os i) q) where
         tests : anchors_of v (id_of i) ≡ unless (point_code s ks os i) (triggered_at s ks ls cs os q r)
         tests = anchors_is ∙ rw (sym is ∙ n) refl
 
-        pub of_refused : (w : Refusal) → f ≡ Refused w → (c : Chain) → c ≡ no_anchors (Failed w) → Says c
+        pub of_refused : (w : Refusal) → f ≡ Err w → Says (Err w)
         unfolding unless_failed
-        of_refused w d c e = none-bad c w e ∙ sym (tests ∙ (unless-numbered (point_code s ks os i) _ ∙ rw (found-refused (point_code s ks os i) q w (sym g ∙ d)) refl))
+        of_refused w d = out_bad (Err w) w refl ∙ sym (tests ∙ (unless-numbered (point_code s ks os i) _ ∙ rw (found-refused (point_code s ks os i) q w (sym g ∙ d)) refl))
 
-        module _ (p : ℕ) (d : f ≡ At p) where
+        module _ (p : ℕ) (d : f ≡ Ok p) where
           at : (point_code s ks os i ≡ 0) × (p ≡ q)
           at = found_at (point_code s ks os i) q p (sym g ∙ d)
 
@@ -257,16 +256,16 @@ module _ (s : State) (ks ls cs os : List ℕ) (fk : Fit ks) (fl : Fit ls) (h : c
             unfolding unless
             at_trigger = tests ∙ rw (at.0, unless, ← at.1) refl
 
-            pub of_trigger : (w : Refusal) → m ≡ Failed w → (c : Chain) → c ≡ no_anchors (Failed w) → Says c
+            pub of_trigger : (w : Refusal) → m ≡ Err w → Says (Err w)
             unfolding triggered_at unless_failed
-            of_trigger w y c e = none-bad c w e ∙ sym (at_trigger ∙ rw (sym trigger ∙ y) refl)
+            of_trigger w y = out_bad (Err w) w refl ∙ sym (at_trigger ∙ rw (sym trigger ∙ y) refl)
 
-            module _ (none : m ≡ Passed) (l : ℕ) (lowest : l ≡ low_of s) (a : Bool) (walk : a ≡ walks s ks p r l) where
-              pub of_none : not a ≡ true → (c : Chain) → c ≡ no_anchors Passed → Says c
+            module _ (none : m ≡ no_refusal) (l : ℕ) (lowest : l ≡ low_of s) (a : Bool) (walk : a ≡ walks s ks p r l) where
+              pub of_none : not a ≡ true → (c : Chain) → c ≡ no_anchors → Says (Ok c)
               unfolding triggered_at unless_failed
               of_none y c e = none-good c e ∙ sym (at_trigger ∙ rw (sym trigger ∙ none, ← lowest, sym walk ∙ not-true a y) refl)
 
-              pub of_chain : not a ≡ false → (c : Chain) → chain_out c ≡ chained_from s ks ls cs os p r l → Says c
+              pub of_chain : not a ≡ false → (x : Chained) → chain_out x ≡ chained_from s ks ls cs os p r l → Says x
               unfolding triggered_at unless_failed
               of_chain y c e = e ∙ sym (at_trigger ∙ rw (sym trigger ∙ none, ← lowest, sym walk ∙ not-false a y) refl)
 

@@ -13,18 +13,18 @@ use Rattle.models.specs.Digest.{Fit}
 use Rattle.models.specs.Parts.{id_of}
 use Rattle.models.specs.declared.parts.PointId.{PointId}
 use Rattle.models.specs.declared.refusal.Refusal.{Refusal}
-use Rattle.models.specs.declared.refusal.Check.TheVariants.{Passed, Failed}
 use Rattle.commit_state.specs.declared.state.State.{State}
 use Rattle.tables_test.specs.View.{view}
 use Rattle.dag_round_points.specs.Model.{id_words}
 use Rattle.back_walk.specs.declared.EnqueuedAnchor.{EnqueuedAnchor}
-use Rattle.back_walk.specs.declared.Step.{Step}
-use Rattle.back_walk.specs.declared.Step.TheVariants.{Pass, End, Bad, Anchor}
+use Rattle.back_walk.specs.declared.Step.TheVariants.{Pass, End, Anchor}
 use Rattle.models.specs.Ids.{top_id}
 use Rattle.back_walk.specs.Model.{step_at}
 use Rattle.back_walk.specs.Refines.{enqueued_of, Below, onward, top_fit, visit_is}
 use Rattle.back_chain.specs.Chain.{chain_of, chain_out, chain-none, out_good, out_bad}
 use Rattle.back_chain.specs.declared.Chain.{Chain}
+use Rattle.std.specs.Prelude.{Err, Ok}
+use Rattle.back_walk.specs.Model.{Stepped}
 
 module _ (s : State) (ks ls cs os : List ℕ) (low : ℕ) where
   -- the k rounds from low on, downwards; i is the sought proof's id
@@ -34,43 +34,43 @@ module _ (s : State) (ks ls cs os : List ℕ) (low : ℕ) where
 
   -- ---- the code's steps
 
-  module _ (k j : ℕ) (i : PointId) (acc : List chain.EnqueuedAnchor) (more : k ≡ suc j) (x : ℕ) (at : x ≡ low + j) (p : Step) (e : p ≡ step_at s ks ls cs os low x i) where
+  module _ (k j : ℕ) (i : PointId) (acc : List chain.EnqueuedAnchor) (more : k ≡ suc j) (x : ℕ) (at : x ≡ low + j) (p : Stepped) (e : p ≡ step_at s ks ls cs os low x i) where
     -- the round that is visited
-    step : (q : Step) → p ≡ q → step_at s ks ls cs os low (low + j) i ≡ q
+    step : (q : Stepped) → p ≡ q → step_at s ks ls cs os low (low + j) i ≡ q
     step q h = ap (λ (y : ℕ). step_at s ks ls cs os low y i) (sym at) ∙ (sym e ∙ h)
 
-    pub walked-pass : p ≡ Pass → walked j i acc ≡ walked k i acc
+    pub walked-pass : p ≡ (Ok Pass) → walked j i acc ≡ walked k i acc
     unfolding walked onward
-    walked-pass h = rw (more, walked, step Pass h) refl
+    walked-pass h = rw (more, walked, step (Ok Pass) h) refl
 
-    pub walked_end : p ≡ End → (c : Chain) → c.check ≡ Passed → chain_of c.list c.count ≡ acc → chain_out c ≡ walked k i acc
+    pub walked_end : p ≡ (Ok End) → (c : Chain) → chain_of c.list c.count ≡ acc → chain_out (Ok c) ≡ walked k i acc
     unfolding walked onward
-    walked_end h c z l = out_good c z ∙ rw (more, walked, step End h, l) refl
+    walked_end h c l = out_good (Ok c) c refl ∙ rw (more, walked, step (Ok End) h, l) refl
 
-    pub walked-bad : (r : Refusal) → p ≡ Bad r → (c : Chain) → c.check ≡ Failed r → chain_out c ≡ walked k i acc
+    pub walked-bad : (r : Refusal) → p ≡ Err r → chain_out (Err r) ≡ walked k i acc
     unfolding walked onward
-    walked-bad r h c z = out_bad c r z ∙ rw (more, walked, step (Bad r) h) refl
+    walked-bad r h = out_bad (Err r) r refl ∙ rw (more, walked, step (Err r) h) refl
 
-    pub walked-found : (f : EnqueuedAnchor) → p ≡ Anchor f → (z : PointId) (l : List chain.EnqueuedAnchor) → z ≡ top_id ls f.anchor → l ≡ enqueued_of f ∷ acc → walked j z l ≡ walked k i acc
+    pub walked-found : (f : EnqueuedAnchor) → p ≡ Ok (Anchor f) → (z : PointId) (l : List chain.EnqueuedAnchor) → z ≡ top_id ls f.anchor → l ≡ enqueued_of f ∷ acc → walked j z l ≡ walked k i acc
     unfolding walked onward
-    walked-found f h z l a b = rw (more, walked, step (Anchor f) h, a, b) refl
+    walked-found f h z l a b = rw (more, walked, step (Ok (Anchor f)) h, a, b) refl
 
   pub walked_start : (k : ℕ) (i : PointId) (l : List EnqueuedAnchor) → walked k i (chain_of l 0) ≡ walked k i []
   walked_start k i l = ap (walked k i) (chain-none l)
 
-  pub walked_none : (k : ℕ) (i : PointId) (acc : List chain.EnqueuedAnchor) → k ≡ 0 → (c : Chain) → c.check ≡ Passed → chain_of c.list c.count ≡ acc → chain_out c ≡ walked k i acc
+  pub walked_none : (k : ℕ) (i : PointId) (acc : List chain.EnqueuedAnchor) → k ≡ 0 → (c : Chain) → chain_of c.list c.count ≡ acc → chain_out (Ok c) ≡ walked k i acc
   unfolding walked
-  walked_none k i acc e c z l = out_good c z ∙ rw (e, l) refl
+  walked_none k i acc e c l = out_good (Ok c) c refl ∙ rw (e, l) refl
 
 -- ---- the definitions' walk
 
 -- what follows matters only for ids whose words fit
-onward-same : (ls : List ℕ) (p : Step) (f g : Below) (i : PointId) (acc : List chain.EnqueuedAnchor) → Fit ls → Fit (id_words i) → ((z : PointId) (l : List chain.EnqueuedAnchor) → Fit (id_words z) → f z l ≡ g z l) → onward ls p f i acc ≡ onward ls p g i acc
+onward-same : (ls : List ℕ) (p : Stepped) (f g : Below) (i : PointId) (acc : List chain.EnqueuedAnchor) → Fit ls → Fit (id_words i) → ((z : PointId) (l : List chain.EnqueuedAnchor) → Fit (id_words z) → f z l ≡ g z l) → onward ls p f i acc ≡ onward ls p g i acc
 unfolding onward
-onward-same ls Pass f g i acc fl fi h = h i acc fi
-onward-same ls End f g i acc fl fi h = refl
-onward-same ls (Bad r) f g i acc fl fi h = refl
-onward-same ls (Anchor e) f g i acc fl fi h = h _ _ (top_fit ls e.anchor fl)
+onward-same ls (Ok Pass) f g i acc fl fi h = h i acc fi
+onward-same ls (Ok End) f g i acc fl fi h = refl
+onward-same ls (Err r) f g i acc fl fi h = refl
+onward-same ls (Ok (Anchor e)) f g i acc fl fi h = h _ _ (top_fit ls e.anchor fl)
 
 module _ (s : State) (ks ls cs os : List ℕ) (fk : Fit ks) (fl : Fit ls) (c : counts_as_started (view s ks ls cs os) ≡ true) (low : ℕ) (room : s.bottom.0 ≤ low) where
   -- the store

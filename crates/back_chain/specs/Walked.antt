@@ -14,13 +14,13 @@ use Rattle.models.specs.Digest.{Fit}
 use Rattle.models.specs.Refusal.{refusal_of}
 use Rattle.models.specs.declared.refusal.Refusal.{Refusal}
 use Rattle.models.specs.declared.refusal.Refusal.TheVariants.{Number}
-use Rattle.models.specs.declared.refusal.Check.TheVariants.{Passed, Failed}
 use Rattle.commit_state.specs.declared.state.State.{State}
 use Rattle.tables_test.specs.View.{view}
 use Rattle.tables_test.specs.Whole.{sized}
 use Rattle.tables_test.specs.Refines.{Started, counted}
 use Rattle.back_chain.specs.declared.Chain.{Chain}
-use Rattle.back_chain.specs.Chain.{chain_of, chain_out, out_good, out_bad}
+use Rattle.back_chain.specs.Chain.{Chained, chain_of, chain_out, out_good, out_bad}
+use Rattle.std.specs.Prelude.{Ok, Err}
 
 -- the anchors that the trigger yields; 2 for tables that don't count as started
 unfoldable pub walked : Store → Id → Out (List EnqueuedAnchor)
@@ -37,14 +37,14 @@ module _ (v : Store) (i : Id) (r : Bool) (e : r ≡ counts_as_started v) where
     pub walked-counts : counts_as_started v ≡ true
     walked-counts = sym e ∙ not-false r h
 
-    module _ (c : Chain) (d : chain_out c ≡ anchors_of v i) where
-      pub walked-bad : (w : Refusal) → c.check ≡ Failed w → walked v i ≡ bad (refusal_of w)
+    module _ (x : Chained) (d : chain_out x ≡ anchors_of v i) where
+      pub walked-bad : (w : Refusal) → x ≡ Err w → walked v i ≡ bad (refusal_of w)
       unfolding walked
-      walked-bad w z = rw walked-counts (sym d ∙ out_bad c w z)
+      walked-bad w z = rw walked-counts (sym d ∙ out_bad x w z)
 
-      pub walked-good : c.check ≡ Passed → walked v i ≡ good (chain_of c.list c.count)
+      pub walked-good : (c : Chain) → x ≡ Ok c → walked v i ≡ good (chain_of c.list c.count)
       unfolding walked
-      walked-good z = rw walked-counts (sym d ∙ out_good c z)
+      walked-good c z = rw walked-counts (sym d ∙ out_good x c z)
 
 -- what it is given
 module _ (s : State) (ks ls cs os : List ℕ) (fk : Fit ks) (fl : Fit ls) (h : counts_as_started (view s ks ls cs os) ≡ true) where

@@ -1,23 +1,21 @@
 -- Theorems on the definitions of specs/RefinesPoints.
 use Rattle.std.specs.Prelude.{ℕ, zero, suc, ◌+◌, ◌<◌, ◌≤◌, ◌≡◌, refl, Bool, ◌&&◌, ◌||◌, cond, ◌⊎◌, eqb, get_or}
 use Rattle.std.proofs.Math.Path.{sym, ap, subst}
-use Rattle.std.proofs.Common.{◌∙◌, inl, inr, eqb-true, eq-eqb, ne_eqb, leb-true, ltb-true, lt-ltb, le-ltb}
-use mathlib.Core.List.Memᴰ
-use mathlib.Core.List.{List, [], ◌∷◌, Memᴰ}
+use Rattle.std.proofs.Common.{◌∙◌, inl, inr, eq-eqb, ne_eqb, lt-ltb, le-ltb}
+use mathlib.Core.List.{List, Memᴰ}
 use Rattle.std.proofs.Math.Bool.{true, false, not}
 use Rattle.std.proofs.Math.Logic.{⊎_elim}
 use native.Mathlib.Omega.{arith}
 use Rattle.std.proofs.Math.Dec.{ltb}
-use Rattle.laws.specs.Test.{both, and_l, and_r, or_cases, same_or, le_or}
+use Rattle.laws.specs.Test.{both, and_l, and_r, same_or, le_or}
 use Rattle.laws.specs.Scan.{those, those_elim, those_intro}
 use Rattle.laws.specs.Lists.{Pairs}
 use Rattle.laws.specs.Sort.{sort, sort_mem, sort_rises}
-use Rattle.spec.specs.Ids.{Id, by_round, falls}
+use Rattle.spec.specs.Ids.{falls}
 use Rattle.spec.specs.Store as store
 use Rattle.spec.specs.Store.{Point, Store, id_at, resolved}
 use Rattle.spec.specs.Paths.{height, certified, proved}
-use Rattle.spec.specs.Chain.{number, Out, bad, good, then, checked_as, checked, is_committable}
-use Rattle.spec.specs.History as history
+use Rattle.spec.specs.Chain.{number, Out, bad, good, checked_as, checked, is_committable}
 use Rattle.spec.specs.History.{needed, faults}
 use Rattle.spec.specs.Order.{falls-total, falls_trans}
 use Rattle.spec.specs.Walk.{checked_at}
@@ -25,9 +23,9 @@ use Rattle.models.specs.Cert.{flags_of, height_of, has_proof}
 use Rattle.models.specs.Digest.{Fit}
 use Rattle.models.specs.Tables.{round_at, status_at, place_at, Used}
 use Rattle.models.specs.DagPoint.{case_of}
-use Rattle.models.specs.Refusal.{refusal_of, unless_failed, conflicting, not_valid, is_failed, checked_as_not, by_check, failed_elim}
+use Rattle.models.specs.Refusal.{refusal_of, unless_failed, conflicting, not_valid, checked_as_not, by_check, failed_elim}
+use Rattle.std.specs.Prelude.{is_err}
 use Rattle.models.specs.declared.refusal.Refusal.{Refusal}
-use Rattle.models.specs.declared.refusal.Check.TheVariants.{Passed, Failed}
 use Rattle.dag_round_keys.specs.Look.{look_as, look_place}
 use Rattle.dag_round_keys.specs.Sorted.{rounds_rise}
 use Rattle.commit_state.specs.View.{point_at, resolution_at}
@@ -43,6 +41,8 @@ use Rattle.back_history.specs.Refines.{ids_rise}
 use Rattle.back_committable.specs.Scan.{First, Earlier, first_is}
 use Rattle.back_committable.specs.ModelPoints.{committable_of, fault_of, fault_at, faulty, faulty_at, round_of, first_fault, found_fault}
 use Rattle.back_committable.specs.RefinesPoints.{all-good, first-bad, falls_elim}
+use Rattle.std.specs.Prelude.{Err}
+use Rattle.models.specs.Refusal.{no_refusal}
 
 -- 01's verdict by the status and the certificate word
 checked_by_lem : (st c r q : ℕ) → st ≤ 5
@@ -52,7 +52,7 @@ checked_by_lem zero c r q l = refl
 checked_by_lem (suc zero) c r q l = refl
 checked_by_lem (suc (suc zero)) c r q l = by (ltb 0 (height_of c)) (flags_of c).top
   where
-    by : (g t : Bool) → checked_as (not (g && t)) g r q ≡ unless_failed (cond (g && t) (conflicting r) Passed) (good q)
+    by : (g t : Bool) → checked_as (not (g && t)) g r q ≡ unless_failed (cond (g && t) (conflicting r) no_refusal) (good q)
     by true true = refl
     by true false = refl
     by false t = refl
@@ -136,12 +136,12 @@ module _ (s : State) (ks ls cs os : List ℕ) (fk : Fit ks) (fl : Fit ls) (t : S
     found = first_is (faulty_at ks cs os m) (round_of ks os) high (λ i j l h. rounds_rise ks os n i j t.facts.sorted l (omega (arith, high_le))) low (low_high s ks ls cs os fk fl t a used)
 
     -- a marked point, by what it is refused with
-    marked-faulty : (i q : ℕ) → place_at os i ≡ q → On m q → (r : Refusal) → fault_at ks cs q ≡ Failed r → faulty_at ks cs os m i ≡ true
-    unfolding faulty_at faulty is_failed
-    marked-faulty i q e o r d = subst (λ y. faulty ks cs m y ≡ true) (sym e) (both o (ap is_failed d))
+    marked-faulty : (i q : ℕ) → place_at os i ≡ q → On m q → (r : Refusal) → fault_at ks cs q ≡ Err r → faulty_at ks cs os m i ≡ true
+    unfolding faulty_at faulty
+    marked-faulty i q e o r d = subst (λ y. faulty ks cs m y ≡ true) (sym e) (both o (ap is_err d))
 
     -- and back
-    faulty_elim : (i : ℕ) → faulty_at ks cs os m i ≡ true → On m (place_at os i) × ((r : Refusal) × (fault_at ks cs (place_at os i) ≡ Failed r))
+    faulty_elim : (i : ℕ) → faulty_at ks cs os m i ≡ true → On m (place_at os i) × ((r : Refusal) × (fault_at ks cs (place_at os i) ≡ Err r))
     unfolding faulty_at faulty
     faulty_elim i h = (and_l _ _ h, failed_elim _ (and_r (get_or m (place_at os i) false) _ h))
 

@@ -1,17 +1,14 @@
 -- What the tests of one anchor give.
-use Rattle.std.specs.Prelude.{ℕ, ◌+◌, ◌*◌, ◌-◌, ◌<◌, ◌≤◌, max, ◌≡◌, List, Bool, true, false, cond, leb, length}
+use Rattle.std.specs.Prelude.{ℕ, ◌+◌, ◌*◌, ◌-◌, ◌<◌, ◌≤◌, max, ◌≡◌, List, Bool, cond, leb, length}
 use Rattle.std.proofs.Math.Path.{refl, sym, ap, subst}
 use Rattle.std.proofs.Common.{◌∙◌, arith}
-use borrow.Author.Tests.{le-leb, lt-leb, leb-true}
+use borrow.Author.Tests.{leb-true}
 use Rattle.laws.specs.Test.{and_l, and_r}
 use Rattle.laws.specs.Scan.{any, those}
 use Rattle.models.specs.Digest.{Fit}
 use Rattle.models.specs.Tables.{round_at, place_at, Used}
 use Rattle.models.specs.Refusal.{failed, or_next}
 use Rattle.models.specs.declared.parts.Round.{Round}
-use Rattle.models.specs.declared.refusal.Refusal.{Refusal}
-use Rattle.models.specs.declared.refusal.Check.{Check}
-use Rattle.models.specs.declared.refusal.Check.TheVariants.{Passed, Failed}
 use Rattle.tables_ids.specs.Ids.{id_holds}
 use Rattle.commit_state.specs.Numbers.{rounds_hold, range_holds}
 use Rattle.commit_state.specs.declared.state.State.{State}
@@ -26,6 +23,7 @@ use Rattle.back_committable.specs.declared.anchor.HistorySpan.{HistorySpan}
 use Rattle.back_committable.specs.declared.anchor.Gathered.{Gathered}
 use Rattle.back_committable.specs.declared.anchor.Tested.{Tested}
 use Rattle.back_committable.specs.ModelPoints.{found_fault, Rounds}
+use Rattle.models.specs.Refusal.{Check, no_refusal}
 
 -- the limit and the positions of the history of an anchor of round r
 unfoldable pub history_span : State → List ℕ → List ℕ → ℕ → HistorySpan
@@ -40,7 +38,7 @@ history_span s ks os r = record {
 unfoldable pub code_of : State → List ℕ → List ℕ → List ℕ → List Bool → HistorySpan → ℕ → Check
 code_of s ks cs os m x r =
     cond (leb r s.genesis.0) (failed 22) (or_next (found_fault ks cs os m x.low x.high)
-    (cond (missing s.full_history_bottom.0 x.limit.0 s.bottom.0) (failed 17) (cond (any (x.high - x.low) (uncertified_at cs os m x.low)) (failed 18) Passed)))
+    (cond (missing s.full_history_bottom.0 x.limit.0 s.bottom.0) (failed 17) (cond (any (x.high - x.low) (uncertified_at cs os m x.low)) (failed 18) no_refusal)))
 
 -- the history of the anchor a, which has these positions
 unfoldable pub gathered_in : State → List ℕ → List ℕ → List ℕ → List ℕ → ℕ → HistorySpan → Gathered

@@ -1,27 +1,26 @@
 -- What a point of a history is refused with, and the first point that is (01: 'Refusals' 13 to 15).
-use Rattle.std.specs.Prelude.{ℕ, ◌-◌, ◌<◌, ◌≤◌, ◌≡◌, List, Bool, true, false, ◌&&◌, cond, ltb, length, get_or}
+use Rattle.std.specs.Prelude.{ℕ, ◌-◌, ◌<◌, ◌≤◌, ◌≡◌, List, Bool, true, false, ◌&&◌, cond, ltb, get_or}
 use Rattle.std.proofs.Math.Path.{refl, sym, ap}
 use Rattle.std.proofs.Common.{ap₂, subst, ◌∙◌, arith, le-ltb, lt-ltb}
-use Rattle.std.proofs.Math.ListN.{get_or-eq_default}
-use Rattle.laws.specs.Test.{and_no, le_or}
+use Rattle.laws.specs.Test.{and_no}
 use Rattle.spec.specs.Store.{Flags}
 use Rattle.models.specs.Cert.{has_proof, committed_word}
 use Rattle.models.specs.Tables.{round_at, place_at}
-use Rattle.models.specs.Refusal.{failed, conflicting, not_valid, is_failed}
+use Rattle.models.specs.Refusal.{failed, conflicting, not_valid}
+use Rattle.std.specs.Prelude.{is_err}
 use Rattle.models.specs.declared.dag_point.DagPoint.{DagPoint}
 use Rattle.models.specs.declared.dag_point.DagPoint.TheVariants.{Valid, TransInvalid, Invalid, IllFormed, NotFound}
-use Rattle.models.specs.declared.refusal.Check.{Check}
-use Rattle.models.specs.declared.refusal.Check.TheVariants.{Passed}
 use Rattle.dag_round_keys.specs.Look.{look_place}
 use Rattle.dag_round_keys.specs.declared.look.Look.{Look}
 use Rattle.dag_round_keys.specs.declared.look.Look.TheVariants.{Resolved, Named, Never}
-use Rattle.back_history.specs.Supposing.{supposing, supposing-length, supposing_at, flags_marked, height-marked}
+use Rattle.back_history.specs.Supposing.{flags_marked, height-marked}
 use Rattle.back_committable.specs.Scan.{scanned}
+use Rattle.models.specs.Refusal.{Check, no_refusal}
 
 -- what a point of a history is refused with, by its case, its certificate word and its round
 unfoldable pub committable_of : DagPoint → ℕ → ℕ → Check
-committable_of Valid c r = Passed
-committable_of TransInvalid c r = cond (has_proof c) (conflicting r) Passed
+committable_of Valid c r = no_refusal
+committable_of TransInvalid c r = cond (has_proof c) (conflicting r) no_refusal
 committable_of Invalid c r = not_valid c r
 committable_of IllFormed c r = not_valid c r
 committable_of NotFound c r = not_valid c r
@@ -38,7 +37,7 @@ fault_at ks cs q = fault_of (look_place ks q) (get_or cs q 0) (round_at ks q)
 
 -- place q is marked, and its point isn't usable
 unfoldable pub faulty : List ℕ → List ℕ → List Bool → ℕ → Bool
-faulty ks cs m q = get_or m q false && is_failed (fault_at ks cs q)
+faulty ks cs m q = get_or m q false && is_err (fault_at ks cs q)
 
 -- the place at position p is so
 unfoldable pub faulty_at : List ℕ → List ℕ → List ℕ → List Bool → ℕ → Bool
@@ -54,7 +53,7 @@ first_fault ks cs os m low high = scanned (faulty_at ks cs os m) (round_of ks os
 
 -- what the positions from low to high are refused with
 unfoldable pub found_fault : List ℕ → List ℕ → List ℕ → List Bool → ℕ → ℕ → Check
-found_fault ks cs os m low high = let p = first_fault ks cs os m low high in cond (ltb p high) (fault_at ks cs (place_at os p)) Passed
+found_fault ks cs os m low high = let p = first_fault ks cs os m low high in cond (ltb p high) (fault_at ks cs (place_at os p)) no_refusal
 
 -- the rounds of the first n positions are rounds of 01
 abbrev pub Rounds : List ℕ → List ℕ → ℕ → Type 0
@@ -81,7 +80,7 @@ module _ (ks cs : List ℕ) (q : ℕ) where
     faulty_not h = sym (and_no _ h)
 
     -- marked: what it is refused with decides
-    pub faulty_by : (c d : Check) → get_or m q false ≡ true → c ≡ fault_at ks cs q → c ≡ d → is_failed d ≡ faulty ks cs m q
+    pub faulty_by : (c d : Check) → get_or m q false ≡ true → c ≡ fault_at ks cs q → c ≡ d → is_err d ≡ faulty ks cs m q
     unfolding faulty
     faulty_by c d h e f = rw (h, sym e ∙ f) refl
 
@@ -101,7 +100,7 @@ faulty_at_lem ks cs os m q p b e h = h ∙ ap (faulty ks cs m) e
 
 module _ (ks cs os : List ℕ) (m : List Bool) (low high p : ℕ) (e : p ≡ first_fault ks cs os m low high) where
   -- no point is refused
-  pub found_none : high ≤ p → Passed ≡ found_fault ks cs os m low high
+  pub found_none : high ≤ p → no_refusal ≡ found_fault ks cs os m low high
   unfolding found_fault
   found_none l = rw (le-ltb (first_fault ks cs os m low high) high (omega arith)) refl
 

@@ -1,47 +1,19 @@
 -- The first point that isn't usable is the one that document 01 finds first (01: 'Refusals' 13 to 15).
-use Rattle.std.specs.Prelude.{ℕ, zero, suc, ◌+◌, ◌<◌, ◌≤◌, ◌≡◌, refl, Bool, ◌&&◌, ◌||◌, cond, ◌⊎◌, eqb, get_or}
-use Rattle.std.proofs.Math.Path.{sym, ap, subst}
-use Rattle.std.proofs.Common.{◌∙◌, inl, inr, eqb-true, eq-eqb, ne_eqb, leb-true, ltb-true, lt-ltb, le-ltb}
+use Rattle.std.specs.Prelude.{ℕ, ◌<◌, ◌≤◌, ◌≡◌, refl, ◌⊎◌, eqb}
+use Rattle.std.proofs.Math.Path.{sym, ap}
+use Rattle.std.proofs.Common.{◌∙◌, inl, inr, eqb-true, leb-true, ltb-true}
 use mathlib.Core.List.Memᴰ
 use mathlib.Core.List.{List, [], ◌∷◌, Memᴰ}
-use Rattle.std.proofs.Math.Bool.{true, false, not}
+use Rattle.std.proofs.Math.Bool.{true}
 use Rattle.std.proofs.Math.Logic.{⊎_elim}
-use native.Mathlib.Omega.{arith}
 use Rattle.std.proofs.Math.Dec.{ltb}
-use Rattle.laws.specs.Test.{both, and_l, and_r, or_cases, same_or, le_or}
-use Rattle.laws.specs.Scan.{those, those_elim, those_intro}
+use Rattle.laws.specs.Test.{and_l, and_r, or_cases}
 use Rattle.laws.specs.Lists.{Pairs}
-use Rattle.laws.specs.Sort.{sort, sort_mem, sort_rises}
 use Rattle.spec.specs.Ids.{Id, by_round, falls}
-use Rattle.spec.specs.Store as store
-use Rattle.spec.specs.Store.{Point, Store, id_at, resolved}
-use Rattle.spec.specs.Paths.{height, certified, proved}
-use Rattle.spec.specs.Chain.{number, Out, bad, good, then, checked_as, checked, is_committable}
+use Rattle.spec.specs.Store.{Store}
+use Rattle.spec.specs.Chain.{Out, good, then, checked, is_committable}
 use Rattle.spec.specs.History as history
 use Rattle.spec.specs.History.{needed, faults}
-use Rattle.spec.specs.Order.{falls-total, falls_trans}
-use Rattle.spec.specs.Walk.{checked_at}
-use Rattle.models.specs.Cert.{flags_of, height_of, has_proof}
-use Rattle.models.specs.Digest.{Fit}
-use Rattle.models.specs.Tables.{round_at, status_at, place_at, Used}
-use Rattle.models.specs.DagPoint.{case_of}
-use Rattle.models.specs.Refusal.{refusal_of, unless_failed, conflicting, not_valid, is_failed, checked_as_not, by_check, failed_elim}
-use Rattle.models.specs.declared.refusal.Refusal.{Refusal}
-use Rattle.models.specs.declared.refusal.Check.TheVariants.{Passed, Failed}
-use Rattle.dag_round_keys.specs.Look.{look_as, look_place}
-use Rattle.dag_round_keys.specs.Sorted.{rounds_rise}
-use Rattle.commit_state.specs.View.{point_at, resolution_at}
-use Rattle.commit_state.specs.declared.state.State.{State}
-use Rattle.tables_test.specs.View.{view}
-use Rattle.tables_test.specs.Edges.{resolved_is}
-use Rattle.tables_test.specs.Whole.{places_is}
-use Rattle.tables_test.specs.Refines.{Started}
-use Rattle.dag_round_order.specs.Span.{below-le}
-use Rattle.back_history.specs.Marks.{On}
-use Rattle.back_history.specs.RefinesNeeded.{low_of, high_of, marks_of, used_point, used_round, used_height, low_high, needed_elim, needed_intro}
-use Rattle.back_history.specs.Refines.{ids_rise}
-use Rattle.back_committable.specs.Scan.{First, Earlier, first_is}
-use Rattle.back_committable.specs.ModelPoints.{committable_of, fault_of, fault_at, faulty, faulty_at, round_of, first_fault, found_fault}
 
 -- ---- one point
 

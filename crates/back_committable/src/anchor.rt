@@ -5,7 +5,7 @@ ghost use Rattle.spec.specs.Chain.{good};
 ghost use Rattle.spec.specs.History.{tested};
 ghost use Rattle.models.specs.Refusal.{unless_failed};
 ghost use Rattle.models.specs.Tables.{Used};
-ghost use Rattle.tables_test.specs.View.{view};
+ghost use Rattle.tables_test.specs.View.{view_of};
 ghost use Rattle.tables_test.specs.Refines.{Started};
 ghost use Rattle.dag_round_points.specs.Model.{Ready};
 ghost use Rattle.back_history.specs.Model.{Range};
@@ -17,10 +17,10 @@ use crate::fault::history_fault;
 use back_history::{
     any_uncertified, count_points, gather_uncommitted, history_limit, rounds_missing,
 };
-use commit_state::state::State;
+use commit_state::dag::Dag;
 use models::parts::Round;
 use models::place::round_at;
-use models::refusal::{AT_GENESIS, Check, NOT_CERTIFIED, ROUNDS_MISSING, Refusal};
+use models::refusal::{AT_GENESIS, NOT_CERTIFIED, ROUNDS_MISSING, Refusal};
 use models::tables::PLACES_MAX;
 
 // The positions of a history, from `low` to `high`, its limit and its lowest round.
@@ -41,10 +41,11 @@ pub struct Gathered {
 }
 
 // What an anchor's tests give, which refuse it with 22, 13 to 15, 17 or 18. Its history: the marked places that are not committed, of
-// the positions from `low` to `high`, and their number; its lowest round.
+// the positions from `low` to `high`, and their number; its lowest round. The check stands beside them and not around them: the clauses say
+// them of a refused anchor too.
 #[derive(Clone, Copy)]
 pub struct Tested {
-    pub check: Check,
+    pub check: Result<(), Refusal>,
     pub lowest: Round,
     pub low: usize,
     pub high: usize,
@@ -53,18 +54,18 @@ pub struct Tested {
 }
 
 // The positions of the history of an anchor of this round.
-fn span_of(s: State, keys: &[u64], order: &[u64], round: Round) -> HistorySpan
-    requires ready { Ready s keys.now order.now }
-    requires genesis_bound { (s.genesis.0 ≤ 4000000000) × (round.0 ≤ 4000000000) }
-    ensures { result ≡ history_span s keys.now order.now round.0 }
+fn span_of(dag: &Dag, round: Round) -> HistorySpan
+    requires ready { Ready dag.now.state.now dag.now.keys.now dag.now.order.now }
+    requires genesis_bound { (dag.now.state.now.genesis.0 ≤ 4000000000) × (round.0 ≤ 4000000000) }
+    ensures { result ≡ history_span dag.now.state.now dag.now.keys.now dag.now.order.now round.0 }
 {
-    let genesis = s.genesis;
-    let bottom = s.bottom;
-    let limit = history_limit(genesis, s.commit_history_rounds, round);
+    let genesis = dag.state.genesis;
+    let bottom = dag.state.bottom;
+    let limit = history_limit(genesis, dag.state.commit_history_rounds, round);
     let lowest = limit.max(bottom);
-    let n = s.count;
-    let low = dag_round_order::span::cut(keys, order, n, lowest);
-    let high = dag_round_order::span::cut(keys, order, n, round.plus(1));
+    let n = dag.state.count;
+    let low = dag_round_order::span::cut(dag.keys, dag.order, n, lowest);
+    let high = dag_round_order::span::cut(dag.keys, dag.order, n, round.plus(1));
     HistorySpan {
         limit: limit,
         lowest: lowest,
@@ -75,62 +76,48 @@ fn span_of(s: State, keys: &[u64], order: &[u64], round: Round) -> HistorySpan
 
 // What the anchor of this round is refused with.
 fn anchor_code(
-    s: State,
+    dag: &Dag,
     marks: &[bool; PLACES_MAX],
-    keys: &[u64],
-    certs: &[u64],
     taken: &[bool; PLACES_MAX],
-    order: &[u64],
     span: HistorySpan,
     round: Round,
-) -> Check
-    requires range { Range certs.now order.now span.low span.high }
-    requires keys_len { (length keys.now ≡ length order.now * 8) × Rounds keys.now order.now span.high }
-    ensures { result ≡ code_of s keys.now (supposing taken.now certs.now) order.now marks.now span round.0 }
+) -> Result<(), Refusal>
+    requires range { Range dag.now.certs.now dag.now.order.now span.low span.high }
+    requires keys_len { (length dag.now.keys.now ≡ length dag.now.order.now * 8) × Rounds dag.now.keys.now dag.now.order.now span.high }
+    ensures { result ≡ code_of dag.now.state.now dag.now.keys.now (supposing taken.now dag.now.certs.now) dag.now.order.now marks.now span round.0 }
 {
-    let genesis = s.genesis;
+    let genesis = dag.state.genesis;
     if round.0 <= genesis.0 {
-        return Check::Failed(Refusal::Number(AT_GENESIS));
+        return Err(Refusal::Number(AT_GENESIS));
     }
     let low = span.low;
     let high = span.high;
-    let check = history_fault(marks, keys, certs, order, low, high);
-    if let Check::Failed(r) = check {
-        return Check::Failed(r);
-    }
-    let full = s.full_history_bottom;
+    history_fault(marks, dag, low, high)?;
+    let full = dag.state.full_history_bottom;
     let limit = span.limit;
-    let bottom = s.bottom;
+    let bottom = dag.state.bottom;
     if rounds_missing(full, limit, bottom) {
-        return Check::Failed(Refusal::Number(ROUNDS_MISSING));
+        return Err(Refusal::Number(ROUNDS_MISSING));
     }
-    if any_uncertified(marks, certs, taken, order, low, high) {
-        return Check::Failed(Refusal::Number(NOT_CERTIFIED));
+    if any_uncertified(marks, dag, taken, low, high) {
+        return Err(Refusal::Number(NOT_CERTIFIED));
     }
-    Check::Passed
+    Ok(())
 }
 
 // The history of the anchor at a used place.
-pub fn gather_history(
-    s: State,
-    keys: &[u64],
-    links: &[u64],
-    certs: &[u64],
-    taken: &[bool; PLACES_MAX],
-    order: &[u64],
-    anchor: usize,
-) -> Gathered
-    requires started { Started s keys.now links.now certs.now order.now }
-    requires used { Used order.now s.count anchor }
-    ensures { result ≡ gathered_of s keys.now links.now (supposing taken.now certs.now) order.now anchor }
+pub fn gather_history(dag: &Dag, taken: &[bool; PLACES_MAX], anchor: usize) -> Gathered
+    requires started { Started dag.now.state.now dag.now.keys.now dag.now.links.now dag.now.certs.now dag.now.order.now }
+    requires used { Used dag.now.order.now dag.now.state.now.count anchor }
+    ensures { result ≡ gathered_of dag.now.state.now dag.now.keys.now dag.now.links.now (supposing taken.now dag.now.certs.now) dag.now.order.now anchor }
 {
-    let round = round_at(keys, anchor);
-    let span = span_of(s, keys, order, round);
+    let round = round_at(dag.keys, anchor);
+    let span = span_of(dag, round);
     let low = span.low;
     let high = span.high;
-    let bottom = s.bottom;
-    let marks = gather_uncommitted(keys, links, certs, taken, order, bottom, low, high, anchor);
-    let count = count_points(&marks, certs, taken, order, low, high);
+    let bottom = dag.state.bottom;
+    let marks = gather_uncommitted(dag, taken, bottom, low, high, anchor);
+    let count = count_points(&marks, dag, taken, low, high);
     Gathered {
         span: span,
         count: count,
@@ -139,24 +126,16 @@ pub fn gather_history(
 }
 
 // The tests of the anchor at a used place.
-pub fn test_supposed(
-    s: State,
-    keys: &[u64],
-    links: &[u64],
-    certs: &[u64],
-    taken: &[bool; PLACES_MAX],
-    order: &[u64],
-    anchor: usize,
-) -> Tested
-    requires started { Started s keys.now links.now certs.now order.now }
-    requires used { Used order.now s.count anchor }
-    ensures { result ≡ tested_of s keys.now links.now (supposing taken.now certs.now) order.now anchor }
+pub fn test_supposed(dag: &Dag, taken: &[bool; PLACES_MAX], anchor: usize) -> Tested
+    requires started { Started dag.now.state.now dag.now.keys.now dag.now.links.now dag.now.certs.now dag.now.order.now }
+    requires used { Used dag.now.order.now dag.now.state.now.count anchor }
+    ensures { result ≡ tested_of dag.now.state.now dag.now.keys.now dag.now.links.now (supposing taken.now dag.now.certs.now) dag.now.order.now anchor }
 {
-    let round = round_at(keys, anchor);
-    let g = gather_history(s, keys, links, certs, taken, order, anchor);
+    let round = round_at(dag.keys, anchor);
+    let g = gather_history(dag, taken, anchor);
     let span = g.span;
     let marks = g.marks;
-    let check = anchor_code(s, &marks, keys, certs, taken, order, span, round);
+    let check = anchor_code(dag, &marks, taken, span, round);
     let lowest = span.lowest;
     Tested {
         check,
@@ -169,19 +148,12 @@ pub fn test_supposed(
 }
 
 // The same with no place taken, as a commit tests.
-pub fn test_anchor(
-    s: State,
-    keys: &[u64],
-    links: &[u64],
-    certs: &[u64],
-    order: &[u64],
-    anchor: usize,
-) -> Tested
-    requires started { Started s keys.now links.now certs.now order.now }
-    requires used { Used order.now s.count anchor }
-    ensures whole { result ≡ tested_of s keys.now links.now certs.now order.now anchor }
-    ensures outcome { unless_failed result.check (good anchor) ≡ tested (view s keys.now links.now certs.now order.now) anchor }
+pub fn test_anchor(dag: &Dag, anchor: usize) -> Tested
+    requires started { Started dag.now.state.now dag.now.keys.now dag.now.links.now dag.now.certs.now dag.now.order.now }
+    requires used { Used dag.now.order.now dag.now.state.now.count anchor }
+    ensures whole { result ≡ tested_of dag.now.state.now dag.now.keys.now dag.now.links.now dag.now.certs.now dag.now.order.now anchor }
+    ensures outcome { unless_failed result.check (good anchor) ≡ tested (view_of dag.now) anchor }
 {
     let taken = [false; PLACES_MAX];
-    test_supposed(s, keys, links, certs, &taken, order, anchor)
+    test_supposed(dag, &taken, anchor)
 }

@@ -6,15 +6,16 @@ ghost use Rattle.back_history.specs.Model.{Range};
 ghost use Rattle.back_committable.specs.Scan.{sooner_of};
 ghost use Rattle.back_committable.specs.ModelPoints.{fault_at, faulty, round_of, first_fault, found_fault, Rounds};
 
+use commit_state::dag::Dag;
 use dag_round_keys::look::{Look, look_place};
 use models::cert::Cert;
 use models::dag_point::DagPoint;
 use models::place::{round_at, round_word};
-use models::refusal::{Check, NEVER_NAMED, POINT_MISSING, Refusal, not_valid};
+use models::refusal::{NEVER_NAMED, POINT_MISSING, Refusal, not_valid};
 use models::tables::PLACES_MAX;
 
 // What the point at place q of a history is refused with: 14, 13 or 15 (`committable_point`). A place in use was named: no 25.
-pub fn committable_point(keys: &[u64], certs: &[u64], q: usize) -> Check
+pub fn committable_point(keys: &[u64], certs: &[u64], q: usize) -> Result<(), Refusal>
     requires { (q * 8 + 8 ≤ length keys.now) × (round_at keys.now q ≤ 4000000000) × (q < length certs.now) }
     ensures { result ≡ fault_at keys.now certs.now q }
 {
@@ -22,15 +23,15 @@ pub fn committable_point(keys: &[u64], certs: &[u64], q: usize) -> Check
     let round = round_at(keys, q);
     let cert = Cert(certs[q]);
     match look {
-        Look::Never => Check::Failed(Refusal::Number(NEVER_NAMED)),
-        Look::Named(_) => Check::Failed(Refusal::Number(POINT_MISSING)),
+        Look::Never => Err(Refusal::Number(NEVER_NAMED)),
+        Look::Named(_) => Err(Refusal::Number(POINT_MISSING)),
         Look::Resolved(_, p) => match p {
-            DagPoint::Valid => Check::Passed,
+            DagPoint::Valid => Ok(()),
             DagPoint::TransInvalid => {
                 if cert.has_proof() {
-                    return Check::Failed(Refusal::Conflict(round));
+                    return Err(Refusal::Conflict(round));
                 }
-                Check::Passed
+                Ok(())
             }
             DagPoint::Invalid => not_valid(cert, round),
             DagPoint::IllFormed => not_valid(cert, round),
@@ -47,11 +48,7 @@ fn is_faulty(marks: &[bool; PLACES_MAX], keys: &[u64], certs: &[u64], q: usize) 
     if !marks[q] {
         return false;
     }
-    let check = committable_point(keys, certs, q);
-    match check {
-        Check::Passed => false,
-        Check::Failed(_) => true,
-    }
+    committable_point(keys, certs, q).is_err()
 }
 
 // The sooner tested of the position found so far (`none` for none yet) and p, which stands below it.
@@ -73,25 +70,16 @@ fn sooner(keys: &[u64], order: &[u64], none: usize, found: usize, p: usize) -> u
 }
 
 // The position from `low` to `high` of the first point that isn't usable, or `high`.
-pub fn first_fault(
-    marks: &[bool; PLACES_MAX],
-    keys: &[u64],
-    certs: &[u64],
-    order: &[u64],
-    low: usize,
-    high: usize,
-) -> usize
-    requires range { Range certs.now order.now low high }
-    requires keys_len { (length keys.now ≡ length order.now * 8) × Rounds keys.now order.now high }
-    ensures { result ≡ first_fault keys.now certs.now order.now marks.now low high }
+pub fn first_fault(marks: &[bool; PLACES_MAX], dag: &Dag, low: usize, high: usize) -> usize
+    requires range { Range dag.now.certs.now dag.now.order.now low high }
+    requires keys_len { (length dag.now.keys.now ≡ length dag.now.order.now * 8) × Rounds dag.now.keys.now dag.now.order.now high }
+    ensures { result ≡ first_fault dag.now.keys.now dag.now.certs.now dag.now.order.now marks.now low high }
 {
     let mut found = high;
-    let mut p = high;
-    while low < p {
-        p -= 1;
-        let q = dag_round_keys::place(order, high, p);
-        if is_faulty(marks, keys, certs, q) {
-            found = sooner(keys, order, high, found, p);
+    for p in (low..high).rev() {
+        let q = dag_round_keys::place(dag.order, high, p);
+        if is_faulty(marks, dag.keys, dag.certs, q) {
+            found = sooner(dag.keys, dag.order, high, found, p);
         }
     }
     found
@@ -100,20 +88,18 @@ pub fn first_fault(
 // What the history is refused with for its points.
 pub fn history_fault(
     marks: &[bool; PLACES_MAX],
-    keys: &[u64],
-    certs: &[u64],
-    order: &[u64],
+    dag: &Dag,
     low: usize,
     high: usize,
-) -> Check
-    requires range { Range certs.now order.now low high }
-    requires keys_len { (length keys.now ≡ length order.now * 8) × Rounds keys.now order.now high }
-    ensures { result ≡ found_fault keys.now certs.now order.now marks.now low high }
+) -> Result<(), Refusal>
+    requires range { Range dag.now.certs.now dag.now.order.now low high }
+    requires keys_len { (length dag.now.keys.now ≡ length dag.now.order.now * 8) × Rounds dag.now.keys.now dag.now.order.now high }
+    ensures { result ≡ found_fault dag.now.keys.now dag.now.certs.now dag.now.order.now marks.now low high }
 {
-    let p = first_fault(marks, keys, certs, order, low, high);
+    let p = first_fault(marks, dag, low, high);
     if high <= p {
-        return Check::Passed;
+        return Ok(());
     }
-    let q = dag_round_keys::place(order, high, p);
-    committable_point(keys, certs, q)
+    let q = dag_round_keys::place(dag.order, high, p);
+    committable_point(dag.keys, dag.certs, q)
 }

@@ -10,6 +10,7 @@ ghost use Rattle.back_history.specs.Model.{limit_of, missing, put, marked, is_un
 ghost use Rattle.back_history.specs.Supposing.{supposing};
 ghost use Rattle.back_history.specs.Picked.{uncommitted_at, uncertified_at};
 
+use commit_state::dag::Dag;
 use models::cert::Cert;
 use models::parts::Round;
 use models::place::target;
@@ -52,10 +53,8 @@ fn mark_links(marks: &mut [bool; PLACES_MAX], links: &[u64], q: usize, m: usize)
     requires { (m ≤ 64) × (q * 328 + 328 ≤ length links.now) }
     ensures { marks.new ≡ marked links.now marks.old q m }
 {
-    let mut k: usize = 0;
-    while k < m {
+    for k in 0..m {
         mark_target(marks, target(links, q, k));
-        k += 1;
     }
 }
 
@@ -90,100 +89,79 @@ pub fn is_fresh(
 // From position `high` down to `low`: a marked place that is neither committed nor taken marks the places that its live links lead to.
 fn sweep(
     marks: &mut [bool; PLACES_MAX],
-    keys: &[u64],
-    links: &[u64],
-    certs: &[u64],
+    dag: &Dag,
     taken: &[bool; PLACES_MAX],
-    order: &[u64],
     bottom: Round,
     low: usize,
     high: usize,
 )
-    requires range { Range certs.now order.now low high }
-    requires keys_len { (length keys.now ≡ length order.now * 8) × (length links.now ≡ length order.now * 328) }
-    ensures { marks.new ≡ swept bottom.0 keys.now links.now
-        (supposing taken.now certs.now) order.now marks.old high (high - low) }
+    requires range { Range dag.now.certs.now dag.now.order.now low high }
+    requires keys_len { (length dag.now.keys.now ≡ length dag.now.order.now * 8) × (length dag.now.links.now ≡ length dag.now.order.now * 328) }
+    ensures { marks.new ≡ swept bottom.0 dag.now.keys.now dag.now.links.now
+        (supposing taken.now dag.now.certs.now) dag.now.order.now marks.old high (high - low) }
 {
-    let mut p = high;
-    while low < p {
-        p -= 1;
-        let q = dag_round_keys::place(order, high, p);
-        if is_fresh(marks, certs, taken, q) {
-            mark_links(marks, links, q, models::place::live_links(keys, bottom, q));
+    for p in (low..high).rev() {
+        let q = dag_round_keys::place(dag.order, high, p);
+        if is_fresh(marks, dag.certs, taken, q) {
+            mark_links(
+                marks,
+                dag.links,
+                q,
+                models::place::live_links(dag.keys, bottom, q),
+            );
         }
     }
 }
 
 // The places that the anchor needs, of the positions from `low` to `high`; those committed or taken hand on no links.
 pub fn gather_uncommitted(
-    keys: &[u64],
-    links: &[u64],
-    certs: &[u64],
+    dag: &Dag,
     taken: &[bool; PLACES_MAX],
-    order: &[u64],
     bottom: Round,
     low: usize,
     high: usize,
     anchor: usize,
 ) -> [bool; PLACES_MAX]
-    requires range { Range certs.now order.now low high }
-    requires keys_len { (length keys.now ≡ length order.now * 8) × (length links.now ≡ length order.now * 328) × (anchor < length order.now) }
-    ensures { result ≡ marks bottom.0 keys.now links.now (supposing taken.now certs.now) order.now low high anchor }
+    requires range { Range dag.now.certs.now dag.now.order.now low high }
+    requires keys_len { (length dag.now.keys.now ≡ length dag.now.order.now * 8) × (length dag.now.links.now ≡ length dag.now.order.now * 328) × (anchor < length dag.now.order.now) }
+    ensures { result ≡ marks bottom.0 dag.now.keys.now dag.now.links.now (supposing taken.now dag.now.certs.now) dag.now.order.now low high anchor }
 {
     let mut marks = [false; PLACES_MAX];
     marks[anchor] = true;
-    sweep(
-        &mut marks, keys, links, certs, taken, order, bottom, low, high,
-    );
+    sweep(&mut marks, dag, taken, bottom, low, high);
     marks
 }
 
 // Whether a point of the history has the height 0.
 pub fn any_uncertified(
     marks: &[bool; PLACES_MAX],
-    certs: &[u64],
+    dag: &Dag,
     taken: &[bool; PLACES_MAX],
-    order: &[u64],
     low: usize,
     high: usize,
 ) -> bool
-    requires { Range certs.now order.now low high }
-    ensures { result ≡ any (high - low) (uncertified_at (supposing taken.now certs.now) order.now marks.now low) }
+    requires { Range dag.now.certs.now dag.now.order.now low high }
+    ensures { result ≡ any (high - low) (uncertified_at (supposing taken.now dag.now.certs.now) dag.now.order.now marks.now low) }
 {
-    let mut k: usize = 0;
-    while k < high - low {
-        let q = dag_round_keys::place(order, high, low + k);
-        if is_fresh(marks, certs, taken, q) {
-            let cert = Cert(certs[q]);
-            if !cert.is_certified() {
-                return true;
-            }
-        }
-        k += 1;
-    }
-    false
+    dag.order[low..high].iter().any(|&word| {
+        let q = laws::slot(word);
+        is_fresh(marks, dag.certs, taken, q) && !Cert(dag.certs[q]).is_certified()
+    })
 }
 
 // How many points the history has.
 pub fn count_points(
     marks: &[bool; PLACES_MAX],
-    certs: &[u64],
+    dag: &Dag,
     taken: &[bool; PLACES_MAX],
-    order: &[u64],
     low: usize,
     high: usize,
 ) -> usize
-    requires { Range certs.now order.now low high }
-    ensures { result ≡ length (those (high - low) (uncommitted_at (supposing taken.now certs.now) order.now marks.now low)) }
+    requires { Range dag.now.certs.now dag.now.order.now low high }
+    ensures { result ≡ length (those (high - low) (uncommitted_at (supposing taken.now dag.now.certs.now) dag.now.order.now marks.now low)) }
 {
-    let mut n: usize = 0;
-    let mut k: usize = 0;
-    while k < high - low {
-        let q = dag_round_keys::place(order, high, low + k);
-        if is_fresh(marks, certs, taken, q) {
-            n += 1;
-        }
-        k += 1;
-    }
-    n
+    dag.order[low..high]
+        .iter()
+        .filter(|&&word| is_fresh(marks, dag.certs, taken, laws::slot(word)))
+        .count()
 }

@@ -24,16 +24,10 @@ pub fn count_linked(marks: &[bool; PLACES_MAX], order: &[u64], low: usize, high:
     requires { Run order.now low high }
     ensures { result ≡ length (linked_by order.now marks.now low (high - low)) }
 {
-    let mut n: usize = 0;
-    let mut k: usize = 0;
-    while k < high - low {
-        let q = dag_round_keys::place(order, high, low + k);
-        if marks[q] {
-            n += 1;
-        }
-        k += 1;
-    }
-    n
+    order[low..high]
+        .iter()
+        .filter(|&&word| marks[laws::slot(word)])
+        .count()
 }
 
 // The first marked position from `at` on, or `high`: positions of a round rise by digest, so it is "the needed point of least digest
@@ -42,15 +36,13 @@ pub fn pick(marks: &[bool; PLACES_MAX], order: &[u64], at: usize, high: usize) -
     requires { Run order.now at high }
     ensures { result ≡ pick_from order.now marks.now at high }
 {
-    let mut passed: usize = 0;
-    while passed < high - at {
-        let q = dag_round_keys::place(order, high, at + passed);
-        if marks[q] {
-            return at + passed;
-        }
-        passed += 1;
+    match order[at..high]
+        .iter()
+        .position(|&word| marks[laws::slot(word)])
+    {
+        Some(passed) => at + passed,
+        None => high,
     }
-    high
 }
 
 // The place of rank v among the marked ones of a round: "without a buffer of points", by v + 1 picks.
@@ -61,10 +53,8 @@ pub fn ranked(marks: &[bool; PLACES_MAX], order: &[u64], low: usize, high: usize
     ensures upper_bound { result < length order.now }
 {
     let mut p = pick(marks, order, low, high);
-    let mut k: usize = 0;
-    while k < v {
+    for _k in 0..v {
         p = pick(marks, order, p + 1, high);
-        k += 1;
     }
     dag_round_keys::place(order, high, p)
 }
@@ -86,9 +76,8 @@ pub fn each_once(lists: &[u8], from: usize, n: usize) -> bool
         return false;
     }
     let mut seen = [false; RANKS_MAX];
-    let mut k: usize = 0;
-    while k < n {
-        let v = byte_at(lists, from + k);
+    for &byte in &lists[from..from + n] {
+        let v = byte as usize;
         if n <= v {
             return false;
         }
@@ -96,7 +85,6 @@ pub fn each_once(lists: &[u8], from: usize, n: usize) -> bool
             return false;
         }
         seen[v] = true;
-        k += 1;
     }
     true
 }
@@ -146,15 +134,13 @@ pub fn lists_fit(
     let rounds = above.minus(lowest.0);
     let total = rounds.0;
     let mut end = from;
-    let mut k: u32 = 0;
-    while k < total {
+    for k in 0..total {
         let r = round.minus(k);
         let count = count_round(keys, order, n, marks, r);
         if !each_once(lists, end, count) {
             return Listed { ok: false, end };
         }
         end += count;
-        k += 1;
     }
     Listed { ok: true, end }
 }

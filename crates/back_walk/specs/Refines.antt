@@ -24,11 +24,8 @@ use Rattle.models.specs.DagPoint.{case_of, is_valid, valid_is}
 use Rattle.models.specs.Refusal.{refusal_of, unless_failed, checked_as_not}
 use Rattle.models.specs.declared.dag_point.DagPoint.{DagPoint}
 use Rattle.models.specs.declared.dag_point.DagPoint.TheVariants.{Valid, TransInvalid, Invalid, IllFormed, NotFound}
-use Rattle.models.specs.declared.dag_point.Resolved.TheVariants.{Case}
 use Rattle.models.specs.declared.parts.PointId.{PointId}
 use Rattle.models.specs.declared.refusal.Refusal.TheVariants.{Number}
-use Rattle.models.specs.declared.refusal.Check.{Check}
-use Rattle.models.specs.declared.refusal.Check.TheVariants.{Passed, Failed}
 use Rattle.dag_round_keys.specs.Id as id
 use Rattle.dag_round_keys.specs.Look.{look_for, look-told}
 use Rattle.dag_round_keys.specs.declared.look.Look.{Look}
@@ -48,17 +45,18 @@ use Rattle.dag_round_points.specs.Tests.{ready}
 use Rattle.dag_round_points.specs.Point.{found-round}
 use Rattle.dag_round_points.specs.RefinesPoint.{look_of, look_is, words-id}
 use Rattle.back_walk.specs.declared.EnqueuedAnchor.{EnqueuedAnchor}
-use Rattle.dag_round_points.specs.declared.Found.{Found}
-use Rattle.dag_round_points.specs.declared.Found.TheVariants.{At, Refused}
-use Rattle.back_walk.specs.declared.Step.{Step}
-use Rattle.back_walk.specs.declared.Step.TheVariants.{Pass, End, Bad, Anchor}
+use Rattle.back_walk.specs.declared.Step.TheVariants.{Pass, End, Anchor}
 use Rattle.models.specs.Ids.{id_from, has_previous, previous_id, top_id}
 use Rattle.back_walk.specs.Model.{Walkable, Linked, judge_of, needed_at, needed_of, needed, needed_at_lem, proof_of, proof_at, anchor_of, anchor_at, used_at, at_proof, marked_step, step_at}
+use Rattle.std.specs.Prelude.{Err, Ok, Some}
+use Rattle.models.specs.Refusal.{Check}
+use Rattle.dag_round_points.specs.Codes.{Found}
+use Rattle.back_walk.specs.Model.{Stepped}
 
 -- the place of a needed point, or what it is refused with
 unfoldable pub place_or : Found → Out ℕ
-place_or (At q) = good q
-place_or (Refused r) = bad (refusal_of r)
+place_or (Ok q) = good q
+place_or (Err r) = bad (refusal_of r)
 
 -- an anchor of the code as the definitions'
 abbrev pub enqueued_of : EnqueuedAnchor → chain.EnqueuedAnchor
@@ -69,11 +67,11 @@ abbrev pub Below : Type 0
 Below = PointId → List chain.EnqueuedAnchor → Out (List chain.EnqueuedAnchor)
 
 -- how it goes on after a step
-unfoldable pub onward : List ℕ → Step → Below → Below
-onward ls Pass f i acc = f i acc
-onward ls End f i acc = good acc
-onward ls (Bad r) f i acc = bad (refusal_of r)
-onward ls (Anchor e) f i acc = f (top_id ls e.anchor) (enqueued_of e ∷ acc)
+unfoldable pub onward : List ℕ → Stepped → Below → Below
+onward ls (Ok Pass) f i acc = f i acc
+onward ls (Ok End) f i acc = good acc
+onward ls (Err r) f i acc = bad (refusal_of r)
+onward ls (Ok (Anchor e)) f i acc = f (top_id ls e.anchor) (enqueued_of e ∷ acc)
 
 -- ---- ids
 
@@ -138,15 +136,15 @@ module _ (ls : List ℕ) (q a : ℕ) where
 -- a needed place, by what it is refused with
 place_is : (q : ℕ) (c : Check) → place_or (needed_at q c) ≡ unless_failed c (good q)
 unfolding place_or needed_at unless_failed
-place_is q Passed = refl
-place_is q (Failed r) = refl
+place_is q (Ok tt) = refl
+place_is q (Err r) = refl
 
 -- 01's verdict on a resolved point, by its case and its certificate word
-checked_as_is : (st : ℕ) (p : DagPoint) (c r q : ℕ) → case_of st ≡ Case p → checked_as (eqb st 1) (ltb 0 (height_of c)) r q ≡ unless_failed (judge_of p c r) (good q)
+checked_as_is : (st : ℕ) (p : DagPoint) (c r q : ℕ) → case_of st ≡ Some p → checked_as (eqb st 1) (ltb 0 (height_of c)) r q ≡ unless_failed (judge_of p c r) (good q)
 unfolding checked_as unless_failed judge_of is_valid
 checked_as_is st p c r q e = ap (λ (b : Bool). checked_as b (ltb 0 (height_of c)) r q) (sym (valid_is st) ∙ ap is_valid e) ∙ by p
   where
-    by : (p : DagPoint) → checked_as (is_valid (Case p)) (ltb 0 (height_of c)) r q ≡ unless_failed (judge_of p c r) (good q)
+    by : (p : DagPoint) → checked_as (is_valid (Some p)) (ltb 0 (height_of c)) r q ≡ unless_failed (judge_of p c r) (good q)
     by Valid = refl
     by TransInvalid = checked_as_not c r q
     by Invalid = checked_as_not c r q
@@ -289,10 +287,10 @@ module _ (s : State) (ks ls cs os : List ℕ) (fk : Fit ks) (fl : Fit ls) (h : c
           next a k e = ap (λ (j : Id). below j (record { anchor = a; proof = p; prev_proof_round = j.round } ∷ acc)) (top_id_lem a k (omega arith))
 
           by : (f : Found) → f ≡ needed s ks cs os to → then (place_or f) (enqueue v below acc p) ≡ onward ls (anchor_of ls p f) on i acc
-          by (Refused r) e = refl
-          by (At a) e = let (k, o) = needed_at_lem s ks cs os to _ refl a (sym e) in next a k o
+          by (Err r) e = refl
+          by (Ok a) e = let (k, o) = needed_at_lem s ks cs os to _ refl a (sym e) in next a k o
 
-      proof_is : chain.at_proof v x (leb x low) below acc p ≡ onward ls (at_proof s ks ls cs os low x (proof_of ks ls (At p))) on i acc
+      proof_is : chain.at_proof v x (leb x low) below acc p ≡ onward ls (at_proof s ks ls cs os low x (proof_of ks ls (Ok p))) on i acc
       unfolding chain.at_proof to_previous to_anchor onward refusal_of proof_of at_proof
       proof_is =
           let st : 0 < status_at ks p = omega arith in
@@ -300,12 +298,12 @@ module _ (s : State) (ks ls cs os : List ℕ) (fk : Fit ks) (fl : Fit ls) (h : c
           ∙ by (eqb (marks_at ks p % 2) 0) (has_previous ks ls p)
         where
           -- the walk's lowest round, or a higher one
-          lowest : (c : Bool) → to_anchor v x c below acc p (digest_at ls (p * 328 + 72 + author_at ks p * 4)) ≡ onward ls (cond c End (anchor_at s ks ls cs os p (x - 1))) on i acc
+          lowest : (c : Bool) → to_anchor v x c below acc p (digest_at ls (p * 328 + 72 + author_at ks p * 4)) ≡ onward ls (cond c (Ok End) (anchor_at s ks ls cs os p (x - 1))) on i acc
           lowest true = refl
           lowest false = ap (λ (j : Id). then (ready_valid_point v j) (enqueue v below acc p)) (previous_id_lem p u (omega arith) (x - 1)) ∙ anchor_is
 
           by : (a b : Bool) → ◌≡◌ {A = Out (List chain.EnqueuedAnchor)} (elim (not a) [ true ↦ to_previous v x (leb x low) below acc p (cond b (some (digest_at ls (p * 328 + 72 + author_at ks p * 4))) none) | false ↦ bad (number 16) ])
-              (onward ls (at_proof s ks ls cs os low x (cond a (Refused (Number 16)) (cond b (At p) (Refused (Number 16))))) on i acc)
+              (onward ls (at_proof s ks ls cs os low x (cond a (Err (Number 16)) (cond b (Ok p) (Err (Number 16))))) on i acc)
           by true b = refl
           by false false = refl
           by false true = lowest (leb x low)
@@ -316,8 +314,8 @@ module _ (s : State) (ks ls cs os : List ℕ) (fk : Fit ks) (fl : Fit ls) (h : c
     sought_is = ap (λ (o : Out ℕ). then o (chain.at_proof v x (leb x low) below acc)) (need_is i fi) ∙ by (needed s ks cs os i) refl
       where
         by : (f : Found) → f ≡ needed s ks cs os i → then (place_or f) (chain.at_proof v x (leb x low) below acc) ≡ onward ls (at_proof s ks ls cs os low x (proof_of ks ls f)) on i acc
-        by (Refused r) e = refl
-        by (At p) e = let (u, o) = needed_at_lem s ks cs os i _ refl p (sym e) in proof_is p u o
+        by (Err r) e = refl
+        by (Ok p) e = let (u, o) = needed_at_lem s ks cs os i _ refl p (sym e) in proof_is p u o
 
     marked_is : (u : ℕ) → at_used v x (leb x low) below acc (id_of i) (option_of u) ≡ onward ls (marked_step s ks ls cs os low x u i) on i acc
     unfolding option_of at_used marked_step used_at onward refusal_of

@@ -8,7 +8,7 @@ use commit_points::name::add_dependency;
 use commit_points::resolve::resolve;
 use commit_rounds::{drop_upto, extend_from_ahead};
 use commit_start::init;
-use commit_state::back::{StartArgs, UsedAuthor};
+use commit_state::back::StartArgs;
 use commit_state::state::{Entry, Memory, RoundRecord, State};
 use models::cert::HEIGHTS;
 use models::info::PointInfo;
@@ -135,7 +135,7 @@ fn k9() {
         bottom: Round(20),
         peers: 1,
         after_gap: false,
-        used: UsedAuthor::Nobody,
+        used: None,
     };
     let started = init(noise(), &mut keys, &mut links, &mut certs, &mut order, with);
     let first = started.answer;
@@ -209,11 +209,9 @@ fn with_chain(
     to: u32,
 ) -> State {
     let mut now = s;
-    let mut r = from;
-    while r < to {
+    for r in from..to {
         let below = [0, 0, 0, 0, r as u64];
-        r += 1;
-        let next = with_point(now, keys, links, certs, order, r, &below);
+        let next = with_point(now, keys, links, certs, order, r + 1, &below);
         now = next;
     }
     now
@@ -221,8 +219,8 @@ fn with_chain(
 
 // The height of each place, in their order.
 fn write_heights(certs: &[u64]) {
-    for i in 0..certs.len() {
-        write_number(certs[i] % HEIGHTS);
+    for cert in certs {
+        write_number(*cert % HEIGHTS);
     }
 }
 
@@ -240,7 +238,7 @@ fn k4_and_k5() {
         bottom: Round(16),
         peers: 1,
         after_gap: false,
-        used: UsedAuthor::Nobody,
+        used: None,
     };
     let started = init(noise(), &mut keys, &mut links, &mut certs, &mut order, with);
     let first = started.answer;

@@ -62,12 +62,10 @@ fn certify_deps(
     let cert = Cert(certs[p]);
     let h = cert.height();
     let mut end = tail;
-    let mut k: usize = 0;
-    while k < m {
+    for k in 0..m {
         let word = target(links, p, k);
         let d = (1 + k / PEERS_MAX) as u16;
         end = certify_deeper(certs, queue, end, word, h, d);
-        k += 1;
     }
     end
 }
@@ -87,6 +85,7 @@ fn certify_queued(keys: &[u64], links: &[u64], certs: &mut [u64], queue: &mut [u
 {
     let mut tail: usize = 1;
     let mut head: usize = 0;
+    // A work queue: a visit moves its end too.
     while head < tail {
         let p = slot(queue[head]);
         let m = models::place::live_links(keys, bottom, p);
@@ -107,9 +106,9 @@ pub fn traverse_certify(keys: &[u64], links: &[u64], certs: &mut [u64], q: usize
 }
 
 // Certifies the point at place q: it is a top, and its height is handed on.
-pub fn certify_at(s: State, keys: &[u64], links: &[u64], certs: &mut [u64], q: usize)
-    requires { Certifiable s keys.now links.now certs.old q }
-    ensures { certs.new ≡ certified_certs s keys.now links.now certs.old q }
+pub fn certify_at(s: &State, keys: &[u64], links: &[u64], certs: &mut [u64], q: usize)
+    requires { Certifiable s.now keys.now links.now certs.old q }
+    ensures { certs.new ≡ certified_certs s.now keys.now links.now certs.old q }
 {
     let bottom = s.bottom;
     let height = s.top_height();

@@ -13,13 +13,13 @@ use Rattle.spec.specs.Calls as calls
 use Rattle.spec.specs.Calls.{call, perform, unstarted, is_start, buffer_of, done, flag, anchors, finish}
 use Rattle.models.specs.Refusal.{refusal_of, unless_failed, failed, not_failed}
 use Rattle.models.specs.declared.refusal.Refusal.{Refusal}
-use Rattle.models.specs.declared.refusal.Check.{Check}
-use Rattle.models.specs.declared.refusal.Check.TheVariants.{Passed, Failed}
 use Rattle.commit_state.specs.declared.state.State.{State}
 use Rattle.tables_test.specs.View.{view}
 use Rattle.commit_answer.specs.declared.answer.Answer.{Answer}
 use Rattle.commit_answer.specs.declared.answer.Answer.TheVariants.{Done, Flag, Anchors, Refused}
 use Rattle.commit_answer.specs.declared.answer.Outcome.{Outcome}
+use Rattle.std.specs.Prelude.{Err, Ok}
+use Rattle.models.specs.Refusal.{Check, no_refusal}
 
 -- 01's answer
 unfoldable pub answer_of : Answer → calls.Answer
@@ -90,8 +90,8 @@ refusal s r = record { answer = Refused r 0; state = s }
 
 -- unless the test refuses it, a call that is lent the buffer b leaves x
 unfoldable pub unless_refused_with : Check → Tables → List ℕ → Left → Left
-unless_refused_with Passed d b x = x
-unless_refused_with (Failed r) d b x = record { answer = Refused r 0; tables = d; buffer = b }
+unless_refused_with (Ok tt) d b x = x
+unless_refused_with (Err r) d b x = record { answer = Refused r 0; tables = d; buffer = b }
 
 -- a call without a buffer
 abbrev pub unless_refused : Check → Tables → Left → Left
@@ -106,15 +106,15 @@ tested counted t = cond counted t (failed 2)
 
 -- one law for each way out of the code
 module _ (t : Check) (d : Tables) (y : Left) where
-  pub left-refused : {b : List ℕ} (r : Refusal) → t ≡ Failed r → (o : Outcome) → o ≡ refusal d.state r → left o d.keys d.links d.certs d.order b ≡ unless_refused_with t d b y
+  pub left-refused : {b : List ℕ} (r : Refusal) → t ≡ Err r → (o : Outcome) → o ≡ refusal d.state r → left o d.keys d.links d.certs d.order b ≡ unless_refused_with t d b y
   unfolding refusal unless_refused_with
   left-refused {b} r e o f = ap (λ (z : Outcome). left z d.keys d.links d.certs d.order b) f ∙ rw e refl
 
-  pub left_passed : (b : List ℕ) → t ≡ Passed → (x : Left) → x ≡ y → x ≡ unless_refused_with t d b y
+  pub left_passed : (b : List ℕ) → t ≡ no_refusal → (x : Left) → x ≡ y → x ≡ unless_refused_with t d b y
   unfolding unless_refused_with
   left_passed b e x f = f ∙ rw e refl
 
-  pub left-done : t ≡ Passed → (x : Left) → x ≡ y → x ≡ unless_refused t d y
+  pub left-done : t ≡ no_refusal → (x : Left) → x ≡ y → x ≡ unless_refused t d y
   left-done = left_passed []
 
 -- the test, by whether the tables count as started
@@ -127,8 +127,8 @@ module _ (counted : Bool) (t : Check) (r : Bool) (e : r ≡ counted) where
   unfolding tested
   tested_by h u f = rw (sym e ∙ not-false r h) f
 
--- one that passed
-pub tested-yes : (b : Bool) (t : Check) → tested b t ≡ Passed → (b ≡ true) × (t ≡ Passed)
+-- one that no_refusal
+pub tested-yes : (b : Bool) (t : Check) → tested b t ≡ no_refusal → (b ≡ true) × (t ≡ no_refusal)
 unfolding tested
 tested-yes true t e = (refl, e)
 tested-yes false t e = absurd (not_failed _ e)
@@ -158,18 +158,18 @@ call-tested v c o t u st le ac h = call_by_lem v c st ∙ by (counts_as_started 
 module _ (c : calls.Call) (m : Tables → Left) (d : Tables) (t : Check) (y : Left) (is : m d ≡ unless_refused_with t d (buffer_of c) y) (ok : nothing_done y.answer ≡ false) where
   idle_kept : (u : Check) → nothing_done (unless_refused_with u d (buffer_of c) y).answer ≡ true → ((unless_refused_with u d (buffer_of c) y).tables ≡ d) × ((unless_refused_with u d (buffer_of c) y).buffer ≡ buffer_of c)
   unfolding unless_refused_with
-  idle_kept Passed h = absurd (clash h ok)
-  idle_kept (Failed r) h = (refl, refl)
+  idle_kept (Ok tt) h = absurd (clash h ok)
+  idle_kept (Err r) h = (refl, refl)
 
   did_unless : outcome_of (unless_refused_with t d (buffer_of c) y) ≡ call (view_of d) c → (x : Left) → x ≡ m d → Did c m d x
   did_unless h x e = did c m d (ap outcome_of is ∙ h) (subst (λ (z : Left). nothing_done z.answer ≡ true → (z.tables ≡ d) × (z.buffer ≡ buffer_of c)) (sym is) (idle_kept t)) x e
 
 -- one without a buffer that is done, and leaves the tables e: 01's store u
-module _ (c : calls.Call) (m : Tables → Left) (d e : Tables) (t : Check) (is : m d ≡ unless_refused t d (done_with e)) (le : buffer_of c ≡ []) (u : Store) (h : call (view_of d) c ≡ finish (view_of d) (unless_failed t (good u))) (s : t ≡ Passed → view_of e ≡ u) where
-  done_is : (w : Check) → (w ≡ Passed → view_of e ≡ u) → outcome_of (unless_refused w d (done_with e)) ≡ finish (view_of d) (unless_failed w (good u))
+module _ (c : calls.Call) (m : Tables → Left) (d e : Tables) (t : Check) (is : m d ≡ unless_refused t d (done_with e)) (le : buffer_of c ≡ []) (u : Store) (h : call (view_of d) c ≡ finish (view_of d) (unless_failed t (good u))) (s : t ≡ no_refusal → view_of e ≡ u) where
+  done_is : (w : Check) → (w ≡ no_refusal → view_of e ≡ u) → outcome_of (unless_refused w d (done_with e)) ≡ finish (view_of d) (unless_failed w (good u))
   unfolding outcome_of answer_of unless_refused_with finish unless_failed
-  done_is Passed k = ap (λ v. calls.without_buffer v done) (k refl)
-  done_is (Failed r) k = refl
+  done_is (Ok tt) k = ap (λ v. calls.without_buffer v done) (k refl)
+  done_is (Err r) k = refl
 
   pub did_done : (x : Left) → x ≡ m d → Did c m d x
   unfolding nothing_done
@@ -188,7 +188,7 @@ module _ (c : calls.Call) (m : Tables → Left) (d : Tables) (t : Check) (y : Le
       by false e = refl
 
 -- one that only tables that don't count as started refuse
-pub did_started : (c : calls.Call) (m : Tables → Left) (d : Tables) (y : Left) → m d ≡ unless_refused_with (tested (counts_as_started (view_of d)) Passed) d (buffer_of c) y → nothing_done y.answer ≡ false → is_start c ≡ false
+pub did_started : (c : calls.Call) (m : Tables → Left) (d : Tables) (y : Left) → m d ≡ unless_refused_with (tested (counts_as_started (view_of d)) no_refusal) d (buffer_of c) y → nothing_done y.answer ≡ false → is_start c ≡ false
     → (counts_as_started (view_of d) ≡ true → outcome_of y ≡ perform (view_of d) c) → (x : Left) → x ≡ m d → Did c m d x
 unfolding unless_refused_with
-did_started c m d y is ok st = did_tested c m d Passed y is ok st
+did_started c m d y is ok st = did_tested c m d no_refusal y is ok st

@@ -6,7 +6,7 @@ ghost use Rattle.commit_answer.specs.Answer.{refusal};
 use commit_state::state::State;
 use models::refusal::Refusal;
 
-// Refused holds the number of finished anchors.
+// Refused holds the number of finished anchors. No Result: `Did` says the state and the buffer of a refused call too.
 #[derive(Clone, Copy)]
 pub enum Answer {
     Done,

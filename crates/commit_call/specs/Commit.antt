@@ -16,21 +16,21 @@ use Rattle.tables_test.specs.View.{view}
 use Rattle.back_chain.specs.Walked.{walked}
 use Rattle.commit_dequeue.specs.All.{Left, stop_of, left_of, finished_of, all_of, all_kept, words_after, words_append, all_words}
 use Rattle.models.specs.declared.refusal.Refusal.{Refusal}
-use Rattle.models.specs.declared.refusal.Check.{Check}
-use Rattle.models.specs.declared.refusal.Check.TheVariants.{Passed, Failed}
 use Rattle.commit_answer.specs.declared.answer.Answer.{Answer}
 use Rattle.commit_answer.specs.declared.answer.Answer.TheVariants.{Anchors, Refused}
 use Rattle.commit_answer.specs.declared.answer.Outcome.{Outcome}
 use Rattle.models.specs.Refusal.{refusal_of, refusal_from, refusal_from_of}
 use Rattle.commit_answer.specs.Answer as answers
 use Rattle.commit_answer.specs.Answer.{answer_of, Tables, tables, view_of, left, nothing_done, Did, refusal, by_tables, call_by_lem}
+use Rattle.std.specs.Prelude.{Err, Ok}
+use Rattle.models.specs.Refusal.{Check, no_refusal}
 
 -- ---- mirrors
 
 -- the answer after n finished anchors
 unfoldable pub answer_from : Check → ℕ → Answer
-answer_from Passed n = Anchors n
-answer_from (Failed r) n = Refused r n
+answer_from (Ok tt) n = Anchors n
+answer_from (Err r) n = Refused r n
 
 unfoldable pub ended_of : Check → State → ℕ → Outcome
 ended_of c s n = record { answer = answer_from c n; state = s }
@@ -40,7 +40,7 @@ outcome_of l = record { answer = answer_from l.stopped l.finished; state = l.sta
 
 -- what is left after the walk
 unfoldable pub after_walk : List ℕ → List ℕ → List ℕ → State → List ℕ → List ℕ → List ℕ → Out (List EnqueuedAnchor) → Left
-after_walk ks ls os s cs l b (bad r) = record { state = s; certs = cs; buffer = b; finished = 0; stopped = Failed (refusal_from r) }
+after_walk ks ls os s cs l b (bad r) = record { state = s; certs = cs; buffer = b; finished = 0; stopped = Err (refusal_from r) }
 after_walk ks ls os s cs l b (good es) = all_of ks ls os s cs l 0 b 0 0 es
 
 -- what the call leaves; l: the lent lists, b: the lent buffer
@@ -56,14 +56,14 @@ commit_left i l b d = let x = committed d.state d.keys d.links d.certs d.order i
 -- nothing was done: no anchor is finished, whatever stopped them
 idle_none : (c : Check) (n : ℕ) → nothing_done (answer_from c n) ≡ true → n ≡ 0
 unfolding nothing_done answer_from
-idle_none Passed n e = eqb-true n 0 e
-idle_none (Failed r) n e = eqb-true n 0 e
+idle_none (Ok tt) n e = eqb-true n 0 e
+idle_none (Err r) n e = eqb-true n 0 e
 
 -- what a finished chain leaves is what 01's commit ends with
 end_is : (c : Check) (f : Finished) → f.stopped ≡ stop_of c → record { answer = answer_of (answer_from c f.anchors); store = f.store; buffer = f.buffer } ≡ commit_end f
 unfolding answer_of answer_from commit_end stop_of
-end_is Passed f e = rw e refl
-end_is (Failed r) f e = rw e refl
+end_is (Ok tt) f e = rw e refl
+end_is (Err r) f e = rw e refl
 
 -- ---- one law for each way out of the code
 
@@ -124,8 +124,8 @@ module _ (s : State) (ks ls cs os : List ℕ) (i : Id) (l b : List ℕ) where
   pub says_refused : (r : Refusal) → walked v i ≡ bad (refusal_of r) → (o : Outcome) → o ≡ refusal s r → Says o cs b
   unfolding committed after_walk answers.outcome_of answer_of answer_from outcome_of refusal
   says_refused r e o f =
-      says (record { state = s; certs = cs; buffer = b; finished = 0; stopped = Failed r })
-      (sym (ap (after_walk ks ls os s cs l b) e ∙ ap (λ (y : Refusal). record { state = s; certs = cs; buffer = b; finished = 0; stopped = Failed y }) (refusal_from_of r)))
+      says (record { state = s; certs = cs; buffer = b; finished = 0; stopped = Err r })
+      (sym (ap (after_walk ks ls os s cs l b) e ∙ ap (λ (y : Refusal). record { state = s; certs = cs; buffer = b; finished = 0; stopped = Err y }) (refusal_from_of r)))
       (sym (call_is ∙ ap leave_by e)) (λ z. (refl, refl, refl)) o f
 
   -- the anchors of the chain were gone through
@@ -138,10 +138,10 @@ module _ (s : State) (ks ls cs os : List ℕ) (i : Id) (l b : List ℕ) where
 
 -- ---- not refused
 
-anchors-passed : (c : Check) (m n : ℕ) → answer_from c m ≡ Anchors n → c ≡ Passed
+anchors-passed : (c : Check) (m n : ℕ) → answer_from c m ≡ Anchors n → c ≡ no_refusal
 unfolding answer_from
-anchors-passed Passed m n h = refl
-anchors-passed (Failed r) m n h = absurd (let z : ◌≡◌ {A = ℕ} 0 1 = cc in omega arith)
+anchors-passed (Ok tt) m n h = refl
+anchors-passed (Err r) m n h = absurd (let z : ◌≡◌ {A = ℕ} 0 1 = cc in omega arith)
 
 -- the tables after anchors that all pass
 abbrev pub tables_after : Tables → List EnqueuedAnchor → Tables

@@ -15,21 +15,22 @@ ghost use Rattle.commit_call.specs.Commit.{ended_of, Ended, commit_left};
 use back_chain::{Chain, chain_of};
 use commit_answer::answer::{Answer, Outcome, refused};
 use commit_dequeue::all::commit_all;
+use commit_state::dag::Dag;
 use commit_state::state::State;
 use models::parts::PointId;
-use models::refusal::{Check, Refusal, WRONG_PHASE};
+use models::refusal::{Refusal, WRONG_PHASE};
 use tables_test::counts_as_started;
 
 // The outcome of a commit that finished this many anchors.
-fn ended(check: Check, state: State, finished: u32) -> Outcome
+fn ended(check: Result<(), Refusal>, state: State, finished: u32) -> Outcome
     ensures { result ≡ ended_of check state finished }
 {
     match check {
-        Check::Passed => Outcome {
+        Ok(()) => Outcome {
             answer: Answer::Anchors(finished),
             state,
         },
-        Check::Failed(r) => Outcome {
+        Err(r) => Outcome {
             answer: Answer::Refused(r, finished),
             state,
         },
@@ -75,13 +76,18 @@ pub fn commit(
         (tables s keys.now links.now certs.old order.now)
         (left result keys.now links.now certs.new order.now b.new) }
 {
-    if !counts_as_started(s, keys, links, certs, order) {
+    let dag = Dag {
+        state: &s,
+        keys,
+        links,
+        certs,
+        order,
+    };
+    if !counts_as_started(&dag) {
         return refused(s, Refusal::Number(WRONG_PHASE));
     }
-    let c = chain_of(s, keys, links, certs, order, id);
-    let check = c.check;
-    if let Check::Failed(r) = check {
-        return refused(s, r);
+    match chain_of(&dag, id) {
+        Err(why) => refused(s, why),
+        Ok(c) => commit_chain(s, keys, links, certs, order, lists, b, c),
     }
-    commit_chain(s, keys, links, certs, order, lists, b, c)
 }

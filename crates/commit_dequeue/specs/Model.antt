@@ -12,8 +12,6 @@ use Rattle.models.specs.Tables.{round_at, author_at, Inside}
 use Rattle.models.specs.Refusal.{failed, or_next, not_failed}
 use Rattle.models.specs.declared.refusal.Refusal.{Refusal}
 use Rattle.models.specs.declared.refusal.Refusal.TheVariants.{Number}
-use Rattle.models.specs.declared.refusal.Check.{Check}
-use Rattle.models.specs.declared.refusal.Check.TheVariants.{Passed, Failed}
 use Rattle.dag_round_keys.specs.Sorted.{Sorted}
 use Rattle.commit_state.specs.declared.state.State.{State}
 use Rattle.back_committable.specs.declared.anchor.Tested.{Tested}
@@ -27,6 +25,8 @@ use Rattle.output_record.specs.Model.{record_of, executes, previous_of}
 use Rattle.output_record.specs.Listed.{rounds_by, size_by, history_by, Listable}
 use Rattle.output_record.specs.Marks.{marks_all}
 use Rattle.output_record.specs.ModelState.{after_state}
+use Rattle.std.specs.Prelude.{Err, Ok}
+use Rattle.models.specs.Refusal.{Check, no_refusal}
 
 -- ---- what the code is given
 
@@ -52,7 +52,7 @@ Drawable s ks cs os l end m low e n = let r = round_at ks e.anchor in Listable k
 
 -- what refuses an anchor: its tests, 20, 24, 21
 unfoldable pub number_for : Check → ℕ → Bool → ℕ → ℕ → Check
-number_for c gap ok n left = or_next c (cond (eqb gap 1) (failed 20) (cond ok (cond (ltb left (99 + n * 82)) (failed 21) Passed) (failed 24)))
+number_for c gap ok n left = or_next c (cond (eqb gap 1) (failed 20) (cond ok (cond (ltb left (99 + n * 82)) (failed 21) no_refusal) (failed 24)))
 
 -- how many marked places the rounds of its history have
 abbrev pub counts_for : State → List ℕ → List ℕ → List Bool → ℕ → ℕ → List ℕ
@@ -93,10 +93,10 @@ sources_for s ks ls cs os t = sources s.bottom.0 ks ls cs os t.marks t.low t.hig
 
 -- of an anchor with what its tests gave, and what refuses it; its lists are those of l from `from` on
 unfoldable pub one_with : State → List ℕ → List ℕ → List ℕ → List ℕ → List ℕ → ℕ → List ℕ → ℕ → EnqueuedAnchor → Tested → Check → Step
-one_with s ks ls cs os l from b at e t Passed =
-    step_of Passed (after_state s (round_at ks e.anchor) (round_at ks e.proof) (author_at ks e.anchor)) (marks_all os t.marks t.low cs t.high)
+one_with s ks ls cs os l from b at e t (Ok tt) =
+    step_of no_refusal (after_state s (round_at ks e.anchor) (round_at ks e.proof) (author_at ks e.anchor)) (marks_all os t.marks t.low cs t.high)
     (written b at (record_for s ks (sources_for s ks ls cs os t) cs os t.marks t.lowest.0 (drop from l) e (len_for ls cs os t) (bytes_for ls cs os t))) (at + 99 + t.count * 82) (from + size_for s ks os t.marks t.lowest.0 e.anchor)
-one_with s ks ls cs os l from b at e t (Failed r) = step_of (Failed r) s cs b at from
+one_with s ks ls cs os l from b at e t (Err r) = step_of (Err r) s cs b at from
 
 -- whether its lists are right
 abbrev pub listed_for : State → List ℕ → List ℕ → List ℕ → ℕ → EnqueuedAnchor → Tested → Bool
@@ -113,11 +113,11 @@ one_of s ks ls cs os l from b at e = one_in s ks ls cs os l from b at e (tested_
 
 module _ (c : Check) (gap : ℕ) (ok : Bool) (n left : ℕ) where
   -- the tests refuse it
-  pub number-tested : (r : Refusal) → c ≡ Failed r → Failed r ≡ number_for c gap ok n left
+  pub number-tested : (r : Refusal) → c ≡ Err r → Err r ≡ number_for c gap ok n left
   unfolding number_for or_next
   number-tested r e = rw e refl
 
-  module _ (z : c ≡ Passed) where
+  module _ (z : c ≡ no_refusal) where
     -- 20
     pub number_gap : gap ≡ 1 → failed 20 ≡ number_for c gap ok n left
     unfolding number_for or_next
@@ -136,16 +136,16 @@ module _ (c : Check) (gap : ℕ) (ok : Bool) (n left : ℕ) where
         number-room l = rw (z, ne_eqb gap 1 d, t, lt-ltb left (99 + n * 82) l) refl
 
         -- none
-        pub number-none : 99 + n * 82 ≤ left → Passed ≡ number_for c gap ok n left
+        pub number-none : 99 + n * 82 ≤ left → no_refusal ≡ number_for c gap ok n left
         unfolding number_for or_next
         number-none l = rw (z, ne_eqb gap 1 d, t, le-ltb left (99 + n * 82) l) refl
 
 -- an anchor that nothing refuses has right lists, and room for its record
-pub number_fits : (c : Check) (gap : ℕ) (ok : Bool) (n left : ℕ) → number_for c gap ok n left ≡ Passed → (ok ≡ true) × (99 + n * 82 ≤ left)
+pub number_fits : (c : Check) (gap : ℕ) (ok : Bool) (n left : ℕ) → number_for c gap ok n left ≡ no_refusal → (ok ≡ true) × (99 + n * 82 ≤ left)
 unfolding number_for or_next
-number_fits (Failed r) gap ok n left h = absurd (not_failed r h)
-number_fits Passed gap false n left h = by_test (eqb gap 1) (λ g. absurd (not_failed (Number 20) (rw g at h))) (λ g. absurd (not_failed (Number 24) (rw g at h)))
-number_fits Passed gap true n left h =
+number_fits (Err r) gap ok n left h = absurd (not_failed r h)
+number_fits (Ok tt) gap false n left h = by_test (eqb gap 1) (λ g. absurd (not_failed (Number 20) (rw g at h))) (λ g. absurd (not_failed (Number 24) (rw g at h)))
+number_fits (Ok tt) gap true n left h =
     by_test (eqb gap 1)
     (λ g. absurd (not_failed (Number 20) (rw g at h)))
     (λ g. by_test (ltb left (99 + n * 82)) (λ l. absurd (not_failed (Number 21) (rw (g, l) at h))) (λ l. (refl, ltb-false _ _ l)))
@@ -179,15 +179,15 @@ module _ (s : State) (ks ls cs os l : List ℕ) (from : ℕ) (b : List ℕ) (at 
   by_lists = f ∙ ap (λ (x : Bool). number_for t.check s.emit_first_after_gap x t.count (length b - at)) listed
 
   -- refused
-  pub one-refused : (r : Refusal) → c ≡ Failed r → step_of (Failed r) s cs b at from ≡ one_of s ks ls cs os l from b at e
+  pub one-refused : (r : Refusal) → c ≡ Err r → step_of (Err r) s cs b at from ≡ one_of s ks ls cs os l from b at e
   unfolding one_of one_in one_with
   one-refused r h = rw (← is, sym by_lists ∙ h) refl
 
   -- taken
-  pub one-taken : c ≡ Passed → (s' : State) (cs' b' by : List ℕ) (end next len bytes : ℕ) → by ≡ sources_for s ks ls cs os t → (len ≡ len_for ls cs os t) × (bytes ≡ bytes_for ls cs os t)
+  pub one-taken : c ≡ no_refusal → (s' : State) (cs' b' by : List ℕ) (end next len bytes : ℕ) → by ≡ sources_for s ks ls cs os t → (len ≡ len_for ls cs os t) × (bytes ≡ bytes_for ls cs os t)
       → s' ≡ after_state s (round_at ks e.anchor) (round_at ks e.proof) (author_at ks e.anchor) → cs' ≡ marks_all os t.marks t.low cs t.high
       → next ≡ from + size_for s ks os t.marks t.lowest.0 e.anchor → b' ≡ written b at (record_for s ks by cs os t.marks t.lowest.0 (drop (next - size_for s ks os t.marks t.lowest.0 e.anchor) l) e len bytes)
-      → end ≡ at + 99 + t.count * 82 → step_of Passed s' cs' b' end next ≡ one_of s ks ls cs os l from b at e
+      → end ≡ at + 99 + t.count * 82 → step_of no_refusal s' cs' b' end next ≡ one_of s ks ls cs os l from b at e
   unfolding one_of one_in one_with
   one-taken z s' cs' b' by end next len bytes told (u, y) a g w d h =
       let back : next - size_for s ks os t.marks t.lowest.0 e.anchor ≡ from = omega (arith, w) in
@@ -205,5 +205,5 @@ one-within s ks ls cs os l from b at e o is h = subst (λ (x : Step). x.next ≤
     k = number_for t.check s.emit_first_after_gap (listed_for s ks os l from e t) t.count (length b - at)
 
     by : (c : Check) → k ≡ c → (one_with s ks ls cs os l from b at e t c).next ≤ length l
-    by Passed d = omega (arith, h, lists_long _ (drop from l) (number_fits t.check s.emit_first_after_gap (listed_for s ks os l from e t) t.count (length b - at) d).0, length-drop from l)
-    by (Failed r) d = h
+    by (Ok tt) d = omega (arith, h, lists_long _ (drop from l) (number_fits t.check s.emit_first_after_gap (listed_for s ks os l from e t) t.count (length b - at) d).0, length-drop from l)
+    by (Err r) d = h

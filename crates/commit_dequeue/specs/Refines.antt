@@ -20,8 +20,6 @@ use Rattle.spec.proofs.Walk.{test_good}
 use Rattle.models.specs.Digest.{Fit}
 use Rattle.models.specs.Refusal.{refusal_of, unless_failed, or_next, not_failed}
 use Rattle.models.specs.declared.refusal.Refusal.{Refusal}
-use Rattle.models.specs.declared.refusal.Check.{Check}
-use Rattle.models.specs.declared.refusal.Check.TheVariants.{Passed, Failed}
 use Rattle.models.specs.Tables.{round_at, author_at, place_at, Inside, Used}
 use Rattle.dag_round_keys.specs.Sorted.{sorted_apart}
 use Rattle.commit_state.specs.View.{gap_of, gap_waits, progress_of}
@@ -50,15 +48,17 @@ use Rattle.output_record.specs.ModelState.{after_state}
 use Rattle.output_record.specs.History.{Picks, history_is}
 use Rattle.output_record.specs.Refines.{anchor_ready, tables_ready, record_is, drawn-length, record_size_lem, committed-view, committed-counts}
 use Rattle.commit_dequeue.specs.Model.{Pickable, Listing, Drawable, Placed, number_for, number_fits, counts_for, size_for, record_for, sources_for, len_for, bytes_for, listed_for, Step, one_with, one_in, one_of}
+use Rattle.std.specs.Prelude.{Err, Ok}
+use Rattle.models.specs.Refusal.{Check, no_refusal}
 
 -- what the commit of the anchor e, from byte at on, leaves of the store v, the lists l and the buffer b, in 01's terms
 pub record Says (v : Store) (l b : List ℕ) (at : ℕ) (e : EnqueuedAnchor) (c : Check) (v' : Store) (l' b' : List ℕ) (end : ℕ) : Type 0 where
   -- the anchor's tests
   pub outcome : unless_failed c (good e.anchor) ≡ test_anchor v l (length b - at) (length (record_bytes v l e)) e.anchor
   -- what an anchor that passes leaves
-  pub taken : c ≡ Passed → (v' ≡ dequeued v e) × (l' ≡ after_lists v e.anchor l) × (b' ≡ written b at (record_bytes v l e)) × (end ≡ at + length (record_bytes v l e))
+  pub taken : c ≡ no_refusal → (v' ≡ dequeued v e) × (l' ≡ after_lists v e.anchor l) × (b' ≡ written b at (record_bytes v l e)) × (end ≡ at + length (record_bytes v l e))
   -- a refused one leaves all as it was
-  pub stayed : (r : Refusal) → c ≡ Failed r → (v' ≡ v) × (b' ≡ b)
+  pub stayed : (r : Refusal) → c ≡ Err r → (v' ≡ v) × (b' ≡ b)
   -- the tables count as started again
   pub again : counts_as_started v' ≡ true
   -- the buffer is as long as before, and the next free byte is within it
@@ -71,9 +71,9 @@ pub record Says (v : Store) (l b : List ℕ) (at : ℕ) (e : EnqueuedAnchor) (c 
 number_is : (c : Check) (a gap n left size : ℕ) (w ok : Bool) → w ≡ eqb gap 1 → (ok ≡ true → size ≡ 99 + n * 82)
     → unless_failed (number_for c gap ok n left) (good a) ≡ then (unless_failed c (good a)) (λ x. refuse w 20 (refuse (not ok) 24 (refuse (ltb left size) 21 (good a))))
 unfolding unless_failed number_for or_next refuse refusal_of
-number_is (Failed r) a gap n left size w ok e d = refl
-number_is Passed a gap n left size w false e d = rw e (by_test (eqb gap 1) (λ g. rw g refl) (λ g. rw g refl))
-number_is Passed a gap n left size w true e d =
+number_is (Err r) a gap n left size w ok e d = refl
+number_is (Ok tt) a gap n left size w false e d = rw e (by_test (eqb gap 1) (λ g. rw g refl) (λ g. rw g refl))
+number_is (Ok tt) a gap n left size w true e d =
     rw (e, d refl) (by_test (eqb gap 1) (λ g. rw g refl) (λ g. rw g (by_test (ltb left (99 + n * 82)) (λ l. rw l refl) (λ l. rw l refl))))
 
 module _ (s : State) (ks ls cs os : List ℕ) (fk : Fit ks) (fl : Fit ls) (h : counts_as_started (view s ks ls cs os) ≡ true) (e : EnqueuedAnchor) (x : Anchored (view s ks ls cs os) e) where
@@ -127,7 +127,7 @@ module _ (s : State) (ks ls cs os : List ℕ) (fk : Fit ks) (fl : Fit ls) (h : c
     pub marked-view : view (after_state s (round_at ks e.anchor) (round_at ks e.proof) (author_at ks e.anchor)) ks ls (marks_all os t.marks t.low cs t.high) os ≡ dequeued v e
     marked-view = committed-view s ks ls cs os fk fl h e anchor_used proof_used t.marks t.low t.high high_le picks long
 
-    -- they count as started, if it passed
+    -- they count as started, if it no_refusal
     pub marked-counts : Tested v e.anchor → counts_as_started (view (after_state s (round_at ks e.anchor) (round_at ks e.proof) (author_at ks e.anchor)) ks ls (marks_all os t.marks t.low cs t.high) os) ≡ true
     marked-counts = committed-counts s ks ls cs os fk fl h e anchor_used proof_used t.marks t.low t.high high_le picks long x
 
@@ -243,7 +243,7 @@ module _ (s : State) (ks ls cs os : List ℕ) (fk : Fit ks) (fl : Fit ls) (h : c
           ∙ ap (λ (w : Bool). then (tested v e.anchor) (λ y. refuse gap 20 (refuse (not w) 24 (refuse short 21 (good e.anchor))))) (right_is here))
 
       -- it passes
-      module _ (z : k ≡ Passed) where
+      module _ (z : k ≡ no_refusal) where
         passes : test_anchor v here (length b - at) (length (record_bytes v here e)) e.anchor ≡ good e.anchor
         unfolding unless_failed
         passes = sym outcome_is ∙ ap (λ (c : Check). unless_failed c (good e.anchor)) z
@@ -268,7 +268,7 @@ module _ (s : State) (ks ls cs os : List ℕ) (fk : Fit ks) (fl : Fit ls) (h : c
         end_within : at + 99 + t.count * 82 ≤ length b
         end_within = let p = test_good v here _ _ e.anchor _ passes in omega (arith, size_is here right, p.3)
 
-        says_taken : Says v here b at e Passed (view (after_state s (round_at ks e.anchor) (round_at ks e.proof) (author_at ks e.anchor)) ks ls (marks_all os t.marks t.low cs t.high) os)
+        says_taken : Says v here b at e no_refusal (view (after_state s (round_at ks e.anchor) (round_at ks e.proof) (author_at ks e.anchor)) ks ls (marks_all os t.marks t.low cs t.high) os)
             (drop (from + size_for s ks os t.marks t.lowest.0 e.anchor) l) (written b at (record_for s ks (sources_for s ks ls cs os t) cs os t.marks t.lowest.0 here e (len_for ls cs os t) (bytes_for ls cs os t))) (at + 99 + t.count * 82)
         unfolding unless_failed
         says_taken = record {
@@ -286,7 +286,7 @@ module _ (s : State) (ks ls cs os : List ℕ) (fk : Fit ks) (fl : Fit ls) (h : c
         }
 
       -- it is refused
-      says_refused : (r : Refusal) → k ≡ Failed r → Says v here b at e (Failed r) v here b at
+      says_refused : (r : Refusal) → k ≡ Err r → Says v here b at e (Err r) v here b at
       says_refused r d = record {
         outcome = ap (λ (c : Check). unless_failed c (good e.anchor)) (sym d) ∙ outcome_is;
         taken = λ y. absurd (not_failed r y);
@@ -306,8 +306,8 @@ module _ (s : State) (ks ls cs os : List ℕ) (fk : Fit ks) (fl : Fit ls) (h : c
       one_is = by k refl
         where
           by : (c : Check) → k ≡ c → SaysOf (one_with s ks ls cs os l from b at e t c)
-          by Passed d = says_taken d
-          by (Failed r) d = says_refused r d
+          by (Ok tt) d = says_taken d
+          by (Err r) d = says_refused r d
 
       -- what the code leaves
       pub one_says : (r : Step) → r ≡ one_of s ks ls cs os l from b at e → Says v (drop from l) b at e r.check (view r.state ks ls r.certs os) (drop r.next l) r.buffer r.end

@@ -11,13 +11,13 @@ ghost use Rattle.commit_dequeue.specs.All.{left_of, finished_of, all_of};
 use crate::one::dequeue_anchor;
 use back_walk::EnqueuedAnchor;
 use commit_state::state::State;
-use models::refusal::Check;
+use models::refusal::Refusal;
 use models::tables::ROUNDS_MAX;
 
-// What stopped the anchors, if anything did; the state and the number of finished anchors.
+// What stopped the anchors, if anything did; the state and the number of finished anchors, which the clauses say of stopped ones too.
 #[derive(Clone, Copy)]
 pub struct All {
-    pub check: Check,
+    pub check: Result<(), Refusal>,
     pub state: State,
     pub finished: u32,
 }
@@ -48,16 +48,14 @@ pub fn commit_all(
     let mut from: usize = 0;
     let mut end: usize = 0;
     let mut finished: u32 = 0;
-    let mut k = count;
-    while 0 < k {
-        k -= 1;
+    for k in (0..count).rev() {
         let e = list[k];
         let o = dequeue_anchor(cur, keys, links, certs, order, lists, from, b, end, e);
         cur = o.state;
         let check = o.check;
-        if let Check::Failed(r) = check {
+        if let Err(r) = check {
             return All {
-                check: Check::Failed(r),
+                check: Err(r),
                 state: cur,
                 finished,
             };
@@ -67,7 +65,7 @@ pub fn commit_all(
         finished += 1;
     }
     All {
-        check: Check::Passed,
+        check: Ok(()),
         state: cur,
         finished,
     }

@@ -17,20 +17,21 @@ use back_behind::link_sources;
 use back_committable::anchor::test_anchor;
 use back_order::{Listed, lists_fit};
 use back_walk::EnqueuedAnchor;
+use commit_state::dag::Dag;
 use commit_state::state::State;
 use models::output::{POINT_BYTES, RECORD_BYTES};
 use models::parts::Round;
 use models::place::round_at;
-use models::refusal::{BAD_LISTS, Check, GAP_QUESTION, NO_ROOM, Refusal};
+use models::refusal::{BAD_LISTS, GAP_QUESTION, NO_ROOM, Refusal};
 use models::tables::PLACES_MAX;
 use output_record::after::{after_anchor, mark_all};
 use output_record::record::{executable, previous_anchor, put_record};
 use output_record::sums::{PayloadSums, payload_sums};
 
-// The tests of one anchor; the state, the next free byte, and the offset after the anchor's lists.
+// The tests of one anchor; the state, the next free byte, and the offset after the anchor's lists, which the clauses say of a refused one too.
 #[derive(Clone, Copy)]
 pub struct One {
-    pub check: Check,
+    pub check: Result<(), Refusal>,
     pub state: State,
     pub end: usize,
     pub lists_end: usize,
@@ -38,52 +39,60 @@ pub struct One {
 
 // What refuses an anchor of this many points: its tests, 20 while the gap question isn't put, 24 if its lists aren't right, 21 if its
 // record is longer than what is left of the buffer.
-fn number_for(check: Check, gap: u32, listed: bool, count: usize, left: usize) -> Check
+fn number_for(
+    check: Result<(), Refusal>,
+    gap: u32,
+    listed: bool,
+    count: usize,
+    left: usize,
+) -> Result<(), Refusal>
     requires { count ≤ 4096 }
     ensures { result ≡ number_for check gap listed count left }
 {
-    if let Check::Failed(r) = check {
-        return Check::Failed(r);
-    }
+    check?;
     if gap == 1 {
-        return Check::Failed(Refusal::Number(GAP_QUESTION));
+        return Err(Refusal::Number(GAP_QUESTION));
     }
     if !listed {
-        return Check::Failed(Refusal::Number(BAD_LISTS));
+        return Err(Refusal::Number(BAD_LISTS));
     }
     if left < RECORD_BYTES + count * POINT_BYTES {
-        return Check::Failed(Refusal::Number(NO_ROOM));
+        return Err(Refusal::Number(NO_ROOM));
     }
-    Check::Passed
+    Ok(())
 }
 
 // Whether the anchor's lists, from `from` on, are right, and the offset after them.
 fn list_anchor(
-    s: State,
-    keys: &[u64],
-    order: &[u64],
+    dag: &Dag,
     lists: &[u8],
     from: usize,
     e: EnqueuedAnchor,
     marks: &[bool; PLACES_MAX],
     lowest: Round,
 ) -> Listed
-    requires listing { Listing s keys.now order.now (enqueued_of e) }
+    requires listing { Listing dag.now.state.now dag.now.keys.now dag.now.order.now (enqueued_of e) }
     requires from_in_bounds { from ≤ length lists.now }
-    ensures ok_value { result.ok ≡ lists_ok (counts_for s keys.now order.now marks.now lowest.0 e.anchor) (drop from lists.now) }
-    ensures end_value { result.ok ≡ true → result.end ≡ from + size_for s keys.now order.now marks.now lowest.0 e.anchor }
+    ensures ok_value { result.ok ≡ lists_ok (counts_for dag.now.state.now dag.now.keys.now dag.now.order.now marks.now lowest.0 e.anchor) (drop from lists.now) }
+    ensures end_value { result.ok ≡ true → result.end ≡ from + size_for dag.now.state.now dag.now.keys.now dag.now.order.now marks.now lowest.0 e.anchor }
 {
-    let round = round_at(keys, e.anchor as usize);
-    lists_fit(keys, order, s.count, marks, lists, from, round, lowest)
+    let round = round_at(dag.keys, e.anchor as usize);
+    lists_fit(
+        dag.keys,
+        dag.order,
+        dag.state.count,
+        marks,
+        lists,
+        from,
+        round,
+        lowest,
+    )
 }
 
 // The record of the anchor, of `count` points, in the order that its lists say, which end at `lists_end`; what `by` notes for each, then
 // the sums over them.
 fn put_anchor(
-    s: State,
-    keys: &[u64],
-    certs: &[u64],
-    order: &[u64],
+    dag: &Dag,
     lists: &[u8],
     lists_end: usize,
     b: &mut [u8],
@@ -95,23 +104,23 @@ fn put_anchor(
     count: usize,
     sums: PayloadSums,
 ) -> usize
-    requires drawable { Drawable s keys.now certs.now order.now lists.now lists_end marks.now lowest.0 (enqueued_of e) count × Sourced (length keys.now) by.now }
-    requires placed { Placed keys.now certs.now (enqueued_of e) }
+    requires drawable { Drawable dag.now.state.now dag.now.keys.now dag.now.certs.now dag.now.order.now lists.now lists_end marks.now lowest.0 (enqueued_of e) count × Sourced (length dag.now.keys.now) by.now }
+    requires placed { Placed dag.now.keys.now dag.now.certs.now (enqueued_of e) }
     requires count_in_bounds { at + 99 + count * 82 ≤ length b.old }
-    ensures { (result ≡ at + 99 + count * 82) × (b.new ≡ written b.old at (record_for s keys.now by.now certs.now
-        order.now marks.now lowest.0 (drop (lists_end - size_for s keys.now order.now marks.now lowest.0 e.anchor)
+    ensures { (result ≡ at + 99 + count * 82) × (b.new ≡ written b.old at (record_for dag.now.state.now dag.now.keys.now by.now dag.now.certs.now
+        dag.now.order.now marks.now lowest.0 (drop (lists_end - size_for dag.now.state.now dag.now.keys.now dag.now.order.now marks.now lowest.0 e.anchor)
         lists.now) (enqueued_of e) sums.len sums.bytes)) }
 {
     let anchor = e.anchor as usize;
     let proof = e.proof as usize;
-    let round = round_at(keys, anchor);
-    let x = executable(s, round);
+    let round = round_at(dag.keys, anchor);
+    let x = executable(dag.state, round);
     let prev_proof_round = e.prev_proof_round;
-    let before = previous_anchor(s, round, prev_proof_round);
-    let n = s.count;
+    let before = previous_anchor(dag.state, round, prev_proof_round);
+    let n = dag.state.count;
     put_record(
-        b, at, keys, by, marks, order, certs, n, lists, lists_end, round, lowest, anchor, proof, x,
-        before, count, sums,
+        b, at, dag, by, marks, n, lists, lists_end, round, lowest, anchor, proof, x, before, count,
+        sums,
     )
 }
 
@@ -151,31 +160,38 @@ pub fn dequeue_anchor(
         (enqueued_of e) result.check (view result.state keys.now links.now certs.new order.now) (drop result.lists_end lists.now)
         b.new result.end }
 {
-    let t = test_anchor(s, keys, links, certs, order, e.anchor as usize);
+    let dag = Dag {
+        state: &s,
+        keys,
+        links,
+        certs,
+        order,
+    };
+    let t = test_anchor(&dag, e.anchor as usize);
     let marks = t.marks;
-    let listed = list_anchor(s, keys, order, lists, from, e, &marks, t.lowest);
+    let listed = list_anchor(&dag, lists, from, e, &marks, t.lowest);
     let tested = t.check;
     let left = b.len() - at;
     let check = number_for(tested, s.emit_first_after_gap, listed.ok, t.count, left);
-    if let Check::Failed(r) = check {
+    if let Err(r) = check {
         return One {
-            check: Check::Failed(r),
+            check: Err(r),
             state: s,
             end: at,
             lists_end: from,
         };
     }
-    let sums = payload_sums(&marks, links, certs, order, t.low, t.high);
+    let sums = payload_sums(&marks, &dag, t.low, t.high);
     let bottom = s.bottom;
-    let by = link_sources(keys, links, certs, order, bottom, t.low, t.high, &marks);
+    let by = link_sources(&dag, bottom, t.low, t.high, &marks);
     let lists_end = listed.end;
     let end = put_anchor(
-        s, keys, certs, order, lists, lists_end, b, at, e, &by, &marks, t.lowest, t.count, sums,
+        &dag, lists, lists_end, b, at, e, &by, &marks, t.lowest, t.count, sums,
     );
     let next = next_state(s, keys, certs, e);
     mark_all(&marks, order, certs, t.low, t.high);
     One {
-        check: Check::Passed,
+        check: Ok(()),
         state: next,
         end,
         lists_end,

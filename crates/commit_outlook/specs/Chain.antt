@@ -21,8 +21,6 @@ use Rattle.models.specs.Digest.{Fit}
 use Rattle.models.specs.Tables.{Used}
 use Rattle.models.specs.Refusal.{refusal_of, unless_failed, not_failed}
 use Rattle.models.specs.declared.refusal.Refusal.{Refusal}
-use Rattle.models.specs.declared.refusal.Check.{Check}
-use Rattle.models.specs.declared.refusal.Check.TheVariants.{Passed, Failed}
 use Rattle.commit_state.specs.declared.state.State.{State}
 use Rattle.tables_test.specs.View.{view}
 use Rattle.back_walk.specs.declared.EnqueuedAnchor.{EnqueuedAnchor}
@@ -32,11 +30,13 @@ use Rattle.back_history.specs.Supposing.{supposing}
 use Rattle.back_committable.specs.Model.{gathered_of, tested_of}
 use Rattle.commit_outlook.specs.Look.{look_long, look_bytes, look_code, Took, look_at, look-good}
 use Rattle.commit_outlook.specs.Supposed.{Supposed, supposed-none, supposed_used, supposed_long, supposed-bytes, supposed-outcome, supposed-next, supposed-counts}
+use Rattle.std.specs.Prelude.{Err}
+use Rattle.models.specs.Refusal.{Check, no_refusal}
 
 -- what the outlook of the chain es leaves of the buffer b: "with nothing written" if it is refused
 pub record ChainLooked (v : Store) (b : List ℕ) (es : List chain.EnqueuedAnchor) (c : Check) (b' : List ℕ) : Type 0 where
-  pub anchors : c ≡ Passed → (outlook_all v (length b) es ≡ good (looks v es)) × (b' ≡ written b 0 (looks v es))
-  pub refused : (r : Refusal) → c ≡ Failed r → (outlook_all v (length b) es ≡ bad (refusal_of r)) × (b' ≡ b)
+  pub anchors : c ≡ no_refusal → (outlook_all v (length b) es ≡ good (looks v es)) × (b' ≡ written b 0 (looks v es))
+  pub refused : (r : Refusal) → c ≡ Err r → (outlook_all v (length b) es ≡ bad (refusal_of r)) × (b' ≡ b)
 
 -- ---- one anchor more
 
@@ -54,23 +54,23 @@ all-step v left e es = rw (outlook_all, outlook-length v e.anchor) (by (look_siz
 
 -- it is refused, or the others follow
 module _ (v : Store) (left : ℕ) (e : chain.EnqueuedAnchor) (es : List chain.EnqueuedAnchor) (c : Check) (o : unless_failed c (good e.anchor) ≡ look_at v left e.anchor) where
-  all-refused : (r : Refusal) → c ≡ Failed r → outlook_all v left (e ∷ es) ≡ bad (refusal_of r)
+  all-refused : (r : Refusal) → c ≡ Err r → outlook_all v left (e ∷ es) ≡ bad (refusal_of r)
   unfolding unless_failed
   all-refused r d = all-step v left e es ∙ rw (← o, d) refl
 
-  all-taken : c ≡ Passed → outlook_all v left (e ∷ es) ≡ then (outlook_all (dequeued v e) (left - look_size v e.anchor) es) (λ rest. good (outlook_bytes v e.anchor ++ rest))
+  all-taken : c ≡ no_refusal → outlook_all v left (e ∷ es) ≡ then (outlook_all (dequeued v e) (left - look_size v e.anchor) es) (λ rest. good (outlook_bytes v e.anchor ++ rest))
   unfolding unless_failed
   all-taken z = all-step v left e es ∙ rw (← o, z) refl
 
-  taken_pass : c ≡ Passed → outlook_all (dequeued v e) (left - look_size v e.anchor) es ≡ good (looks (dequeued v e) es) → outlook_all v left (e ∷ es) ≡ good (looks v (e ∷ es))
+  taken_pass : c ≡ no_refusal → outlook_all (dequeued v e) (left - look_size v e.anchor) es ≡ good (looks (dequeued v e) es) → outlook_all v left (e ∷ es) ≡ good (looks v (e ∷ es))
   unfolding looks
   taken_pass z p = all-taken z ∙ rw p refl
 
-  taken-stop : c ≡ Passed → (y : chain.Refusal) → outlook_all (dequeued v e) (left - look_size v e.anchor) es ≡ bad y → outlook_all v left (e ∷ es) ≡ bad y
+  taken-stop : c ≡ no_refusal → (y : chain.Refusal) → outlook_all (dequeued v e) (left - look_size v e.anchor) es ≡ bad y → outlook_all v left (e ∷ es) ≡ bad y
   taken-stop z y p = all-taken z ∙ rw p refl
 
-  -- one that passes has passed its tests, with room for its bytes
-  passed-good : c ≡ Passed → Tested v e.anchor × (look_size v e.anchor ≤ left)
+  -- one that passes has no_refusal its tests, with room for its bytes
+  passed-good : c ≡ no_refusal → Tested v e.anchor × (look_size v e.anchor ≤ left)
   unfolding unless_failed
   passed-good z = let ((x, t), l) = look-good v left e.anchor (sym o ∙ rw z refl) in (tested-good v e.anchor x t, l)
 
@@ -86,8 +86,8 @@ pub record Standing (s : State) (ks ls cs os : List ℕ) (l : List EnqueuedAncho
 
 module _ (s : State) (ks ls cs os : List ℕ) (l : List EnqueuedAnchor) where
   -- at first
-  standing-first : length s.rounds ≡ 512 → counts_as_started (view s ks ls cs os) ≡ true → (k : ℕ) → Rising (view s ks ls cs os) 0 (chain_of l k) → Standing s ks ls cs os l (replicate 4096 false) k
-  standing-first m h k r = record { store = view s ks ls cs os; supposed = supposed-none s ks ls cs os m; started = h; rising = r; long = refl }
+  standing-first : counts_as_started (view s ks ls cs os) ≡ true → (k : ℕ) → Rising (view s ks ls cs os) 0 (chain_of l k) → Standing s ks ls cs os l (replicate 4096 false) k
+  standing-first h k r = record { store = view s ks ls cs os; supposed = supposed-none s ks ls cs os; started = h; rising = r; long = refl }
 
   module _ (fk : Fit ks) (fl : Fit ls) (tk : List Bool) (k : ℕ) (w : Standing s ks ls cs os l tk k) (more : 0 < k) where
     -- the oldest anchor still to come
@@ -118,7 +118,7 @@ module _ (s : State) (ks ls cs os : List ℕ) (l : List EnqueuedAnchor) where
         → unless_failed c (good (get_or l (k - 1) no_enqueued).anchor) ≡ look_at w.store left (get_or l (k - 1) no_enqueued).anchor
     standing-outcome left c d = ap (λ (y : Check). unless_failed y (good e.anchor)) d ∙ supposed-outcome s ks ls cs os fk fl tk w.store w.supposed w.started e rises.1 left
 
-    -- it has passed, and its places are taken
+    -- it has no_refusal, and its places are taken
     standing-next : Tested w.store (get_or l (k - 1) no_enqueued).anchor → (tk' : List Bool) → Took cs os tk (gathered_of s ks ls (supposing tk cs) os (get_or l (k - 1) no_enqueued).anchor) tk' → Standing s ks ls cs os l tk' (k - 1)
     standing-next c tk' y = record {
       store = dequeued w.store e;
@@ -142,9 +142,9 @@ module _ (s : State) (ks ls cs os : List ℕ) (l : List EnqueuedAnchor) (count r
   v = view s ks ls cs os
 
   -- at first
-  pub looking_first : length s.rounds ≡ 512 → counts_as_started (view s ks ls cs os) ≡ true → Rising (view s ks ls cs os) 0 (chain_of l count) → Looking s ks ls cs os l count room (replicate 4096 false) room count
+  pub looking_first : counts_as_started (view s ks ls cs os) ≡ true → Rising (view s ks ls cs os) 0 (chain_of l count) → Looking s ks ls cs os l count room (replicate 4096 false) room count
   unfolding standing-first
-  looking_first m h r = record { most = omega arith; stands = standing-first s ks ls cs os l m h count r; pass = λ p. p; stop = λ r p. p }
+  looking_first h r = record { most = omega arith; stands = standing-first s ks ls cs os l h count r; pass = λ p. p; stop = λ r p. p }
 
   module _ (fk : Fit ks) (fl : Fit ls) (tk : List Bool) (left k : ℕ) (g : Looking s ks ls cs os l count room tk left k) where
     module _ (more : 0 < k) (c : Check) (o : c ≡ look_code (tested_of s ks ls (supposing tk cs) os (get_or l (k - 1) no_enqueued).anchor).check left (look_long ks (get_or l (k - 1) no_enqueued).anchor (gathered_of s ks ls (supposing tk cs) os (get_or l (k - 1) no_enqueued).anchor))) where
@@ -158,12 +158,12 @@ module _ (s : State) (ks ls cs os : List ℕ) (l : List EnqueuedAnchor) (count r
       outcome = standing-outcome s ks ls cs os l fk fl tk k g.stands more left c o
 
       -- the next anchor is refused: the chain stops here
-      pub looking_refused : (r : Refusal) → c ≡ Failed r → unless_failed (Failed r) (good (looks (view s ks ls cs os) (chain_of l count))) ≡ outlook_all (view s ks ls cs os) room (chain_of l count)
+      pub looking_refused : (r : Refusal) → c ≡ Err r → unless_failed (Err r) (good (looks (view s ks ls cs os) (chain_of l count))) ≡ outlook_all (view s ks ls cs os) room (chain_of l count)
       unfolding unless_failed
       looking_refused r d = sym (g.stop _ (ap (outlook_all g.stands.store left) here ∙ all-refused g.stands.store left first (chain_of l (k - 1)) c outcome r d))
 
       -- it passes
-      module _ (z : c ≡ Passed) (n : ℕ) (is : n ≡ look_long ks (get_or l (k - 1) no_enqueued).anchor (gathered_of s ks ls (supposing tk cs) os (get_or l (k - 1) no_enqueued).anchor)) where
+      module _ (z : c ≡ no_refusal) (n : ℕ) (is : n ≡ look_long ks (get_or l (k - 1) no_enqueued).anchor (gathered_of s ks ls (supposing tk cs) os (get_or l (k - 1) no_enqueued).anchor)) where
         size : n ≡ look_size g.stands.store first.anchor
         size = is ∙ standing_long s ks ls cs os l fk fl tk k g.stands more
 
@@ -183,7 +183,7 @@ module _ (s : State) (ks ls cs os : List ℕ) (l : List EnqueuedAnchor) (count r
         })
 
     -- all anchors pass
-    pub looking_all : k ≡ 0 → unless_failed Passed (good (looks (view s ks ls cs os) (chain_of l count))) ≡ outlook_all (view s ks ls cs os) room (chain_of l count)
+    pub looking_all : k ≡ 0 → unless_failed no_refusal (good (looks (view s ks ls cs os) (chain_of l count))) ≡ outlook_all (view s ks ls cs os) room (chain_of l count)
     unfolding unless_failed outlook_all looks
     looking_all z = sym (g.pass (rw (z, chain-none l) refl))
 
@@ -199,10 +199,10 @@ pub record Putting (s : State) (ks ls cs os : List ℕ) (l : List EnqueuedAnchor
   pub rest : written b at (looks stands.store (chain_of l k)) ≡ written b₀ 0 (looks (view s ks ls cs os) (chain_of l count))
 
 module _ (s : State) (ks ls cs os : List ℕ) (l : List EnqueuedAnchor) (count : ℕ) (b₀ : List ℕ) where
-  pub putting_first : length s.rounds ≡ 512 → counts_as_started (view s ks ls cs os) ≡ true → Rising (view s ks ls cs os) 0 (chain_of l count) → tests (view s ks ls cs os) (chain_of l count) ≡ good 0
+  pub putting_first : counts_as_started (view s ks ls cs os) ≡ true → Rising (view s ks ls cs os) 0 (chain_of l count) → tests (view s ks ls cs os) (chain_of l count) ≡ good 0
       → Putting s ks ls cs os l count b₀ (replicate 4096 false) b₀ 0 count
   unfolding standing-first
-  putting_first m h r t = record { most = omega arith; stands = standing-first s ks ls cs os l m h count r; fine = t; place = omega arith; same = refl; rest = refl }
+  putting_first h r t = record { most = omega arith; stands = standing-first s ks ls cs os l h count r; fine = t; place = omega arith; same = refl; rest = refl }
 
   module _ (fk : Fit ks) (fl : Fit ls) (tk : List Bool) (b : List ℕ) (at k : ℕ) (g : Putting s ks ls cs os l count b₀ tk b at k) where
     pub putting_end : k ≡ 0 → b ≡ written b₀ 0 (looks (view s ks ls cs os) (chain_of l count))
@@ -255,11 +255,11 @@ module _ (s : State) (ks ls cs os : List ℕ) (l : List EnqueuedAnchor) (count :
 -- ---- the whole
 
 module _ (v : Store) (b : List ℕ) (es : List chain.EnqueuedAnchor) (c : Check) (h : unless_failed c (good (looks v es)) ≡ outlook_all v (length b) es) where
-  pub chain-refused : (r : Refusal) → c ≡ Failed r → ChainLooked v b es (Failed r) b
+  pub chain-refused : (r : Refusal) → c ≡ Err r → ChainLooked v b es (Err r) b
   unfolding unless_failed
   chain-refused r d = record { anchors = λ z. absurd (not_failed r z); refused = λ w y. (sym h ∙ rw (d ∙ y) refl, refl) }
 
-  module _ (z : c ≡ Passed) where
+  module _ (z : c ≡ no_refusal) where
     told : outlook_all v (length b) es ≡ good (looks v es)
     unfolding unless_failed
     told = sym h ∙ rw z refl
@@ -268,7 +268,7 @@ module _ (v : Store) (b : List ℕ) (es : List chain.EnqueuedAnchor) (c : Check)
     pub chain_fits : (tests v es ≡ good 0) × (length (looks v es) ≤ length b)
     chain_fits = let (x, l, t) = outlook-good v (length b) es (looks v es) told in (t, l)
 
-    pub chain-all : (b' : List ℕ) → b' ≡ written b 0 (looks v es) → ChainLooked v b es Passed b'
+    pub chain-all : (b' : List ℕ) → b' ≡ written b 0 (looks v es) → ChainLooked v b es no_refusal b'
     chain-all b' e = record { anchors = λ y. (told, e); refused = λ r y. absurd (not_failed r (sym y)) }
 
 -- as many anchors as entries

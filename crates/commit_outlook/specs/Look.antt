@@ -21,8 +21,6 @@ use Rattle.models.specs.Cert.{committed_word}
 use Rattle.models.specs.Tables.{round_at, place_at, Used, Inside}
 use Rattle.models.specs.Refusal.{refusal_of, unless_failed, failed, or_next}
 use Rattle.models.specs.declared.refusal.Refusal.{Refusal}
-use Rattle.models.specs.declared.refusal.Check.{Check}
-use Rattle.models.specs.declared.refusal.Check.TheVariants.{Passed, Failed}
 use Rattle.dag_round_keys.specs.Sorted.{Sorted}
 use Rattle.commit_state.specs.View.{point_at}
 use Rattle.commit_state.specs.declared.state.State.{State}
@@ -39,6 +37,8 @@ use Rattle.back_committable.specs.Model.{history_span, gathered_in, gathered_of,
 use Rattle.back_committable.proofs.Refines.{tested-count}
 use Rattle.answer_bytes.specs.Bytes.{place_id}
 use Rattle.output_record.specs.Marks.{marks_all, marks-yes, marks_no}
+use Rattle.std.specs.Prelude.{Err, Ok}
+use Rattle.models.specs.Refusal.{Check, no_refusal}
 
 -- ---- mirrors, of an anchor's history as it was gathered
 
@@ -52,7 +52,7 @@ look_bytes n ks os a g = id_bytes (place_id ks a) ++ (be 4 g.count ++ joined (be
 
 -- what refuses it: its tests, then 21 with too few bytes left
 unfoldable pub look_code : Check → ℕ → ℕ → Check
-look_code c left n = or_next c (cond (ltb left n) (failed 21) Passed)
+look_code c left n = or_next c (cond (ltb left n) (failed 21) no_refusal)
 
 -- its history is taken: the words are supposed to be what its commit would leave
 abbrev pub Took : List ℕ → List ℕ → List Bool → Gathered → List Bool → Type 0
@@ -79,16 +79,16 @@ module _ (os cs : List ℕ) (m : List Bool) (low : ℕ) (ds : List ℕ) (tk tk' 
 module _ (s : State) (ks ls ds os : List ℕ) (a : ℕ) (y : Tested) (is : y ≡ tested_of s ks ls ds os a) where
   -- what refuses it, N the length of its bytes
   module _ (left n N : ℕ) (e : n ≡ N) where
-    pub look-tested : (r : Refusal) → y.check ≡ Failed r → Failed r ≡ look_code (tested_of s ks ls ds os a).check left N
+    pub look-tested : (r : Refusal) → y.check ≡ Err r → Err r ≡ look_code (tested_of s ks ls ds os a).check left N
     unfolding look_code or_next
     look-tested r d = rw (sym (ap (λ (z : Tested). z.check) is) ∙ d) refl
 
-    module _ (z : y.check ≡ Passed) where
+    module _ (z : y.check ≡ no_refusal) where
       pub look_full : left < n → failed 21 ≡ look_code (tested_of s ks ls ds os a).check left N
       unfolding look_code or_next
       look_full l = rw (sym (ap (λ (z : Tested). z.check) is) ∙ z, ← e, lt-ltb left n l) refl
 
-      pub look-pass : n ≤ left → Passed ≡ look_code (tested_of s ks ls ds os a).check left N
+      pub look-pass : n ≤ left → no_refusal ≡ look_code (tested_of s ks ls ds os a).check left N
       unfolding look_code or_next
       look-pass l = rw (sym (ap (λ (z : Tested). z.check) is) ∙ z, ← e, le-ltb left n l) refl
 
@@ -151,7 +151,7 @@ module _ (s : State) (ks ls cs os : List ℕ) (t : Started s ks ls cs os) (a : �
 unfoldable pub look_at : Store → ℕ → ℕ → Out ℕ
 look_at v left a = then (tested v a) (λ x. refuse (ltb left (look_size v a)) 21 (good a))
 
--- an anchor that passes has passed its tests, and has room for its bytes
+-- an anchor that passes has no_refusal its tests, and has room for its bytes
 pub look-good : (v : Store) (left a : ℕ) → look_at v left a ≡ good a → ((b : ℕ) × (tested v a ≡ good b)) × (look_size v a ≤ left)
 unfolding look_at
 look-good v left a h =
@@ -160,10 +160,10 @@ look-good v left a h =
 
 code_at : (v : Store) (left a : ℕ) (c : Check) → unless_failed c (good a) ≡ tested v a → unless_failed (look_code c left (look_size v a)) (good a) ≡ look_at v left a
 unfolding look_at unless_failed look_code or_next refuse refusal_of
-code_at v left a (Failed r) h = rw (← h) refl
-code_at v left a Passed h = rw (← h) (by (ltb left (look_size v a)))
+code_at v left a (Err r) h = rw (← h) refl
+code_at v left a (Ok tt) h = rw (← h) (by (ltb left (look_size v a)))
   where
-    by : (f : Bool) → unless_failed (cond f (failed 21) Passed) (good a) ≡ refuse f 21 (good a)
+    by : (f : Bool) → unless_failed (cond f (failed 21) no_refusal) (good a) ≡ refuse f 21 (good a)
     by true = refl
     by false = refl
 

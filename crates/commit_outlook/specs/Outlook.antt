@@ -18,14 +18,14 @@ use Rattle.spec.specs.Calls as calls
 use Rattle.spec.specs.Calls.{call, perform, is_start, buffer_of, do_outlook}
 use Rattle.models.specs.Refusal.{refusal_of, refusal_from, refusal_of_from, refusal_from_of}
 use Rattle.models.specs.declared.refusal.Refusal.{Refusal}
-use Rattle.models.specs.declared.refusal.Check.{Check}
-use Rattle.models.specs.declared.refusal.Check.TheVariants.{Passed, Failed}
 use Rattle.commit_state.specs.declared.state.State.{State}
 use Rattle.back_chain.specs.Walked.{walked}
 use Rattle.commit_answer.specs.declared.answer.Answer.TheVariants.{Anchors, Refused}
 use Rattle.commit_answer.specs.declared.answer.Outcome.{Outcome}
 use Rattle.commit_answer.specs.Answer.{answer_of, Tables, tables, view_of, Left, left, outcome_of, nothing_done, Did, did, refusal, by_tables, call_by_lem}
 use Rattle.commit_outlook.specs.Chain.{ChainLooked}
+use Rattle.std.specs.Prelude.{Err}
+use Rattle.models.specs.Refusal.{Check, no_refusal}
 
 -- ---- the model
 
@@ -99,13 +99,13 @@ module _ (s : State) (ks ls cs os b : List ℕ) where
 
   -- the anchors of a chain
   module _ (es : List EnqueuedAnchor) (c : Check) (b' : List ℕ) (h : ChainLooked (view_of t) b es c b') where
-    pub shown-refused : (r : Refusal) → c ≡ Failed r → (o : Outcome) → o ≡ refusal s r → left o ks ls cs os b' ≡ chain_shown t b es
+    pub shown-refused : (r : Refusal) → c ≡ Err r → (o : Outcome) → o ≡ refusal s r → left o ks ls cs os b' ≡ chain_shown t b es
     unfolding shown
     shown-refused r d o f =
         let (p, q) = h.refused r d in
         ap (λ (y : List ℕ). left o ks ls cs os y) q ∙ (refused-left r o f ∙ ap (shown t b es) (sym p))
 
-    pub shown-all : c ≡ Passed → (n : ℕ) → n ≡ length es → left (record { answer = Anchors n; state = s }) ks ls cs os b' ≡ chain_shown t b es
+    pub shown-all : c ≡ no_refusal → (n : ℕ) → n ≡ length es → left (record { answer = Anchors n; state = s }) ks ls cs os b' ≡ chain_shown t b es
     unfolding shown
     shown-all z n e =
         let (p, q) = h.anchors z in

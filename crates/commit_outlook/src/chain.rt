@@ -9,97 +9,70 @@ ghost use Rattle.spec.specs.History.{outlook_all};
 ghost use Rattle.spec.specs.Outlook.{tests, looks};
 ghost use Rattle.spec.specs.Walk.{Rising};
 ghost use Rattle.models.specs.Refusal.{unless_failed};
-ghost use Rattle.tables_test.specs.View.{view};
+ghost use Rattle.tables_test.specs.View.{view_of};
 ghost use Rattle.back_chain.specs.Chain.{chain_of};
 ghost use Rattle.commit_outlook.specs.Chain.{ChainLooked};
 
 use crate::look::{look_one, put_look};
 use back_walk::EnqueuedAnchor;
-use commit_state::state::State;
-use models::refusal::Check;
+use commit_state::dag::Dag;
+use models::refusal::Refusal;
 use models::tables::{PLACES_MAX, ROUNDS_MAX};
 
 // The tests of the `count` anchors of the list, which has the newest first, with `room` bytes for them; up to the first that is refused.
 pub fn look_all(
-    s: State,
-    keys: &[u64],
-    links: &[u64],
-    certs: &[u64],
-    order: &[u64],
+    dag: &Dag,
     list: [EnqueuedAnchor; ROUNDS_MAX],
     count: usize,
     room: usize,
-) -> Check
-    requires order_value { counts_as_started (view s keys.now links.now certs.now order.now) ≡ true }
-    requires rising { Rising (view s keys.now links.now certs.now order.now) 0 (chain_of list count) }
+) -> Result<(), Refusal>
+    requires order_value { counts_as_started (view_of dag.now) ≡ true }
+    requires rising { Rising (view_of dag.now) 0 (chain_of list count) }
     requires count_bound { count ≤ 512 }
-    ensures { unless_failed result (good (looks (view s keys.now links.now certs.now order.now) (chain_of list count)))
-        ≡ outlook_all (view s keys.now links.now certs.now order.now) room (chain_of list count) }
+    ensures { unless_failed result (good (looks (view_of dag.now) (chain_of list count)))
+        ≡ outlook_all (view_of dag.now) room (chain_of list count) }
 {
     let mut taken = [false; PLACES_MAX];
     let mut left = room;
-    let mut k = count;
-    while 0 < k {
-        k -= 1;
+    for k in (0..count).rev() {
         let e = list[k];
-        let o = look_one(s, keys, links, certs, &mut taken, order, e, left);
-        let check = o.check;
-        if let Check::Failed(r) = check {
-            return Check::Failed(r);
-        }
+        let o = look_one(dag, &mut taken, e, left);
+        o.check?;
         left -= o.size;
     }
-    Check::Passed
+    Ok(())
 }
 
 // The bytes of the anchors, oldest first, from the buffer's first byte on.
-pub fn put_looks(
-    s: State,
-    keys: &[u64],
-    links: &[u64],
-    certs: &[u64],
-    order: &[u64],
-    b: &mut [u8],
-    list: [EnqueuedAnchor; ROUNDS_MAX],
-    count: usize,
-)
-    requires order_value { counts_as_started (view s keys.now links.now certs.now order.now) ≡ true }
-    requires rising { Rising (view s keys.now links.now certs.now order.now) 0 (chain_of list count) }
-    requires count_bound { (count ≤ 512) × (tests (view s keys.now links.now certs.now order.now) (chain_of list count) ≡ good 0) }
-    requires count_in_bounds { length (looks (view s keys.now links.now certs.now order.now) (chain_of list count)) ≤ length b.old }
+pub fn put_looks(dag: &Dag, b: &mut [u8], list: [EnqueuedAnchor; ROUNDS_MAX], count: usize)
+    requires order_value { counts_as_started (view_of dag.now) ≡ true }
+    requires rising { Rising (view_of dag.now) 0 (chain_of list count) }
+    requires count_bound { (count ≤ 512) × (tests (view_of dag.now) (chain_of list count) ≡ good 0) }
+    requires count_in_bounds { length (looks (view_of dag.now) (chain_of list count)) ≤ length b.old }
     ensures { b.new ≡ written b.old 0
-        (looks (view s keys.now links.now certs.now order.now) (chain_of list count)) }
+        (looks (view_of dag.now) (chain_of list count)) }
 {
     let mut taken = [false; PLACES_MAX];
     let mut at: usize = 0;
-    let mut k = count;
-    while 0 < k {
-        k -= 1;
+    for k in (0..count).rev() {
         let e = list[k];
-        at = put_look(s, keys, links, certs, &mut taken, order, b, at, e);
+        at = put_look(dag, &mut taken, b, at, e);
     }
 }
 
 // The anchors of a chain told into the buffer; a refusal leaves it as it was.
 pub fn look_chain(
-    s: State,
-    keys: &[u64],
-    links: &[u64],
-    certs: &[u64],
-    order: &[u64],
+    dag: &Dag,
     b: &mut [u8],
     list: [EnqueuedAnchor; ROUNDS_MAX],
     count: usize,
-) -> Check
-    requires order_value { counts_as_started (view s keys.now links.now certs.now order.now) ≡ true }
-    requires rising { Rising (view s keys.now links.now certs.now order.now) 0 (chain_of list count) }
+) -> Result<(), Refusal>
+    requires order_value { counts_as_started (view_of dag.now) ≡ true }
+    requires rising { Rising (view_of dag.now) 0 (chain_of list count) }
     requires count_bound { count ≤ 512 }
-    ensures { ChainLooked (view s keys.now links.now certs.now order.now) b.old (chain_of list count) result b.new }
+    ensures { ChainLooked (view_of dag.now) b.old (chain_of list count) result b.new }
 {
-    let check = look_all(s, keys, links, certs, order, list, count, b.len());
-    if let Check::Failed(r) = check {
-        return Check::Failed(r);
-    }
-    put_looks(s, keys, links, certs, order, b, list, count);
-    Check::Passed
+    look_all(dag, list, count, b.len())?;
+    put_looks(dag, b, list, count);
+    Ok(())
 }

@@ -7,7 +7,7 @@ ghost use Rattle.laws.specs.Lists.{joined};
 ghost use Rattle.laws.specs.Bytes.{be, written};
 ghost use Rattle.spec.specs.History.{down_from};
 ghost use Rattle.models.specs.Tables.{Inside, Used};
-ghost use Rattle.models.specs.declared.refusal.Check.TheVariants.{Passed};
+ghost use Rattle.models.specs.Refusal.{no_refusal};
 ghost use Rattle.dag_round_keys.specs.Sorted.{Sorted};
 ghost use Rattle.tables_test.specs.Refines.{Started};
 ghost use Rattle.back_history.specs.Supposing.{supposing};
@@ -20,17 +20,17 @@ use answer_bytes::{put_id, put_number};
 use back_committable::anchor::{gather_history, test_supposed};
 use back_order::count_round;
 use back_walk::EnqueuedAnchor;
-use commit_state::state::State;
+use commit_state::dag::Dag;
 use models::output::{COUNT_BYTES, LOOK_BYTES};
 use models::parts::Round;
 use models::place::round_at;
-use models::refusal::{Check, NO_ROOM, Refusal};
+use models::refusal::{NO_ROOM, Refusal};
 use models::tables::PLACES_MAX;
 
-// The tests of one anchor, and the number of its bytes.
+// The tests of one anchor, and the number of its bytes, which the clause `bytes` says of a refused one too.
 #[derive(Clone, Copy)]
 pub struct Look {
-    pub check: Check,
+    pub check: Result<(), Refusal>,
     pub size: usize,
 }
 
@@ -46,48 +46,39 @@ fn look_size(round: Round, lowest: Round) -> usize
 }
 
 // The tests of one anchor, with `left` bytes of the buffer left. One that passes takes its history.
-pub fn look_one(
-    s: State,
-    keys: &[u64],
-    links: &[u64],
-    certs: &[u64],
-    taken: &mut [bool; PLACES_MAX],
-    order: &[u64],
-    e: EnqueuedAnchor,
-    left: usize,
-) -> Look
-    requires started { Started s keys.now links.now certs.now order.now }
-    requires used { Used order.now s.count e.anchor × (length taken.old ≡ 4096) }
+pub fn look_one(dag: &Dag, taken: &mut [bool; PLACES_MAX], e: EnqueuedAnchor, left: usize) -> Look
+    requires started { Started dag.now.state.now dag.now.keys.now dag.now.links.now dag.now.certs.now dag.now.order.now }
+    requires used { Used dag.now.order.now dag.now.state.now.count e.anchor × (length taken.old ≡ 4096) }
     ensures outcome { result.check ≡ look_code
-        (tested_of s keys.now links.now (supposing taken.old certs.now) order.now e.anchor).check left
-        (look_long keys.now e.anchor (gathered_of s keys.now links.now (supposing taken.old certs.now) order.now e.anchor)) }
-    ensures bytes { result.size ≡ look_long keys.now e.anchor
-        (gathered_of s keys.now links.now (supposing taken.old certs.now) order.now e.anchor) }
-    ensures took { result.check ≡ Passed → Took certs.now order.now taken.old
-        (gathered_of s keys.now links.now (supposing taken.old certs.now) order.now e.anchor) taken.new }
+        (tested_of dag.now.state.now dag.now.keys.now dag.now.links.now (supposing taken.old dag.now.certs.now) dag.now.order.now e.anchor).check left
+        (look_long dag.now.keys.now e.anchor (gathered_of dag.now.state.now dag.now.keys.now dag.now.links.now (supposing taken.old dag.now.certs.now) dag.now.order.now e.anchor)) }
+    ensures bytes { result.size ≡ look_long dag.now.keys.now e.anchor
+        (gathered_of dag.now.state.now dag.now.keys.now dag.now.links.now (supposing taken.old dag.now.certs.now) dag.now.order.now e.anchor) }
+    ensures took { result.check ≡ no_refusal → Took dag.now.certs.now dag.now.order.now taken.old
+        (gathered_of dag.now.state.now dag.now.keys.now dag.now.links.now (supposing taken.old dag.now.certs.now) dag.now.order.now e.anchor) taken.new }
 {
     let a = e.anchor as usize;
-    let t = test_supposed(s, keys, links, certs, taken, order, a);
-    let round = round_at(keys, a);
+    let t = test_supposed(dag, taken, a);
+    let round = round_at(dag.keys, a);
     let lowest = t.lowest;
     let size = look_size(round, lowest);
     let check = t.check;
-    if let Check::Failed(r) = check {
+    if let Err(r) = check {
         return Look {
-            check: Check::Failed(r),
+            check: Err(r),
             size,
         };
     }
     if left < size {
         return Look {
-            check: Check::Failed(Refusal::Number(NO_ROOM)),
+            check: Err(Refusal::Number(NO_ROOM)),
             size,
         };
     }
     let marks = t.marks;
-    take_history(taken, &marks, certs, order, t.low, t.high);
+    take_history(taken, &marks, dag.certs, dag.order, t.low, t.high);
     Look {
-        check: Check::Passed,
+        check: Ok(()),
         size,
     }
 }
@@ -112,12 +103,9 @@ fn put_counts(
     let top = round.0;
     let low = lowest.0;
     let mut next = at;
-    let mut k: u32 = 0;
-    while low + k <= top {
-        let r = Round(top - k);
-        let count = count_round(keys, order, n, marks, r);
+    for r in (low..=top).rev() {
+        let count = count_round(keys, order, n, marks, Round(r));
         next = put_number(b, next, 4, count as u64);
-        k += 1;
     }
     next
 }
@@ -125,35 +113,32 @@ fn put_counts(
 // The bytes of an anchor that passed, from byte `at` on; it takes its history. That is gathered again, without the tests: the counts of
 // all anchors are too many to keep.
 pub fn put_look(
-    s: State,
-    keys: &[u64],
-    links: &[u64],
-    certs: &[u64],
+    dag: &Dag,
     taken: &mut [bool; PLACES_MAX],
-    order: &[u64],
     b: &mut [u8],
     at: usize,
     e: EnqueuedAnchor,
 ) -> usize
-    requires started { Started s keys.now links.now certs.now order.now }
-    requires used { Used order.now s.count e.anchor × (length taken.old ≡ 4096) }
-    requires anchor_in_bounds { at + look_long keys.now e.anchor (gathered_of s keys.now links.now (supposing taken.old certs.now) order.now e.anchor) ≤ length b.old }
-    ensures next { result ≡ at + look_long keys.now e.anchor
-        (gathered_of s keys.now links.now (supposing taken.old certs.now) order.now e.anchor) }
-    ensures bytes { b.new ≡ written b.old at (look_bytes s.count keys.now order.now e.anchor
-        (gathered_of s keys.now links.now (supposing taken.old certs.now) order.now e.anchor)) }
-    ensures took { Took certs.now order.now taken.old
-        (gathered_of s keys.now links.now (supposing taken.old certs.now) order.now e.anchor) taken.new }
+    requires started { Started dag.now.state.now dag.now.keys.now dag.now.links.now dag.now.certs.now dag.now.order.now }
+    requires used { Used dag.now.order.now dag.now.state.now.count e.anchor × (length taken.old ≡ 4096) }
+    requires anchor_in_bounds { at + look_long dag.now.keys.now e.anchor (gathered_of dag.now.state.now dag.now.keys.now dag.now.links.now (supposing taken.old dag.now.certs.now) dag.now.order.now e.anchor) ≤ length b.old }
+    ensures next { result ≡ at + look_long dag.now.keys.now e.anchor
+        (gathered_of dag.now.state.now dag.now.keys.now dag.now.links.now (supposing taken.old dag.now.certs.now) dag.now.order.now e.anchor) }
+    ensures bytes { b.new ≡ written b.old at (look_bytes dag.now.state.now.count dag.now.keys.now dag.now.order.now e.anchor
+        (gathered_of dag.now.state.now dag.now.keys.now dag.now.links.now (supposing taken.old dag.now.certs.now) dag.now.order.now e.anchor)) }
+    ensures took { Took dag.now.certs.now dag.now.order.now taken.old
+        (gathered_of dag.now.state.now dag.now.keys.now dag.now.links.now (supposing taken.old dag.now.certs.now) dag.now.order.now e.anchor) taken.new }
 {
     let a = e.anchor as usize;
-    let round = round_at(keys, a);
-    let g = gather_history(s, keys, links, certs, taken, order, a);
+    let round = round_at(dag.keys, a);
+    let g = gather_history(dag, taken, a);
     let span = g.span;
     let lowest = span.lowest;
     let marks = g.marks;
-    let m = put_id(b, at, keys, a);
+    let m = put_id(b, at, dag.keys, a);
     let c = put_number(b, m, 4, g.count as u64);
-    let end = put_counts(b, c, keys, order, s.count, &marks, round, lowest);
-    take_history(taken, &marks, certs, order, span.low, span.high);
+    let n = dag.state.count;
+    let end = put_counts(b, c, dag.keys, dag.order, n, &marks, round, lowest);
+    take_history(taken, &marks, dag.certs, dag.order, span.low, span.high);
     end
 }

@@ -23,12 +23,10 @@ pub fn take_history(
     ensures words { supposing taken.new certs.now ≡ marks_all order.now marks.now low (supposing taken.old certs.now) high }
     ensures places { length taken.new ≡ 4096 }
 {
-    let mut i = low;
-    while i < high {
-        let q = dag_round_keys::place(order, high, i);
+    for &word in &order[low..high] {
+        let q = laws::slot(word);
         if is_fresh(marks, certs, taken, q) {
             taken[q] = true;
         }
-        i += 1;
     }
 }

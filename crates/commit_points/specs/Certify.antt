@@ -11,8 +11,6 @@ use Rattle.models.specs.Parts.{id_of}
 use Rattle.models.specs.declared.parts.PointId.{PointId}
 use Rattle.tables_test.specs.Model.{passed}
 use Rattle.dag_round_points.specs.Codes.{unless-numbered, found, found_at, found_passed, found-refused}
-use Rattle.dag_round_points.specs.declared.Found.{Found}
-use Rattle.dag_round_points.specs.declared.Found.TheVariants.{At, Refused}
 use Rattle.dag_round_points.specs.Model.{id_words}
 use Rattle.dag_round_points.specs.Point.{point_code, place_for, point_used}
 use Rattle.cert_certify.specs.ModelCertify.{certified_certs, Certifiable}
@@ -21,10 +19,11 @@ use Rattle.tables_heights.specs.View.{top_at}
 use Rattle.models.specs.Refusal.{numbered, numbered-passed}
 use Rattle.models.specs.declared.refusal.Refusal.{Refusal}
 use Rattle.models.specs.declared.refusal.Refusal.TheVariants.{Number}
-use Rattle.models.specs.declared.refusal.Check.{Check}
-use Rattle.models.specs.declared.refusal.Check.TheVariants.{Failed}
 use Rattle.commit_answer.specs.Answer.{Tables, tables, view_of, Left, left, left-same, Did, refusal, unless_refused, done_with, left-refused, left-done, tested, tested_no, tested_by, tested-yes, call-tested, did_done}
 use Rattle.commit_answer.specs.declared.answer.Outcome.{Outcome}
+use Rattle.std.specs.Prelude.{Err, Ok}
+use Rattle.models.specs.Refusal.{Check}
+use Rattle.dag_round_points.specs.Codes.{Found}
 
 -- the tables after it, if it isn't refused
 abbrev pub certified_tables : PointId → Tables → Tables
@@ -63,7 +62,7 @@ module _ (i : PointId) (d : Tables) (fk : Fit d.keys) (fl : Fit d.links) (fi : F
   abbrev Does : Left → Type 0
   Does = Did (certify (id_of i)) (certify_left i) d
 
-  refused_by : (w : Refusal) → check ≡ Failed w → (o : Outcome) → o ≡ refusal d.state w → Does (left o d.keys d.links d.certs d.order [])
+  refused_by : (w : Refusal) → check ≡ Err w → (o : Outcome) → o ≡ refusal d.state w → Does (left o d.keys d.links d.certs d.order [])
   refused_by w t o f = certify_did _ (left-refused check d (done_with (certified_tables i d)) w t o f)
 
   module _ (r : Bool) (e : r ≡ counts_as_started (view_of d)) where
@@ -71,10 +70,10 @@ module _ (i : PointId) (d : Tables) (fk : Fit d.keys) (fl : Fit d.links) (fi : F
     certify-unstarted h = refused_by (Number 2) (tested_no _ _ r e h)
 
     module _ (h : not r ≡ false) (f : Found) (g : f ≡ found (point_code d.state d.keys d.order i) q) where
-      pub certify-refused : (w : Refusal) → f ≡ Refused w → (o : Outcome) → o ≡ refusal d.state w → Does (left o d.keys d.links d.certs d.order [])
+      pub certify-refused : (w : Refusal) → f ≡ Err w → (o : Outcome) → o ≡ refusal d.state w → Does (left o d.keys d.links d.certs d.order [])
       certify-refused w k = refused_by w (tested_by _ _ r e h _ (found-refused _ q w (sym g ∙ k)))
 
-      module _ (p : ℕ) (k : f ≡ At p) where
+      module _ (p : ℕ) (k : f ≡ Ok p) where
         at : (point_code d.state d.keys d.order i ≡ 0) × (p ≡ q)
         at = found_at _ q p (sym g ∙ k)
 

@@ -13,8 +13,6 @@ use Rattle.models.specs.declared.info.PointInfo.{PointInfo}
 use Rattle.models.specs.declared.parts.PointId.{PointId}
 use Rattle.tables_test.specs.Model.{passed}
 use Rattle.dag_round_points.specs.Codes.{unless-numbered, numbered-first, numbered_next, found, found_at, found-refused}
-use Rattle.dag_round_points.specs.declared.Found.{Found}
-use Rattle.dag_round_points.specs.declared.Found.TheVariants.{At, Refused}
 use Rattle.dag_round_points.specs.Model.{Ready, id_words, else_zero}
 use Rattle.dag_round_points.specs.Point.{point_code, place_for, point_used}
 use Rattle.info_store.specs.Model.{stored_keys, stored_links}
@@ -24,11 +22,12 @@ use Rattle.info_resolve.specs.Refines.{resolved_certs, Resolvable, resolvable, r
 use Rattle.models.specs.Refusal.{numbered, not_failed, numbered-passed}
 use Rattle.models.specs.declared.refusal.Refusal.{Refusal}
 use Rattle.models.specs.declared.refusal.Refusal.TheVariants.{Number}
-use Rattle.models.specs.declared.refusal.Check.{Check}
-use Rattle.models.specs.declared.refusal.Check.TheVariants.{Passed, Failed}
 use Rattle.commit_answer.specs.Answer.{Tables, tables, view_of, Left, left, left-same, Did, refusal, unless_refused, done_with, left-refused, left-done, tested, tested_no, tested_by, tested-yes, call-tested, did_done}
 use Rattle.commit_answer.specs.declared.answer.Outcome.{Outcome}
 use Rattle.commit_points.specs.Name.{name_ready}
+use Rattle.std.specs.Prelude.{Err, Ok}
+use Rattle.models.specs.Refusal.{Check, no_refusal}
+use Rattle.dag_round_points.specs.Codes.{Found}
 
 -- the tables after it, if it isn't refused
 abbrev pub resolved_tables : PointId → PointInfo → List ℕ → Tables → Tables
@@ -50,7 +49,7 @@ module _ (i : PointId) (info : PointInfo) (rs : List ℕ) (d : Tables) (fk : Fit
   abbrev check : Check
   check = tested (counts_as_started (view_of d)) (numbered code)
 
-  -- the tests that an accepted one passed
+  -- the tests that an accepted one no_refusal
   passes : code ≡ 0 → (point_code d.state d.keys d.order i ≡ 0) × Accepted d.state d.keys d.order q info rs
   unfolding resolve_code
   passes e = let (a, b) = else_zero _ _ e in (a, info_accepted d.state d.keys d.order q info rs b)
@@ -63,7 +62,7 @@ module _ (i : PointId) (info : PointInfo) (rs : List ℕ) (d : Tables) (fk : Fit
   Does = Did (resolve (id_of i) (info_of info rs)) (resolve_left i info rs) d
 
   -- it does 01's call
-  resolve_did : (check ≡ Passed → Fits) → (x : Left) → x ≡ resolve_left i info rs d → Does x
+  resolve_did : (check ≡ no_refusal → Fits) → (x : Left) → x ≡ resolve_left i info rs d → Does x
   unfolding is_start buffer_of perform
   resolve_did fits =
       let t : Store = resolve_at (view_of d) (info_of info rs) q in
@@ -76,7 +75,7 @@ module _ (i : PointId) (info : PointInfo) (rs : List ℕ) (d : Tables) (fk : Fit
 
   -- ---- one law for each way out of the code, and for what it is given
 
-  refused_by : (w : Refusal) → check ≡ Failed w → (o : Outcome) → o ≡ refusal d.state w → Does (left o d.keys d.links d.certs d.order [])
+  refused_by : (w : Refusal) → check ≡ Err w → (o : Outcome) → o ≡ refusal d.state w → Does (left o d.keys d.links d.certs d.order [])
   refused_by w t o f = resolve_did (λ e. absurd (not_failed w (sym t ∙ e))) _ (left-refused check d (done_with (resolved_tables i info rs d)) w t o f)
 
   module _ (r : Bool) (e : r ≡ counts_as_started (view_of d)) where
@@ -84,11 +83,11 @@ module _ (i : PointId) (info : PointInfo) (rs : List ℕ) (d : Tables) (fk : Fit
     resolve-unstarted h = refused_by (Number 2) (tested_no _ _ r e h)
 
     module _ (h : not r ≡ false) (f : Found) (g : f ≡ found (point_code d.state d.keys d.order i) q) where
-      pub resolve_unnamed : (w : Refusal) → f ≡ Refused w → (o : Outcome) → o ≡ refusal d.state w → Does (left o d.keys d.links d.certs d.order [])
+      pub resolve_unnamed : (w : Refusal) → f ≡ Err w → (o : Outcome) → o ≡ refusal d.state w → Does (left o d.keys d.links d.certs d.order [])
       unfolding resolve_code
       resolve_unnamed w k = refused_by w (tested_by _ _ r e h _ (numbered-first _ _ w (found-refused _ q w (sym g ∙ k))))
 
-      module _ (p : ℕ) (k : f ≡ At p) where
+      module _ (p : ℕ) (k : f ≡ Ok p) where
         at : (point_code d.state d.keys d.order i ≡ 0) × (p ≡ q)
         at = found_at _ q p (sym g ∙ k)
 
@@ -100,10 +99,10 @@ module _ (i : PointId) (info : PointInfo) (rs : List ℕ) (d : Tables) (fk : Fit
           unfolding resolve_code
           code_is = numbered_next _ _ at.0 ∙ (ap (λ (y : ℕ). numbered (info_code d.state d.keys d.order y info rs)) (sym at.1) ∙ sym u)
 
-          pub resolve-refused : (w : Refusal) → t ≡ Failed w → (o : Outcome) → o ≡ refusal d.state w → Does (left o d.keys d.links d.certs d.order [])
+          pub resolve-refused : (w : Refusal) → t ≡ Err w → (o : Outcome) → o ≡ refusal d.state w → Does (left o d.keys d.links d.certs d.order [])
           resolve-refused w y = refused_by w (tested_by _ _ r e h _ (code_is ∙ y))
 
-          module _ (y : t ≡ Passed) where
+          module _ (y : t ≡ no_refusal) where
             pub resolve_ready : Resolvable d.state d.keys d.links d.certs d.order p info rs × (round_at d.keys p ≡ i.round.0)
             resolve_ready =
                 let (x, a) = passes (numbered-passed _ (code_is ∙ y)) in (

@@ -8,8 +8,9 @@ ghost use Rattle.commit_points.specs.Certify.{certify_left};
 
 use cert_certify::certify_at;
 use commit_answer::answer::{Answer, Outcome, refused};
+use commit_state::dag::Dag;
 use commit_state::state::State;
-use dag_round_points::{Found, find_named};
+use dag_round_points::find_named;
 use models::parts::PointId;
 use models::refusal::{Refusal, WRONG_PHASE};
 use tables_test::counts_as_started;
@@ -26,13 +27,20 @@ pub fn certify(
     ensures { Did (calls.certify (id_of id)) (certify_left id) (tables s keys.now links.now certs.old order.now)
         (left result keys.now links.now certs.new order.now []) }
 {
-    if !counts_as_started(s, keys, links, certs, order) {
+    let dag = Dag {
+        state: &s,
+        keys,
+        links,
+        certs,
+        order,
+    };
+    if !counts_as_started(&dag) {
         return refused(s, Refusal::Number(WRONG_PHASE));
     }
-    match find_named(s, keys, order, id) {
-        Found::Refused(why) => refused(s, why),
-        Found::At(q) => {
-            certify_at(s, keys, links, certs, q);
+    match find_named(&s, keys, order, id) {
+        Err(why) => refused(s, why),
+        Ok(q) => {
+            certify_at(&s, keys, links, certs, q);
             Outcome {
                 answer: Answer::Done,
                 state: s,

@@ -8,12 +8,13 @@ ghost use Rattle.commit_answer.specs.Answer.{Did, tables, left};
 ghost use Rattle.commit_points.specs.Resolve.{resolve_left};
 
 use commit_answer::answer::{Answer, Outcome, refused};
+use commit_state::dag::Dag;
 use commit_state::state::State;
-use dag_round_points::{Found, find_named};
+use dag_round_points::find_named;
 use info_resolve::{check_resolution, resolve_at};
 use models::info::PointInfo;
 use models::parts::PointId;
-use models::refusal::{Check, Refusal, WRONG_PHASE};
+use models::refusal::{Refusal, WRONG_PHASE};
 use tables_test::counts_as_started;
 
 // Resolves a named point. `refs` holds its links, five words each: peer and digest, first the includes, then the witness.
@@ -31,17 +32,24 @@ pub fn resolve(
         (tables s keys.old links.old certs.old order.now)
         (left result keys.new links.new certs.new order.now []) }
 {
-    if !counts_as_started(s, keys, links, certs, order) {
+    let dag = Dag {
+        state: &s,
+        keys,
+        links,
+        certs,
+        order,
+    };
+    if !counts_as_started(&dag) {
         return refused(s, Refusal::Number(WRONG_PHASE));
     }
-    match find_named(s, keys, order, id) {
-        Found::Refused(why) => refused(s, why),
-        Found::At(q) => {
-            let check = check_resolution(s, keys, order, q, id.round, info, refs);
-            if let Check::Failed(why) = check {
+    match find_named(&s, keys, order, id) {
+        Err(why) => refused(s, why),
+        Ok(q) => {
+            let check = check_resolution(&s, keys, order, q, id.round, info, refs);
+            if let Err(why) = check {
                 return refused(s, why);
             }
-            resolve_at(s, keys, links, certs, order, q, id.round, info, refs);
+            resolve_at(&s, keys, links, certs, order, q, id.round, info, refs);
             Outcome {
                 answer: Answer::Done,
                 state: s,

@@ -15,8 +15,6 @@ use Rattle.spec.specs.Calls.{perform, is_start, buffer_of, done, new_bottom, bey
 use Rattle.models.specs.Digest.{Fit}
 use Rattle.models.specs.Refusal.{refusal_of, failed}
 use Rattle.models.specs.declared.refusal.Refusal.TheVariants.{Number}
-use Rattle.models.specs.declared.refusal.Check.{Check}
-use Rattle.models.specs.declared.refusal.Check.TheVariants.{Passed}
 use Rattle.dag_round_keys.specs.Zero.{emptied}
 use Rattle.dag_round_order.specs.Shift.{drained}
 use Rattle.commit_state.specs.declared.state.Memory.{Memory}
@@ -33,6 +31,7 @@ use Rattle.commit_answer.specs.declared.answer.Answer.TheVariants.{Done}
 use Rattle.commit_answer.specs.declared.answer.Outcome.{Outcome}
 use Rattle.commit_answer.specs.Answer.{answer_of, Tables, tables, view_of, Left, left, outcome_of, nothing_done, Did, refusal, unless_refused_with, tested, left-refused, left_passed, tested_no, tested_by, did_tested}
 use Rattle.commit_rounds.specs.Drain.{drained_tables, drained_is}
+use Rattle.models.specs.Refusal.{Check, no_refusal}
 
 -- ---- the parts
 
@@ -65,7 +64,7 @@ memory_left_of d low = memory_left d.state d.keys d.links d.certs d.order low
 
 -- 23, 21 or none; n: the number of the answer's bytes
 unfoldable pub remove_check : State → ℕ → List ℕ → ℕ → Check
-remove_check s r b n = cond (beyond (option_of s.last_anchor.0) r) (failed 23) (cond (ltb (length b) n) (failed 21) Passed)
+remove_check s r b n = cond (beyond (option_of s.last_anchor.0) r) (failed 23) (cond (ltb (length b) n) (failed 21) no_refusal)
 
 -- one law for each way out of it
 module _ (s : State) (r : ℕ) (b : List ℕ) (n : ℕ) (x : Bool) (e : x ≡ beyond (option_of s.last_anchor.0) r) where
@@ -77,7 +76,7 @@ module _ (s : State) (r : ℕ) (b : List ℕ) (n : ℕ) (x : Bool) (e : x ≡ be
   unfolding remove_check
   check_short f l = rw (sym e ∙ f, lt-ltb (length b) n l) refl
 
-  check_fits : x ≡ false → n ≤ length b → remove_check s r b n ≡ Passed
+  check_fits : x ≡ false → n ≤ length b → remove_check s r b n ≡ no_refusal
   unfolding remove_check
   check_fits f l = rw (sym e ∙ f, le-ltb (length b) n l) refl
 
@@ -133,7 +132,7 @@ module _ (since : Option ℕ) (r : ℕ) (b : List ℕ) (d : Tables) where
   unfolding remove_check removing refuse outcome_of answer_of refusal_of unless_refused_with
   remove_is e = by (beyond (option_of d.state.last_anchor.0) r) (ltb (length b) (length bytes)) ∙ sym (tests_are ∙ ap (λ (o : Option ℕ). outcome_by low (refuse (beyond o r) 23 (refuse (ltb (length b) (length bytes)) 21 (good bytes)))) last_is)
     where
-      by : (x y : Bool) → outcome_of (unless_refused_with (cond x (failed 23) (cond y (failed 21) Passed)) d b (removed_left since r b d)) ≡ outcome_by low (refuse x 23 (refuse y 21 (good bytes)))
+      by : (x y : Bool) → outcome_of (unless_refused_with (cond x (failed 23) (cond y (failed 21) no_refusal)) d b (removed_left since r b d)) ≡ outcome_by low (refuse x 23 (refuse y 21 (good bytes)))
       by true y = refl
       by false true = refl
       by false false = λ i. record { answer = done; store = e i; buffer = written b 0 bytes }

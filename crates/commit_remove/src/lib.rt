@@ -13,13 +13,13 @@ ghost use Rattle.commit_remove.specs.Remove.{remove_bottom, remove_left};
 use back_drain::drain_upto;
 use commit_answer::answer::{Answer, Outcome, refused};
 use commit_state::back::removed_state;
+use commit_state::dag::Dag;
 use commit_state::state::State;
 use dag_round_order::span::cut;
 use inspector_answer::answer_remove;
 use inspector_inspect::memory_after;
 use models::parts::{OptionRound, Round};
 use models::refusal::{NO_ROOM, REMOVE_AHEAD, Refusal, WRONG_PHASE};
-use stats::ranges::Since;
 use tables_test::counts_as_started;
 
 // Whether the round is above the last anchor handed out since the start; every round is if there is none.
@@ -52,24 +52,31 @@ pub fn remove_committed(
     certs: &mut [u64],
     order: &mut [u64],
     round: Round,
-    stats_since: Since,
+    stats_since: Option<Round>,
     b: &mut [u8],
 ) -> Outcome
     ensures { Did (calls.remove round.0 (since_of stats_since) b.old) (remove_left (since_of stats_since) round.0 b.old)
         (tables s keys.old links.old certs.old order.old)
         (left result keys.new links.new certs.new order.new b.new) }
 {
-    if !counts_as_started(s, keys, links, certs, order) {
+    let dag = Dag {
+        state: &s,
+        keys,
+        links,
+        certs,
+        order,
+    };
+    if !counts_as_started(&dag) {
         return refused(s, Refusal::Number(WRONG_PHASE));
     }
     if is_beyond(s.last_anchor, round) {
         return refused(s, Refusal::Number(REMOVE_AHEAD));
     }
     let low = remove_bottom(s, round);
-    if !answer_remove(s, keys, links, certs, order, low, stats_since, b) {
+    if !answer_remove(&dag, low, stats_since, b) {
         return refused(s, Refusal::Number(NO_ROOM));
     }
-    let memory = memory_after(s, keys, links, certs, order, low);
+    let memory = memory_after(&dag, low);
     let n = s.count;
     let k = cut(keys, order, n, low);
     drain_upto(keys, links, certs, order, n, k);

@@ -12,10 +12,10 @@ use Rattle.commit_state.specs.Back.{dropped_state}
 use Rattle.back_drain.specs.Model.{drain_bottom}
 use Rattle.dag_round_order.specs.Span.{below}
 use Rattle.back_drain.specs.Drop.{drop_view_lem, drop-answer, drop_buffer}
-use Rattle.models.specs.declared.refusal.Check.TheVariants.{Passed}
 use Rattle.commit_answer.specs.declared.answer.Answer.TheVariants.{Flag}
 use Rattle.commit_answer.specs.Answer.{Tables, tables, view_of, Left, outcome_of, answer_of, nothing_done, Did, unless_refused, tested, did_started}
 use Rattle.commit_rounds.specs.Drain.{drained_tables, drained_is}
+use Rattle.models.specs.Refusal.{no_refusal}
 
 -- the tables after it, if it isn't refused
 abbrev pub dropped_tables : ℕ → Tables → Tables
@@ -27,7 +27,7 @@ dropped_left r d = record { answer = Flag (eqb (min r d.state.top.0) r); tables 
 
 -- what the call leaves
 abbrev pub drop_left : ℕ → Tables → Left
-drop_left r d = unless_refused (tested (counts_as_started (view_of d)) Passed) d (dropped_left r d)
+drop_left r d = unless_refused (tested (counts_as_started (view_of d)) no_refusal) d (dropped_left r d)
 
 -- it does 01's call
 pub drop_did : (r : ℕ) (d : Tables) → Fit d.keys → Fit d.links → (x : Left) → x ≡ drop_left r d → Did (calls.drop r) (drop_left r) d x

@@ -12,9 +12,9 @@ use Rattle.commit_state.specs.declared.state.State.{State}
 use Rattle.commit_state.specs.View.{gap_of, gap_waits, progress_of, conf_of}
 use Rattle.commit_state.specs.Back.{asked_state}
 use Rattle.tables_test.specs.View.{view, regular}
-use Rattle.models.specs.declared.refusal.Check.TheVariants.{Passed}
 use Rattle.commit_answer.specs.declared.answer.Answer.TheVariants.{Flag}
 use Rattle.commit_answer.specs.Answer.{Tables, tables, view_of, Left, outcome_of, answer_of, nothing_done, Did, unless_refused, tested, did_started}
+use Rattle.models.specs.Refusal.{no_refusal}
 
 -- the state with the question put, if it is waited for
 unfoldable pub put_by : Bool → State → State
@@ -27,7 +27,7 @@ put_left b d = record { answer = Flag b; tables = tables (put_by b d.state) d.ke
 
 -- what the call leaves
 abbrev pub gap_left : Tables → Left
-gap_left d = unless_refused (tested (counts_as_started (view_of d)) Passed) d (put_left (eqb d.state.emit_first_after_gap 1) d)
+gap_left d = unless_refused (tested (counts_as_started (view_of d)) no_refusal) d (put_left (eqb d.state.emit_first_after_gap 1) d)
 
 module _ (s : State) (ks ls cs os : List ℕ) where
   abbrev v : Store

@@ -20,13 +20,12 @@ use Rattle.tables_test.specs.View.{view, regular}
 use Rattle.tables_test.specs.Model.{range_says, passed}
 use Rattle.tables_test.specs.Refines.{rounds_of_lem}
 use Rattle.models.specs.Refusal.{unless_failed, refusal_of, failed, not_failed}
-use Rattle.models.specs.declared.refusal.Check.{Check}
-use Rattle.models.specs.declared.refusal.Check.TheVariants.{Passed}
 use Rattle.commit_answer.specs.Answer.{Tables, tables, view_of, Left, Did, unless_refused, done_with, tested, tested-yes, call-tested, did_done}
+use Rattle.models.specs.Refusal.{Check, no_refusal}
 
 -- 3, 4 or none, with the rounds from b to t retained
 unfoldable pub round_check : ℕ → ℕ → ℕ → Check
-round_check b t r = cond (ltb (suc t) r || ltb last_round r) (failed 3) (cond (leb r t) Passed (cond (leb 512 (suc t - b)) (failed 4) Passed))
+round_check b t r = cond (ltb (suc t) r || ltb last_round r) (failed 3) (cond (leb r t) no_refusal (cond (leb 512 (suc t - b)) (failed 4) no_refusal))
 
 -- one law for each way out
 module _ (b t r : ℕ) where
@@ -41,7 +40,7 @@ module _ (b t r : ℕ) where
   near : r ≤ t + 1 → r ≤ last_round → (ltb (suc t) r || ltb last_round r) ≡ false
   near l m = rw (le-ltb (suc t) r (omega arith), le-ltb last_round r m) refl
 
-  pub round_old : r ≤ t + 1 → r ≤ last_round → r ≤ t → Passed ≡ round_check b t r
+  pub round_old : r ≤ t + 1 → r ≤ last_round → r ≤ t → no_refusal ≡ round_check b t r
   unfolding round_check
   round_old l m k = rw (near l m, le-leb r t k) refl
 
@@ -49,12 +48,12 @@ module _ (b t r : ℕ) where
   unfolding round_check
   round_full l m k f = rw (near l m, lt-leb r t k, le-leb 512 (suc t - b) (omega arith)) refl
 
-  pub round-new : r ≤ t + 1 → r ≤ last_round → t < r → t + 1 - b < 512 → Passed ≡ round_check b t r
+  pub round-new : r ≤ t + 1 → r ≤ last_round → t < r → t + 1 - b < 512 → no_refusal ≡ round_check b t r
   unfolding round_check
   round-new l m k f = rw (near l m, lt-leb r t k, lt-leb 512 (suc t - b) (omega arith)) refl
 
   -- a new round has room
-  pub new-fits : round_check b t r ≡ Passed → t < r → t + 1 - b < 512
+  pub new-fits : round_check b t r ≡ no_refusal → t < r → t + 1 - b < 512
   new-fits e k =
       le_or r (t + 1)
       (λ l. le_or r last_round
@@ -84,7 +83,7 @@ module _ (s : State) (ks ls cs os : List ℕ) (r peers : ℕ) where
   unfolding do_round refuse round_check unless_failed refusal_of made view
   check_is = by (ltb (suc s.top.0) r || ltb last_round r) (leb r s.top.0) (leb 512 (suc s.top.0 - s.bottom.0))
     where
-      by : (x y z : Bool) → refuse x 3 (elim y [ true ↦ good v | false ↦ refuse z 4 (good (add_round v peers)) ]) ≡ unless_failed (cond x (failed 3) (cond y Passed (cond z (failed 4) Passed))) (good (cond y v (add_round v peers)))
+      by : (x y z : Bool) → refuse x 3 (elim y [ true ↦ good v | false ↦ refuse z 4 (good (add_round v peers)) ]) ≡ unless_failed (cond x (failed 3) (cond y no_refusal (cond z (failed 4) no_refusal))) (good (cond y v (add_round v peers)))
       by true y z = refl
       by false true z = refl
       by false false true = refl
@@ -107,7 +106,7 @@ module _ (s : State) (ks ls cs os : List ℕ) (r peers : ℕ) where
   }
 
   -- what an accepted call makes
-  makes : length s.rounds ≡ 512 → tested (counts_as_started v) (round_check s.bottom.0 s.top.0 r) ≡ Passed → view (with_round s r peers) ks ls cs os ≡ made
+  makes : length s.rounds ≡ 512 → tested (counts_as_started v) (round_check s.bottom.0 s.top.0 r) ≡ no_refusal → view (with_round s r peers) ks ls cs os ≡ made
   unfolding with_round made rounds_hold
   makes l e =
       let (h, f) = tested-yes _ _ e in
@@ -138,5 +137,5 @@ unfolding rounds_hold
 round_ready s ks ls cs os c e h = let (k, m, d) = range_says s.genesis.0 s.bottom.0 s.top.0 (and_l _ _ (rounds_of_lem s ks ls cs os (passed _ _ e h))) in (k, m)
 
 -- an accepted round is in its range
-pub round_small : (b t r : ℕ) (k : Check) → k ≡ round_check b t r → k ≡ Passed → r ≤ 4_000_000_000
+pub round_small : (b t r : ℕ) (k : Check) → k ≡ round_check b t r → k ≡ no_refusal → r ≤ 4_000_000_000
 round_small b t r k e z = le_or r last_round (λ l. l) (λ l. absurd (not_failed _ (round_last b t r l ∙ (sym e ∙ z))))

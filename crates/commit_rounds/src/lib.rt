@@ -12,10 +12,11 @@ ghost use Rattle.commit_rounds.specs.Drop.{drop_left};
 use back_drain::drain_upto;
 use commit_answer::answer::{Answer, Outcome, refused};
 use commit_state::back::{ask_state, drop_state, extend_state};
+use commit_state::dag::Dag;
 use commit_state::state::State;
 use dag_round_order::span::cut;
 use models::parts::Round;
-use models::refusal::{Check, FULL, ROUND_AHEAD, Refusal, WRONG_PHASE};
+use models::refusal::{FULL, ROUND_AHEAD, Refusal, WRONG_PHASE};
 use models::tables::{ROUND_MAX, ROUND_SLOTS};
 use tables_test::counts_as_started;
 
@@ -30,7 +31,14 @@ pub fn is_once_after_gap(
     ensures { Did calls.gap_question gap_left (tables s keys.now links.now certs.now order.now)
         (left result keys.now links.now certs.now order.now []) }
 {
-    if !counts_as_started(s, keys, links, certs, order) {
+    let dag = Dag {
+        state: &s,
+        keys,
+        links,
+        certs,
+        order,
+    };
+    if !counts_as_started(&dag) {
         return refused(s, Refusal::Number(WRONG_PHASE));
     }
     if s.emit_first_after_gap != 1 {
@@ -47,23 +55,23 @@ pub fn is_once_after_gap(
 }
 
 // Whether a round is refused, with the rounds from bottom to top retained.
-fn check_round(bottom: Round, top: Round, round: Round) -> Check
+fn check_round(bottom: Round, top: Round, round: Round) -> Result<(), Refusal>
     requires { (bottom.0 ≤ top.0) × (top.0 ≤ 4000000000) }
     ensures { result ≡ round_check bottom.0 top.0 round.0 }
 {
     if top.0 + 1 < round.0 {
-        return Check::Failed(Refusal::Number(ROUND_AHEAD));
+        return Err(Refusal::Number(ROUND_AHEAD));
     }
     if ROUND_MAX < round.0 {
-        return Check::Failed(Refusal::Number(ROUND_AHEAD));
+        return Err(Refusal::Number(ROUND_AHEAD));
     }
     if round.0 <= top.0 {
-        return Check::Passed;
+        return Ok(());
     }
     if ROUND_SLOTS <= top.0 + 1 - bottom.0 {
-        return Check::Failed(Refusal::Number(FULL));
+        return Err(Refusal::Number(FULL));
     }
-    Check::Passed
+    Ok(())
 }
 
 // The state with the round, which is at most one above the top.
@@ -91,13 +99,20 @@ pub fn extend_from_ahead(
     ensures { Did (calls.round round.0 peers) (round_left round.0 peers) (tables s keys.now links.now certs.now order.now)
         (left result keys.now links.now certs.now order.now []) }
 {
-    if !counts_as_started(s, keys, links, certs, order) {
+    let dag = Dag {
+        state: &s,
+        keys,
+        links,
+        certs,
+        order,
+    };
+    if !counts_as_started(&dag) {
         return refused(s, Refusal::Number(WRONG_PHASE));
     }
     let bottom = s.bottom;
     let top = s.top;
     let check = check_round(bottom, top, round);
-    if let Check::Failed(why) = check {
+    if let Err(why) = check {
         return refused(s, why);
     }
     let next = with_round(s, round, peers);
@@ -119,7 +134,14 @@ pub fn drop_upto(
     ensures { Did (calls.drop round.0) (drop_left round.0) (tables s keys.old links.old certs.old order.old)
         (left result keys.new links.new certs.new order.new []) }
 {
-    if !counts_as_started(s, keys, links, certs, order) {
+    let dag = Dag {
+        state: &s,
+        keys,
+        links,
+        certs,
+        order,
+    };
+    if !counts_as_started(&dag) {
         return refused(s, Refusal::Number(WRONG_PHASE));
     }
     let bottom = s.bottom;

@@ -27,14 +27,13 @@ use Rattle.tables_test.specs.Model.{shape, chain_no, chain-yes, test-yes}
 use Rattle.tables_test.specs.View.{view, regular, seen_at}
 use Rattle.tables_test.specs.Refines.{shape_of}
 use Rattle.models.specs.Refusal.{unless_failed, refusal_of, failed, not_failed}
-use Rattle.models.specs.declared.refusal.Check.{Check}
-use Rattle.models.specs.declared.refusal.Check.TheVariants.{Passed}
 use Rattle.commit_answer.specs.Answer.{Tables, tables, view_of, Left, Did, unless_refused, done_with, tested, tested-yes, call-tested, did_done}
 use Rattle.commit_start.specs.Blank.{blank, regular-none, blank_phase, blank_places, blank_pt, blank_heights}
+use Rattle.models.specs.Refusal.{Check, no_refusal}
 
 -- 1, 2 or none
 unfoldable pub start_check : Store → StartArgs → Check
-start_check v b = cond (start_ok v.places (start_args_of b)) (cond (counts_as_started v) (failed 2) Passed) (failed 1)
+start_check v b = cond (start_ok v.places (start_args_of b)) (cond (counts_as_started v) (failed 2) no_refusal) (failed 1)
 
 -- a state that a reset left
 unfoldable pub reset_holds : State → Bool
@@ -103,7 +102,7 @@ module _ (v : Store) (b : StartArgs) (n : ℕ) (r : Bool) (p : n ≡ v.places) (
   unfolding start_check
   start-twice h c f g = rw (sym same ∙ not-false r h, sym f ∙ g) refl
 
-  pub start-passed : not r ≡ false → (c : Bool) → c ≡ counts_as_started v → c ≡ false → Passed ≡ start_check v b
+  pub start-passed : not r ≡ false → (c : Bool) → c ≡ counts_as_started v → c ≡ false → no_refusal ≡ start_check v b
   unfolding start_check
   start-passed h c f g = rw (sym same ∙ not-false r h, sym f ∙ g) refl
 
@@ -207,13 +206,13 @@ module _ (s : State) (ks ls cs os : List ℕ) (b : StartArgs) where
   unfolding do_start start_check refuse unless_failed refusal_of
   check_is = call-start w (start_args_of b) ∙ ap (finish w) (by (start_ok w.places (start_args_of b)) (counts_as_started w))
     where
-      by : (x y : Bool) → refuse (not x) 1 (refuse y 2 (good made)) ≡ unless_failed (cond x (cond y (failed 2) Passed) (failed 1)) (good made)
+      by : (x y : Bool) → refuse (not x) 1 (refuse y 2 (good made)) ≡ unless_failed (cond x (cond y (failed 2) no_refusal) (failed 1)) (good made)
       by true true = refl
       by true false = refl
       by false y = refl
 
   -- an accepted start has tables of one number of places
-  fits : start_check w b ≡ Passed → shape ks ls cs os ≡ true
+  fits : start_check w b ≡ no_refusal → shape ks ls cs os ≡ true
   unfolding start_check start_ok places_ok view
   fits e =
       by_test (shape ks ls cs os) (λ t. t)
@@ -222,7 +221,7 @@ module _ (s : State) (ks ls cs os : List ℕ) (b : StartArgs) where
       (λ t. let p : places_ok w.places ≡ true = search (and_l, and_r, t) in let z : w.places ≡ 0 = rw f refl in let l = ltb-true 0 w.places (and_l _ _ p) in omega arith)
       (λ g. not_failed _ (rw g at e))))
 
-  makes : start_check w b ≡ Passed → view (begun_state (kept_memory s) b) (blank ks) (blank ls) (blank cs) (blank os) ≡ made
+  makes : start_check w b ≡ no_refusal → view (begun_state (kept_memory s) b) (blank ks) (blank ls) (blank cs) (blank os) ≡ made
   unfolding view begun_state calls.begun phase_of conf_of
   makes e =
       let sh = fits e in
@@ -242,7 +241,7 @@ module _ (s : State) (ks ls cs os : List ℕ) (b : StartArgs) where
       }
 
   -- what it was given lies in its ranges
-  pub start_ranges : start_check w b ≡ Passed → Starts b
+  pub start_ranges : start_check w b ≡ no_refusal → Starts b
   unfolding start_check start_ok conf_ok
   start_ranges e =
       by_test (start_ok w.places (start_args_of b))
@@ -264,7 +263,7 @@ reset_tables d = tables (cleared_state d.state) (blank d.keys) (blank d.links) (
 
 -- what it leaves
 abbrev pub reset_left : Tables → Left
-reset_left d = unless_refused (tested (counts_as_started (view_of d)) Passed) d (done_with (reset_tables d))
+reset_left d = unless_refused (tested (counts_as_started (view_of d)) no_refusal) d (done_with (reset_tables d))
 
 module _ (s : State) (ks ls cs os : List ℕ) where
   abbrev u : Store
@@ -292,6 +291,6 @@ module _ (s : State) (ks ls cs os : List ℕ) where
 pub reset_did : (d : Tables) (x : Left) → x ≡ reset_left d → Did calls.reset_all reset_left d x
 unfolding is_start buffer_of perform finish unless_failed
 reset_did d =
-    did_done calls.reset_all reset_left d (reset_tables d) (tested (counts_as_started (view_of d)) Passed) refl refl (calls.cleared (view_of d))
-    (call-tested (view_of d) calls.reset_all (good (calls.cleared (view_of d))) Passed (calls.cleared (view_of d)) refl refl refl (λ h. refl))
+    did_done calls.reset_all reset_left d (reset_tables d) (tested (counts_as_started (view_of d)) no_refusal) refl refl (calls.cleared (view_of d))
+    (call-tested (view_of d) calls.reset_all (good (calls.cleared (view_of d))) no_refusal (calls.cleared (view_of d)) refl refl refl (λ h. refl))
     (λ e. clears d.state d.keys d.links d.certs d.order (tested-yes _ _ e).0)

@@ -8,16 +8,17 @@ ghost use Rattle.spec.specs.Calls as calls;
 ghost use Rattle.commit_state.specs.Reads.{start_args_of};
 ghost use Rattle.commit_state.specs.Back.{Starts};
 ghost use Rattle.tables_test.specs.Model.{shape};
-ghost use Rattle.tables_test.specs.View.{view};
+ghost use Rattle.tables_test.specs.View.{view_of};
 ghost use Rattle.commit_answer.specs.Answer.{Did, tables, left};
 ghost use Rattle.commit_start.specs.Blank.{blank};
 ghost use Rattle.commit_start.specs.Start.{start_check, kept_memory, start_left, reset_left};
 
 use commit_answer::answer::{Answer, Outcome, refused};
 use commit_state::back::{StartArgs, init_state, reset_state, used_ok};
+use commit_state::dag::Dag;
 use commit_state::state::{Memory, State, conf_holds, empty_memory, memory_holds};
 use dag_round_keys::zero_words;
-use models::refusal::{BAD_START, Check, Refusal, WRONG_PHASE};
+use models::refusal::{BAD_START, Refusal, WRONG_PHASE};
 use models::tables::ROUND_MAX;
 use tables_test::{counts_as_started, places_hold, shape_holds};
 
@@ -57,29 +58,22 @@ fn begins(with: StartArgs, places: usize) -> bool
 }
 
 // Whether a start is refused: its ranges, then tables that count as started.
-fn check_start(
-    s: State,
-    keys: &[u64],
-    links: &[u64],
-    certs: &[u64],
-    order: &[u64],
-    with: StartArgs,
-) -> Check
-    ensures { result ≡ start_check (view s keys.now links.now certs.now order.now) with }
+fn check_start(dag: &Dag, with: StartArgs) -> Result<(), Refusal>
+    ensures { result ≡ start_check (view_of dag.now) with }
 {
-    let places = places_of(keys, links, certs, order);
+    let places = places_of(dag.keys, dag.links, dag.certs, dag.order);
     if !begins(with, places) {
-        return Check::Failed(Refusal::Number(BAD_START));
+        return Err(Refusal::Number(BAD_START));
     }
-    if counts_as_started(s, keys, links, certs, order) {
-        return Check::Failed(Refusal::Number(WRONG_PHASE));
+    if counts_as_started(dag) {
+        return Err(Refusal::Number(WRONG_PHASE));
     }
-    Check::Passed
+    Ok(())
 }
 
 // The inspector's memory that a start keeps: a reset's, if it holds.
-fn kept_memory(s: State) -> Memory
-    ensures { result ≡ kept_memory s }
+fn kept_memory(s: &State) -> Memory
+    ensures { result ≡ kept_memory s.now }
 {
     if s.phase != 2 {
         return empty_memory();
@@ -87,11 +81,10 @@ fn kept_memory(s: State) -> Memory
     if s.count != 0 {
         return empty_memory();
     }
-    let memory = s.memory;
-    if !memory_holds(memory) {
+    if !memory_holds(&s.memory) {
         return empty_memory();
     }
-    memory
+    s.memory
 }
 
 // Zeroes the tables.
@@ -123,11 +116,18 @@ pub fn init(
     ensures { Did (calls.start (start_args_of with)) (start_left with) (tables s keys.old links.old certs.old order.old)
         (left result keys.new links.new certs.new order.new []) }
 {
-    let check = check_start(s, keys, links, certs, order, with);
-    if let Check::Failed(why) = check {
+    let dag = Dag {
+        state: &s,
+        keys,
+        links,
+        certs,
+        order,
+    };
+    let check = check_start(&dag, with);
+    if let Err(why) = check {
         return refused(s, why);
     }
-    let memory = kept_memory(s);
+    let memory = kept_memory(&s);
     clear(keys, links, certs, order);
     let next = init_state(memory, with);
     Outcome {
@@ -147,7 +147,14 @@ pub fn reset(
     ensures { Did calls.reset_all reset_left (tables s keys.old links.old certs.old order.old)
         (left result keys.new links.new certs.new order.new []) }
 {
-    if !counts_as_started(s, keys, links, certs, order) {
+    let dag = Dag {
+        state: &s,
+        keys,
+        links,
+        certs,
+        order,
+    };
+    if !counts_as_started(&dag) {
         return refused(s, Refusal::Number(WRONG_PHASE));
     }
     clear(keys, links, certs, order);

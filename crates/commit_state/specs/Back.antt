@@ -12,41 +12,41 @@ use Rattle.commit_state.specs.declared.state.Memory.{Memory}
 use Rattle.commit_state.specs.declared.state.State.{State}
 use Rattle.commit_state.specs.State.{no_memory, no_record}
 use Rattle.commit_state.specs.declared.back.StartArgs.{StartArgs}
-use Rattle.commit_state.specs.declared.back.UsedAuthor.{UsedAuthor}
-use Rattle.commit_state.specs.declared.back.UsedAuthor.TheVariants.{Nobody, Peer}
+use Rattle.std.specs.Prelude as rust
+use Rattle.std.specs.Prelude.{None, Some}
 
-unfoldable pub used_of : UsedAuthor → Option ℕ
-used_of Nobody = none
-used_of (Peer a) = some a
+unfoldable pub used_of : (rust.Option ℕ) → Option ℕ
+used_of None = none
+used_of (Some a) = some a
 
 -- an author's number in a round record
-unfoldable pub used_word : UsedAuthor → ℕ
-used_word Nobody = 0
-used_word (Peer a) = a + 1
+unfoldable pub used_word : (rust.Option ℕ) → ℕ
+used_word None = 0
+used_word (Some a) = a + 1
 
-pub used_reads : (u : UsedAuthor) → option_of (used_word u) ≡ used_of u
+pub used_reads : (u : (rust.Option ℕ)) → option_of (used_word u) ≡ used_of u
 unfolding used_word used_of option_of
-used_reads Nobody = refl
-used_reads (Peer a) = rw (add-one a) refl
+used_reads None = refl
+used_reads (Some a) = rw (add-one a) refl
 
 -- by cases
-pub ok_nobody : (u : UsedAuthor) → u ≡ Nobody → true ≡ used_ok (used_of u)
+pub ok_nobody : (u : (rust.Option ℕ)) → u ≡ None → true ≡ used_ok (used_of u)
 unfolding used_ok used_of
 ok_nobody u e = rw e refl
 
-pub ok_peer : (u : UsedAuthor) (a : ℕ) → u ≡ Peer a → ltb a 32 ≡ used_ok (used_of u)
+pub ok_peer : (u : (rust.Option ℕ)) (a : ℕ) → u ≡ Some a → ltb a 32 ≡ used_ok (used_of u)
 unfolding used_ok used_of
 ok_peer u a e = rw e refl
 
-pub word_nobody : (u : UsedAuthor) → u ≡ Nobody → 0 ≡ used_word u
+pub word_nobody : (u : (rust.Option ℕ)) → u ≡ None → 0 ≡ used_word u
 unfolding used_word
 word_nobody u e = rw e refl
 
-pub word-peer : (u : UsedAuthor) (a : ℕ) → u ≡ Peer a → a + 1 ≡ used_word u
+pub word-peer : (u : (rust.Option ℕ)) (a : ℕ) → u ≡ Some a → a + 1 ≡ used_word u
 unfolding used_word
 word-peer u a e = rw e refl
 
-pub used_small : (u : UsedAuthor) (a : ℕ) → used_ok (used_of u) ≡ true → u ≡ Peer a → a < 32
+pub used_small : (u : (rust.Option ℕ)) (a : ℕ) → used_ok (used_of u) ≡ true → u ≡ Some a → a < 32
 unfolding used_ok used_of
 used_small u a h e = ltb-true a 32 (rw e at h)
 

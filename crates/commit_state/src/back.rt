@@ -9,13 +9,6 @@ use crate::state::{Memory, RoundRecord, State, empty_memory};
 use models::parts::{OptionRound, Round};
 use models::tables::{PEER_SLOTS, ROUND_SLOTS, ROUNDS_MAX};
 
-// The author of a used mark.
-#[derive(Clone, Copy)]
-pub enum UsedAuthor {
-    Nobody,
-    Peer(u32),
-}
-
 // What a start takes.
 #[derive(Clone, Copy)]
 pub struct StartArgs {
@@ -25,26 +18,27 @@ pub struct StartArgs {
     pub bottom: Round,
     pub peers: u32,
     pub after_gap: bool,
-    pub used: UsedAuthor,
+    // The author of a used mark, if there is one.
+    pub used: Option<u32>,
 }
 
-pub fn used_ok(used: UsedAuthor) -> bool
+pub fn used_ok(used: Option<u32>) -> bool
     ensures { result ≡ used_ok (used_of used) }
 {
     match used {
-        UsedAuthor::Nobody => true,
-        UsedAuthor::Peer(author) => author < PEER_SLOTS,
+        None => true,
+        Some(author) => author < PEER_SLOTS,
     }
 }
 
 // An author's number in a round record.
-fn used_word(used: UsedAuthor) -> u32
+fn used_word(used: Option<u32>) -> u32
     requires { used_ok (used_of used) ≡ true }
     ensures { result ≡ used_word used }
 {
     match used {
-        UsedAuthor::Nobody => 0,
-        UsedAuthor::Peer(author) => author + 1,
+        None => 0,
+        Some(author) => author + 1,
     }
 }
 

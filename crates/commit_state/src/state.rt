@@ -39,7 +39,8 @@ pub struct Memory {
 }
 
 // phase: 1 started, 2 reset, other numbers neither. count: the number of used places. Rounds from bottom to top are retained, round r in
-// record r modulo 512. emit_first_after_gap: 0 disarmed, 1 before the gap question, else after it.
+// record r modulo 512. emit_first_after_gap: 0 disarmed, 1 before the gap question, else after it. Numbers stand for yes, no and none in
+// these structs, since they cross to C by value.
 #[repr(C)]
 #[derive(Clone, Copy)]
 pub struct State {
@@ -61,9 +62,9 @@ pub struct State {
 
 impl State {
     // The height of a point certified directly.
-    pub fn top_height(self) -> Height
-        requires { self.commit_history_rounds ≤ 255 }
-        ensures { result.0 ≡ self.commit_history_rounds + 1 }
+    pub fn top_height(&self) -> Height
+        requires { self.now.commit_history_rounds ≤ 255 }
+        ensures { result.0 ≡ self.now.commit_history_rounds + 1 }
     {
         Height((self.commit_history_rounds + 1) as u16)
     }
@@ -125,47 +126,31 @@ pub fn range_holds(genesis: Round, bottom: Round, top: Round) -> bool
 }
 
 // Whether the used marks of the n rounds from bottom on are authors.
-pub fn used_hold(s: State, n: u32) -> bool
-    requires { s.bottom.0 + n < 4294967296 }
-    ensures { result ≡ used_hold s.rounds s.bottom.0 n }
+pub fn used_hold(s: &State, n: u32) -> bool
+    requires { s.now.bottom.0 + n < 4294967296 }
+    ensures { result ≡ used_hold s.now.rounds s.now.bottom.0 n }
 {
-    let bottom = s.bottom;
-    let b = bottom.0;
-    let mut k: u32 = 0;
-    while k < n {
-        let i = ((b + k) % ROUND_SLOTS) as usize;
-        let x = s.rounds[i];
-        if PEER_SLOTS < x.used_anchor_proof {
-            return false;
-        }
-        k += 1;
-    }
-    true
+    let bottom = s.bottom.0;
+    (bottom..bottom + n).all(|round| s.rounds[(round % ROUND_SLOTS) as usize].used_anchor_proof
+        <= PEER_SLOTS)
 }
 
-// Whether the digest of an entry is below that of another one. The words are put into arrays of their own, which can be lent.
+// Whether the digest of an entry is below that of another one.
 fn is_lower(a: Entry, b: Entry) -> bool
     ensures { result ≡ is_lower a b }
 {
-    let x = a.digest;
-    let y = b.digest;
-    let d = x.0;
-    let e = y.0;
-    let p = [d[0], d[1], d[2], d[3]];
-    let q = [e[0], e[1], e[2], e[3]];
-    dag_round_keys::digest_less(&p, 0, &q, 0)
+    dag_round_keys::digest_less(&a.digest.0, 0, &b.digest.0, 0)
 }
 
 // Whether the inspector's memory is one that an inspection leaves: at most 128 entries, their authors peers, their digests rising.
-pub fn memory_holds(m: Memory) -> bool
-    ensures { result ≡ memory_holds m }
+pub fn memory_holds(m: &Memory) -> bool
+    ensures { result ≡ memory_holds m.now }
 {
     let n = m.count;
     if ROUND_POINTS_MAX < n {
         return false;
     }
-    let mut i: usize = 0;
-    while i < n {
+    for i in 0..n {
         let x = m.entries[i];
         if PEER_LAST < x.author {
             return false;
@@ -176,7 +161,6 @@ pub fn memory_holds(m: Memory) -> bool
                 return false;
             }
         }
-        i += 1;
     }
     true
 }

@@ -3,14 +3,14 @@ use Rattle.std.specs.Prelude.{ℕ, ◌/◌, ◌%◌, ◌≡◌, refl, not, cond,
 use Rattle.std.proofs.Math.Option.{Option, none, some}
 use Rattle.std.proofs.Common.{ne_eqb}
 use Rattle.models.specs.declared.info.PointInfo.{PointInfo}
-use Rattle.commit_state.specs.declared.back.UsedAuthor.{UsedAuthor}
-use Rattle.commit_state.specs.declared.back.UsedAuthor.TheVariants.{Nobody, Peer}
 use Rattle.commit_state.specs.declared.back.StartArgs.{StartArgs}
 use Rattle.committer_reply.specs.declared.args.Start.{Start}
 use Rattle.committer_reply.specs.declared.args.Resolution.{Resolution}
+use Rattle.std.specs.Prelude as rust
+use Rattle.std.specs.Prelude.{None, Some}
 
-unfoldable pub used_in : ℕ → UsedAuthor
-used_in n = cond (eqb n 4294967295) Nobody (Peer n)
+unfoldable pub used_in : ℕ → (rust.Option ℕ)
+used_in n = cond (eqb n 4294967295) None (Some n)
 
 unfoldable pub start_args_in : Start → StartArgs
 start_args_in w = record {
@@ -43,11 +43,11 @@ info_in t = record {
 
 -- ---- laws
 
-pub used_none : (n : ℕ) → n ≡ 4294967295 → Nobody ≡ used_in n
+pub used_none : (n : ℕ) → n ≡ 4294967295 → None ≡ used_in n
 unfolding used_in
 used_none n e = rw e refl
 
-pub used_some : (n : ℕ) → (n ≡ 4294967295 → ⊥) → Peer n ≡ used_in n
+pub used_some : (n : ℕ) → (n ≡ 4294967295 → ⊥) → Some n ≡ used_in n
 unfolding used_in
 used_some n d = rw (ne_eqb _ _ d) refl
 
@@ -59,7 +59,7 @@ pub since-some : (h r : ℕ) → (h ≡ 0 → ⊥) → some r ≡ since_in h r
 unfolding since_in
 since-some h r d = rw (ne_eqb _ _ d) refl
 
-pub begins_is : (w : Start) (u : UsedAuthor) → u ≡ used_in w.used → ◌≡◌ {A = StartArgs} (record {
+pub begins_is : (w : Start) (u : (rust.Option ℕ)) → u ≡ used_in w.used → ◌≡◌ {A = StartArgs} (record {
   genesis = record { 0 = w.genesis };
   commit_history_rounds = w.commit_history_rounds;
   deduplicate_rounds = w.deduplicate_rounds;

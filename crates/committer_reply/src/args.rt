@@ -4,10 +4,9 @@ ghost use Rattle.std.specs.Prelude.{◌≡◌};
 ghost use Rattle.stats.specs.Ranges.{since_of};
 ghost use Rattle.committer_reply.specs.Args.{start_args_in, used_in, since_in, info_in};
 
-use commit_state::back::{StartArgs, UsedAuthor};
+use commit_state::back::StartArgs;
 use models::info::PointInfo;
 use models::parts::{PointId, Round};
-use stats::ranges::Since;
 
 // What a start takes. after_gap: 0 for no. used: the author of the bottom's used mark, 4294967295 for none.
 #[repr(C)]
@@ -22,13 +21,13 @@ pub struct Start {
     pub used: u32,
 }
 
-fn used_in(used: u32) -> UsedAuthor
+fn used_in(used: u32) -> Option<u32>
     ensures { result ≡ used_in used }
 {
     if used == 4294967295 {
-        return UsedAuthor::Nobody;
+        return None;
     }
-    UsedAuthor::Peer(used)
+    Some(used)
 }
 
 // What a start takes, as its call takes it.
@@ -48,13 +47,13 @@ pub fn start_args_in(with: Start) -> StartArgs
 }
 
 // `stats_since` of a remove, as its call takes it. has_since: 0 for none.
-pub fn since_in(has_since: u32, since: u32) -> Since
+pub fn since_in(has_since: u32, since: u32) -> Option<Round>
     ensures { since_of result ≡ since_in has_since since }
 {
     if has_since == 0 {
-        return Since::Nothing;
+        return None;
     }
-    Since::From(Round(since))
+    Some(Round(since))
 }
 
 // What a resolution gives. marks: bit 0 proof, 1 trigger, 2 cause; further bits aren't read. includes, witness: their numbers of links.

@@ -32,11 +32,9 @@ pub fn copy_words(t: &mut [u64], at: usize, words: &[u64], from: usize, n: usize
     requires { (at + n ≤ length t.old) × (from + n ≤ length words.now) }
     ensures { t.new ≡ copied t.old at words.now from n }
 {
-    let mut i: usize = 0;
-    while i < n {
-        let word = words[from + i];
-        t[at + i] = word;
-        i += 1;
+    // No `copy_from_slice`: it is C's `memmove`, and the library needs `memcpy` and `memset` of a host and no more.
+    for i in 0..n {
+        t[at + i] = words[from + i];
     }
 }
 
@@ -45,11 +43,7 @@ pub fn zero_words(t: &mut [u64], from: usize, n: usize)
     requires { from + n ≤ length t.old }
     ensures { t.new ≡ zeroed t.old from n }
 {
-    let mut i: usize = 0;
-    while i < n {
-        t[from + i] = 0;
-        i += 1;
-    }
+    t[from..from + n].fill(0);
 }
 
 // Zeroes the places in the first k cells of the order, in a table of `width` words a place.
@@ -58,11 +52,8 @@ pub fn zero_places(t: &mut [u64], width: usize, order: &[u64], k: usize)
     requires inside { Inside order.now k (length order.now) }
     ensures { t.new ≡ emptied t.old width order.now k }
 {
-    let mut i: usize = 0;
-    while i < k {
-        let q = place(order, k, i);
-        zero_words(t, q * width, width);
-        i += 1;
+    for &cell in &order[..k] {
+        zero_words(t, laws::slot(cell) * width, width);
     }
 }
 
@@ -71,16 +62,7 @@ pub fn same_digest(a: &[u64], i: usize, b: &[u64], j: usize) -> bool
     requires { (i + 4 ≤ length a.now) × (j + 4 ≤ length b.now) }
     ensures { result ≡ eqb (digest_at a.now i) (digest_at b.now j) }
 {
-    let mut k: usize = 0;
-    while k < DIGEST_WORDS {
-        let x = a[i + k];
-        let y = b[j + k];
-        if x != y {
-            return false;
-        }
-        k += 1;
-    }
-    true
+    a[i..i + DIGEST_WORDS] == b[j..j + DIGEST_WORDS]
 }
 
 // The id with this round and author and the digest in the four words from `at` on, as the words of a place.
@@ -100,16 +82,7 @@ pub fn digest_less(a: &[u64], i: usize, b: &[u64], j: usize) -> bool
     requires { (i + 4 ≤ length a.now) × (j + 4 ≤ length b.now) }
     ensures { result ≡ ltb (digest_at a.now i) (digest_at b.now j) }
 {
-    let mut k: usize = 0;
-    while k < DIGEST_WORDS {
-        let x = a[i + k];
-        let y = b[j + k];
-        if x != y {
-            return x < y;
-        }
-        k += 1;
-    }
-    false
+    &a[i..i + DIGEST_WORDS] < &b[j..j + DIGEST_WORDS]
 }
 
 // Whether place i of table a comes before place j of table b.
@@ -121,10 +94,7 @@ pub fn less(a: &[u64], i: usize, b: &[u64], j: usize) -> bool
     let y = j * KEY_WORDS;
     let u = a[x + KEY_ROUND];
     let v = b[y + KEY_ROUND];
-    if u != v {
-        return u < v;
-    }
-    digest_less(a, x + KEY_DIGEST, b, y + KEY_DIGEST)
+    u < v || (u == v && digest_less(a, x + KEY_DIGEST, b, y + KEY_DIGEST))
 }
 
 // Whether the first n cells hold places below `places`.
@@ -132,15 +102,7 @@ pub fn inside(order: &[u64], n: usize, places: usize) -> bool
     requires { n ≤ length order.now }
     ensures { result ≡ is_inside order.now n places }
 {
-    let mut p: usize = 0;
-    while p < n {
-        let s = laws::slot(order[p]);
-        if places <= s {
-            return false;
-        }
-        p += 1;
-    }
-    true
+    order[..n].iter().all(|&cell| laws::slot(cell) < places)
 }
 
 // Whether the keys rise strictly over the first n cells.
@@ -148,16 +110,7 @@ pub fn sorted(keys: &[u64], order: &[u64], n: usize) -> bool
     requires { (n ≤ length order.now) × Inside order.now n (length keys.now / 8) }
     ensures { result ≡ is_sorted keys.now order.now n }
 {
-    let mut k = 1;
-    while k < n {
-        let i = laws::slot(order[k - 1]);
-        let j = laws::slot(order[k]);
-        if !less(keys, i, keys, j) {
-            return false;
-        }
-        k += 1;
-    }
-    true
+    (1..n).all(|k| less(keys, laws::slot(order[k - 1]), keys, laws::slot(order[k])))
 }
 
 // The first position whose key does not come before the id's, or n: where the id stands or is to be put.
@@ -168,6 +121,7 @@ pub fn seek(keys: &[u64], order: &[u64], n: usize, id: &[u64]) -> usize
 {
     let mut lo = 0;
     let mut hi = n;
+    // `partition_point` may ask its closure of any word, and `less` asks for a place of the table.
     while lo < hi {
         let mid = lo + (hi - lo) / 2;
         let i = laws::slot(order[mid]);

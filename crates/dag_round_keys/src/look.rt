@@ -6,7 +6,7 @@ ghost use Rattle.models.specs.Tables.{Inside};
 ghost use Rattle.dag_round_keys.specs.Sorted.{Sorted};
 ghost use Rattle.dag_round_keys.specs.Look.{look_place, look_for};
 
-use models::dag_point::{DagPoint, Resolved};
+use models::dag_point::DagPoint;
 
 // A resolved point's place and case, the place of a point that is named only, or neither.
 #[derive(Clone, Copy)]
@@ -23,8 +23,8 @@ pub fn look_place(keys: &[u64], i: usize) -> Look
 {
     let case = models::place::case_at(keys, i);
     match case {
-        Resolved::Case(p) => Look::Resolved(i, p),
-        Resolved::Nothing => Look::Named(i),
+        Some(p) => Look::Resolved(i, p),
+        None => Look::Named(i),
     }
 }
 

@@ -21,11 +21,9 @@ pub fn insert(order: &mut [u64], n: usize, at: usize, place: u64)
     requires { (at ≤ n) × (n < length order.old) }
     ensures { order.new ≡ inserted order.old n at place }
 {
-    let mut k = n;
-    while at < k {
-        let moved = order[k - 1];
-        order[k] = moved;
-        k -= 1;
+    // No `copy_within`, here and in `drain`: it is C's `memmove`, and the library needs `memcpy` and `memset` of a host and no more.
+    for k in (at..n).rev() {
+        order[k + 1] = order[k];
     }
     order[at] = place;
 }
@@ -35,11 +33,8 @@ pub fn drain(order: &mut [u64], n: usize, k: usize)
     requires { (k ≤ n) × (n ≤ length order.old) }
     ensures { order.new ≡ drained order.old n k }
 {
-    let mut i: usize = 0;
-    while i < n - k {
-        let moved = order[k + i];
-        order[i] = moved;
-        i += 1;
+    for i in 0..n - k {
+        order[i] = order[k + i];
     }
 }
 
@@ -49,20 +44,13 @@ pub fn free_place(order: &[u64], n: usize, places: usize) -> usize
     ensures { result ≡ first_free order.now n places }
 {
     let mut seen = [false; PLACES_MAX];
-    let mut p: usize = 0;
-    while p < n {
-        let s = laws::slot(order[p]);
-        seen[s] = true;
-        p += 1;
+    for &cell in &order[..n] {
+        seen[laws::slot(cell)] = true;
     }
-    let mut s: usize = 0;
-    while s < places {
-        if !seen[s] {
-            return s;
-        }
-        s += 1;
-    }
-    s
+    seen[..places]
+        .iter()
+        .position(|&used| !used)
+        .unwrap_or(places)
 }
 
 // Writes the id into place s, and puts s in where the id's key belongs.
@@ -83,10 +71,7 @@ pub fn mark(marks: &mut [bool], order: &[u64], n: usize)
     requires inside { Inside order.now n (length order.now) }
     ensures { marks.new ≡ marked marks.old order.now n }
 {
-    let mut i: usize = 0;
-    while i < n {
-        let p = dag_round_keys::place(order, n, i);
-        marks[p] = true;
-        i += 1;
+    for &cell in &order[..n] {
+        marks[laws::slot(cell)] = true;
     }
 }

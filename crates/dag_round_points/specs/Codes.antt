@@ -10,11 +10,9 @@ use Rattle.spec.specs.Calls.{name_at, into_free}
 use Rattle.models.specs.Refusal.{numbered, unless_failed, refusal_of, not_failed, numbered-passed}
 use Rattle.models.specs.declared.refusal.Refusal.{Refusal}
 use Rattle.models.specs.declared.refusal.Refusal.TheVariants.{Number}
-use Rattle.models.specs.declared.refusal.Check.{Check}
-use Rattle.models.specs.declared.refusal.Check.TheVariants.{Passed, Failed}
 use Rattle.dag_round_points.specs.Model.{or_else, else_next}
-use Rattle.dag_round_points.specs.declared.Found.{Found}
-use Rattle.dag_round_points.specs.declared.Found.TheVariants.{At, Refused}
+use Rattle.std.specs.Prelude.{Result, Err, Ok}
+use Rattle.models.specs.Refusal.{Check, no_refusal}
 
 -- refused with the number, unless it is 0
 unfoldable pub unless : {A : Type 0} → ℕ → Out A → Out A
@@ -47,7 +45,7 @@ unless-numbered zero o = refl
 unless-numbered (suc n) o = refl
 
 -- the first of two tests refuses
-pub numbered-first : (n m : ℕ) (r : Refusal) → numbered n ≡ Failed r → numbered (or_else n m) ≡ Failed r
+pub numbered-first : (n m : ℕ) (r : Refusal) → numbered n ≡ Err r → numbered (or_else n m) ≡ Err r
 unfolding numbered or_else
 numbered-first zero m r e = absurd (not_failed r (sym e))
 numbered-first (suc n) m r e = e
@@ -58,25 +56,29 @@ numbered_next n m z = ap numbered (sym (else_next n m z))
 
 -- ---- the number and a place
 
+-- where a point stands, or is to stand, or why it is refused
+abbrev pub Found : Type 0
+Found = Result ℕ Refusal
+
 -- the place, unless the number refuses
 unfoldable pub found : ℕ → ℕ → Found
-found zero q = At q
-found (suc n) q = Refused (Number (suc n))
+found zero q = Ok q
+found (suc n) q = Err (Number (suc n))
 
 -- a place is no refusal
-apart : (x : ℕ) (r : Refusal) → At x ≡ Refused r → ⊥
+apart : (x : ℕ) (r : Refusal) → Ok x ≡ Err r → ⊥
 apart x r e = let z : ◌≡◌ {A = ℕ} 0 1 = cc in omega arith
 
-pub found_at : (c q x : ℕ) → found c q ≡ At x → (c ≡ 0) × (x ≡ q)
+pub found_at : (c q x : ℕ) → found c q ≡ Ok x → (c ≡ 0) × (x ≡ q)
 unfolding found
 found_at zero q x e = (refl, cc)
 found_at (suc c) q x e = absurd (apart x (Number (suc c)) (sym e))
 
-pub found_passed : (c q x : ℕ) → found c q ≡ At x → numbered c ≡ Passed
+pub found_passed : (c q x : ℕ) → found c q ≡ Ok x → numbered c ≡ no_refusal
 unfolding numbered
 found_passed c q x e = ap numbered (found_at c q x e).0
 
-pub found-refused : (c q : ℕ) (r : Refusal) → found c q ≡ Refused r → numbered c ≡ Failed r
+pub found-refused : (c q : ℕ) (r : Refusal) → found c q ≡ Err r → numbered c ≡ Err r
 unfolding found numbered
 found-refused zero q r e = absurd (apart q r e)
 found-refused (suc c) q r e = cc
@@ -84,20 +86,20 @@ found-refused (suc c) q r e = cc
 -- ---- one law for each way out of the code
 
 -- a number refuses
-pub found_number : (n c q : ℕ) → suc n ≡ c → Refused (Number (suc n)) ≡ found c q
+pub found_number : (n c q : ℕ) → suc n ≡ c → Err (Number (suc n)) ≡ found c q
 unfolding found
 found_number n c q e = ap (λ (x : ℕ). found x q) e
 
 module _ (k : Check) (n m q : ℕ) (e : k ≡ numbered n) where
   -- the first of two tests refuses
-  pub found_first : (r : Refusal) → k ≡ Failed r → Refused r ≡ found (or_else n m) q
+  pub found_first : (r : Refusal) → k ≡ Err r → Err r ≡ found (or_else n m) q
   unfolding numbered or_else found
   found_first r d = by n (sym e ∙ d)
     where
-      by : (x : ℕ) → numbered x ≡ Failed r → Refused r ≡ found (or_else x m) q
+      by : (x : ℕ) → numbered x ≡ Err r → Err r ≡ found (or_else x m) q
       by zero h = absurd (not_failed r (sym h))
       by (suc x) h = cc
 
   -- the second decides
-  pub found-next : k ≡ Passed → (x : Found) → x ≡ found m q → x ≡ found (or_else n m) q
+  pub found-next : k ≡ no_refusal → (x : Found) → x ≡ found m q → x ≡ found (or_else n m) q
   found-next d x f = f ∙ ap (λ (y : ℕ). found y q) (else_next n m (numbered-passed n (sym e ∙ d)))

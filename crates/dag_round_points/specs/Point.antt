@@ -5,12 +5,8 @@ use Rattle.laws.specs.Test.{le_or, and_l, cond_no}
 use Rattle.laws.specs.Scan.{first_hit}
 use Rattle.models.specs.Tables.{round_at, status_at, place_at, Inside, Used, inside_keys}
 use Rattle.models.specs.DagPoint.{case_of}
-use Rattle.models.specs.declared.dag_point.Resolved as status
-use Rattle.models.specs.declared.dag_point.Resolved.TheVariants as case
 use Rattle.models.specs.Refusal.{numbered}
 use Rattle.models.specs.declared.refusal.Refusal.TheVariants.{Number}
-use Rattle.models.specs.declared.refusal.Check.{Check}
-use Rattle.models.specs.declared.refusal.Check.TheVariants.{Passed}
 use Rattle.models.specs.declared.parts.PointId.{PointId}
 use Rattle.dag_round_keys.specs.Key.{key, same-eq}
 use Rattle.dag_round_keys.specs.Sorted.{Sorted, point_at}
@@ -20,8 +16,10 @@ use Rattle.dag_round_keys.specs.declared.look.Look.TheVariants.{Resolved, Named,
 use Rattle.commit_state.specs.declared.state.State.{State}
 use Rattle.dag_round_points.specs.Model.{Ready, id_words, or_else, id_code, words_eight, else_zero}
 use Rattle.dag_round_points.specs.Codes.{found, found-next}
-use Rattle.dag_round_points.specs.declared.Found.{Found}
-use Rattle.dag_round_points.specs.declared.Found.TheVariants.{At, Refused}
+use Rattle.std.specs.Prelude.{Err, None, Ok, Option, Some}
+use Rattle.models.specs.Refusal.{Check, no_refusal}
+use Rattle.dag_round_points.specs.Codes.{Found}
+use Rattle.models.specs.declared.dag_point.DagPoint.{DagPoint}
 
 -- the position of the point with the words w of an id, or n
 abbrev pub position_for : List ℕ → List ℕ → ℕ → List ℕ → ℕ
@@ -60,15 +58,15 @@ found-round ks os n w l = ap (λ (k : List ℕ). get_or k 0 0) (same-eq _ _ (and
 
 -- the place that a look-up finds, or 9: "id not named"
 unfoldable pub found_by : Look → Found
-found_by (Resolved q p) = At q
-found_by (Named q) = At q
-found_by Never = Refused (Number 9)
+found_by (Resolved q p) = Ok q
+found_by (Named q) = Ok q
+found_by Never = Err (Number 9)
 
 -- a place in use is found
-found-place : (c : status.Resolved) (q : ℕ) → found_by (look_as c q) ≡ At q
+found-place : (c : Option DagPoint) (q : ℕ) → found_by (look_as c q) ≡ Ok q
 unfolding found_by look_as
-found-place (case.Case p) q = refl
-found-place case.Nothing q = refl
+found-place (Some p) q = refl
+found-place None q = refl
 
 -- what the code returns for an answer m to the words x of the id
 pub found_by_lem : (ks os : List ℕ) (n : ℕ) (i : PointId) (x : List ℕ) → x ≡ id_words i → (l m : Look) → l ≡ look_for ks os n x → l ≡ m → found_by m ≡ found_by (look_for ks os n (id_words i))
@@ -83,7 +81,7 @@ look-found s ks os i = by (ltb (position_for ks os s.count (id_words i)) s.count
     by false q = refl
 
 -- and after the tests of the id
-pub point-found : (s : State) (ks os : List ℕ) (i : PointId) (k : Check) → k ≡ numbered (id_code s i) → k ≡ Passed → (r : Found) → r ≡ found_by (look_for ks os s.count (id_words i)) → r ≡ found (point_code s ks os i) (place_for s ks os i)
+pub point-found : (s : State) (ks os : List ℕ) (i : PointId) (k : Check) → k ≡ numbered (id_code s i) → k ≡ no_refusal → (r : Found) → r ≡ found_by (look_for ks os s.count (id_words i)) → r ≡ found (point_code s ks os i) (place_for s ks os i)
 unfolding point_code
 point-found s ks os i k d p r f = found-next k (id_code s i) (missing ks os s.count (id_words i)) (place_for s ks os i) d p r (f ∙ look-found s ks os i)
 

@@ -18,16 +18,9 @@ use dag_round_keys::look::{Look, look_up};
 use models::parts::{PointId, Round};
 use models::place::round_word;
 use models::refusal::{
-    Check, DIGEST_NAMED, FIFTH_DIGEST, FULL, NOT_A_PEER, NOT_NAMED, NOT_RETAINED, Refusal,
+    DIGEST_NAMED, FIFTH_DIGEST, FULL, NOT_A_PEER, NOT_NAMED, NOT_RETAINED, Refusal,
 };
 use models::tables::{KEY_WORDS, PEER_SLOTS, ROUND_SLOTS, VERSIONS_MAX};
-
-// Where a point stands, or is to stand, or why it is refused.
-#[derive(Clone, Copy)]
-pub enum Found {
-    At(usize),
-    Refused(Refusal),
-}
 
 // The id as the words of a place that is named.
 pub fn id_words(id: PointId) -> [u64; KEY_WORDS]
@@ -60,21 +53,15 @@ fn versions(keys: &[u64], order: &[u64], n: usize, round: Round, author: u32) ->
     requires inside { Inside order.now n (length order.now) }
     ensures { result ≡ length (those n (version_at keys.now order.now round.0 author)) }
 {
-    let mut count: usize = 0;
-    let mut i: usize = 0;
-    while i < n {
-        let q = dag_round_keys::place(order, n, i);
-        if is_version(keys, q, round, author) {
-            count += 1;
-        }
-        i += 1;
-    }
-    count
+    order[..n]
+        .iter()
+        .filter(|&&cell| is_version(keys, laws::slot(cell), round, author))
+        .count()
 }
 
 // Whether an id is refused.
-pub fn check_id(s: State, id: PointId) -> Check
-    ensures { result ≡ numbered (id_code s id) }
+pub fn check_id(s: &State, id: PointId) -> Result<(), Refusal>
+    ensures { result ≡ numbered (id_code s.now id) }
 {
     let round = id.round;
     let bottom = s.bottom;
@@ -82,23 +69,23 @@ pub fn check_id(s: State, id: PointId) -> Check
     let r = round.0;
     let author = id.author;
     if PEER_SLOTS <= author {
-        return Check::Failed(Refusal::Number(NOT_A_PEER));
+        return Err(Refusal::Number(NOT_A_PEER));
     }
     if r < bottom.0 {
-        return Check::Failed(Refusal::Number(NOT_RETAINED));
+        return Err(Refusal::Number(NOT_RETAINED));
     }
     if top.0 < r {
-        return Check::Failed(Refusal::Number(NOT_RETAINED));
+        return Err(Refusal::Number(NOT_RETAINED));
     }
     let x = s.rounds[(r % ROUND_SLOTS) as usize];
     if !models::parts::has_peer(x.peers, author) {
-        return Check::Failed(Refusal::Number(NOT_A_PEER));
+        return Err(Refusal::Number(NOT_A_PEER));
     }
-    Check::Passed
+    Ok(())
 }
 
 // The lowest free place, unless naming is refused after the id's own tests: the digest is there, a fifth of its author, or no place is free.
-fn check_table(keys: &[u64], order: &[u64], n: usize, id: PointId) -> Found
+fn check_table(keys: &[u64], order: &[u64], n: usize, id: PointId) -> Result<usize, Refusal>
     requires keys_len { (length keys.now ≡ length order.now * 8) × (length order.now ≤ 4096) × (n ≤ length order.now) }
     requires inside { Inside order.now n (length order.now) }
     requires sorted { Sorted keys.now order.now n }
@@ -107,29 +94,26 @@ fn check_table(keys: &[u64], order: &[u64], n: usize, id: PointId) -> Found
     let words = id_words(id);
     let at = dag_round_keys::find(keys, order, n, &words);
     if at < n {
-        return Found::Refused(Refusal::Number(DIGEST_NAMED));
+        return Err(Refusal::Number(DIGEST_NAMED));
     }
     let count = versions(keys, order, n, id.round, id.author);
     if VERSIONS_MAX <= count {
-        return Found::Refused(Refusal::Number(FIFTH_DIGEST));
+        return Err(Refusal::Number(FIFTH_DIGEST));
     }
     let places = order.len();
     let q = dag_round_order::free_place(order, n, places);
     if q < places {
-        return Found::At(q);
+        return Ok(q);
     }
-    Found::Refused(Refusal::Number(FULL))
+    Err(Refusal::Number(FULL))
 }
 
 // The place that a point is to take, unless naming is refused: the tests of the id, then those of the tables.
-pub fn check_name(s: State, keys: &[u64], order: &[u64], id: PointId) -> Found
-    requires { Ready s keys.now order.now }
-    ensures { result ≡ found (name_code s keys.now order.now id) (taken s order.now) }
+pub fn check_name(s: &State, keys: &[u64], order: &[u64], id: PointId) -> Result<usize, Refusal>
+    requires { Ready s.now keys.now order.now }
+    ensures { result ≡ found (name_code s.now keys.now order.now id) (taken s.now order.now) }
 {
-    let check = check_id(s, id);
-    if let Check::Failed(why) = check {
-        return Found::Refused(why);
-    }
+    check_id(s, id)?;
     check_table(keys, order, s.count, id)
 }
 
@@ -167,7 +151,7 @@ pub fn name_point(
 }
 
 // The place of the point with this id, resolved or not.
-fn find_id(keys: &[u64], order: &[u64], n: usize, id: PointId) -> Found
+fn find_id(keys: &[u64], order: &[u64], n: usize, id: PointId) -> Result<usize, Refusal>
     requires keys_len { (length keys.now ≡ length order.now * 8) × (n ≤ length order.now) × Inside order.now n (length order.now) }
     requires sorted { Sorted keys.now order.now n }
     ensures { result ≡ found_by (look_for keys.now order.now n (id_words id)) }
@@ -175,20 +159,17 @@ fn find_id(keys: &[u64], order: &[u64], n: usize, id: PointId) -> Found
     let words = id_words(id);
     let look = look_up(keys, order, n, &words);
     match look {
-        Look::Resolved(q, _) => Found::At(q),
-        Look::Named(q) => Found::At(q),
-        Look::Never => Found::Refused(Refusal::Number(NOT_NAMED)),
+        Look::Resolved(q, _) => Ok(q),
+        Look::Named(q) => Ok(q),
+        Look::Never => Err(Refusal::Number(NOT_NAMED)),
     }
 }
 
 // The place of the point that an id names, unless a call that names it is refused: the tests of the id, then whether it is named.
-pub fn find_named(s: State, keys: &[u64], order: &[u64], id: PointId) -> Found
-    requires { Ready s keys.now order.now }
-    ensures { result ≡ found (point_code s keys.now order.now id) (place_for s keys.now order.now id) }
+pub fn find_named(s: &State, keys: &[u64], order: &[u64], id: PointId) -> Result<usize, Refusal>
+    requires { Ready s.now keys.now order.now }
+    ensures { result ≡ found (point_code s.now keys.now order.now id) (place_for s.now keys.now order.now id) }
 {
-    let check = check_id(s, id);
-    match check {
-        Check::Failed(why) => Found::Refused(why),
-        Check::Passed => find_id(keys, order, s.count, id),
-    }
+    check_id(s, id)?;
+    find_id(keys, order, s.count, id)
 }

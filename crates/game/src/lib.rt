@@ -8,12 +8,12 @@ ghost use Rattle.spec.specs.Game.{game_ok, forced_by, within as inside};
 
 use laws::{and, or};
 use models::parts::{has_peer, peer_count};
-use models::tables::{PEER_LAST, PEER_SLOTS};
+use models::tables::PEER_LAST;
 
 // Coming rounds at most.
 const DISTANCE_MAX: u32 = 255;
 
-// Keepers can force the reach, spoilers can prevent it, or the game is refused.
+// Keepers can force the reach, spoilers can prevent it, or the game is refused. No Result: `Answers` speaks of each case.
 #[derive(Clone, Copy)]
 pub enum Reach {
     Forced,
@@ -49,13 +49,7 @@ impl Reach {
 fn within(a: u32, b: u32) -> bool
     ensures { result ≡ inside a b }
 {
-    let mut ok = true;
-    let mut k: u32 = 0;
-    while k < PEER_SLOTS {
-        ok = and(or(!has_peer(a, k), has_peer(b, k)), ok);
-        k += 1;
-    }
-    ok
+    a & b == a
 }
 
 // Whether the game is not refused.

@@ -15,9 +15,8 @@ use Rattle.models.specs.DagPoint.{case_of, has_info}
 use Rattle.models.specs.Parts.{id_of}
 use Rattle.models.specs.Info.{refs_of, info_of}
 use Rattle.models.specs.declared.dag_point.DagPoint.{DagPoint}
-use Rattle.models.specs.declared.dag_point.Resolved.{Resolved}
-use Rattle.models.specs.declared.dag_point.Resolved.TheVariants.{Case, Nothing}
 use Rattle.models.specs.declared.info.PointInfo.{PointInfo}
+use Rattle.std.specs.Prelude.{None, Option, Some}
 
 -- ---- rising peers
 
@@ -125,9 +124,9 @@ unfoldable pub status_ok : ℕ → Bool → Bool
 status_ok x bare = (ltb 0 x && leb x 5) && only (leb 4 x) bare
 
 -- the same of the case that it stands for
-unfoldable pub case_ok : Resolved → Bool → Bool
-case_ok (Case p) bare = has_info p || bare
-case_ok Nothing bare = false
+unfoldable pub case_ok : Option DagPoint → Bool → Bool
+case_ok (Some p) bare = has_info p || bare
+case_ok None bare = false
 
 -- no status is above 5
 above_five : (x : ℕ) (bare : Bool) → 5 < x → status_ok x bare ≡ false
@@ -146,17 +145,17 @@ case_is (suc (suc (suc (suc (suc zero))))) bare = refl
 case_is (suc (suc (suc (suc (suc (suc x)))))) bare = sym (above_five (suc (suc (suc (suc (suc (suc x)))))) bare (omega arith))
 
 -- a case with links and evidence
-pub status_full : (x : ℕ) (bare b : Bool) (c : Resolved) (p : DagPoint) → c ≡ case_of x → c ≡ Case p → b ≡ has_info p → b ≡ true → true ≡ status_ok x bare
+pub status_full : (x : ℕ) (bare b : Bool) (c : Option DagPoint) (p : DagPoint) → c ≡ case_of x → c ≡ Some p → b ≡ has_info p → b ≡ true → true ≡ status_ok x bare
 unfolding case_ok
 status_full x bare b c p e f g t = sym (sym (case_is x bare) ∙ (ap (λ z. case_ok z bare) (sym e ∙ f) ∙ ap (λ z. z || bare) (sym g ∙ t)))
 
 -- a case without
-pub status_bare : (x : ℕ) (bare b : Bool) (c : Resolved) (p : DagPoint) → c ≡ case_of x → c ≡ Case p → b ≡ has_info p → b ≡ false → bare ≡ status_ok x bare
+pub status_bare : (x : ℕ) (bare b : Bool) (c : Option DagPoint) (p : DagPoint) → c ≡ case_of x → c ≡ Some p → b ≡ has_info p → b ≡ false → bare ≡ status_ok x bare
 unfolding case_ok
 status_bare x bare b c p e f g t = sym (sym (case_is x bare) ∙ (ap (λ z. case_ok z bare) (sym e ∙ f) ∙ ap (λ z. z || bare) (sym g ∙ t)))
 
 -- none of the five
-pub status-none : (x : ℕ) (bare : Bool) (c : Resolved) → c ≡ case_of x → c ≡ Nothing → false ≡ status_ok x bare
+pub status-none : (x : ℕ) (bare : Bool) (c : Option DagPoint) → c ≡ case_of x → c ≡ None → false ≡ status_ok x bare
 unfolding case_ok
 status-none x bare c e f = sym (sym (case_is x bare) ∙ ap (λ z. case_ok z bare) (sym e ∙ f))
 

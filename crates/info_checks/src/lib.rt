@@ -10,7 +10,6 @@ ghost use Rattle.info_checks.specs.Form.{peer_at, status_ok, Shaped};
 ghost use Rattle.info_checks.specs.Dangling.{found_at, is_dangling, any_dangling};
 
 use commit_state::state::State;
-use models::dag_point::Resolved;
 use models::info::PointInfo;
 use models::parts::Round;
 use models::tables::{PEER_SLOTS, PEER_SLOTS_WORD, PEERS_MAX, REF_DIGEST, REF_PEER, REF_WORDS};
@@ -29,8 +28,7 @@ fn rises(refs: &[u64], from: usize, m: usize) -> bool
     ensures { result ≡ peers_ascend (refs_of refs.now from m) }
 {
     let mut low: u64 = 0;
-    let mut i: usize = 0;
-    while i < m {
+    for i in 0..m {
         let next = peer(refs, from + i);
         if next < low {
             return false;
@@ -39,7 +37,6 @@ fn rises(refs: &[u64], from: usize, m: usize) -> bool
             return false;
         }
         low = next + 1;
-        i += 1;
     }
     true
 }
@@ -65,13 +62,13 @@ fn status_ok(status: u32, bare: bool) -> bool
 {
     let case = models::dag_point::of_status(status as u64);
     match case {
-        Resolved::Case(p) => {
+        Some(p) => {
             if p.has_info() {
                 return true;
             }
             bare
         }
-        Resolved::Nothing => false,
+        None => false,
     }
 }
 
@@ -130,16 +127,16 @@ pub fn well_formed(round: Round, info: PointInfo, refs: &[u64]) -> bool
 
 // The position of the point that link j leads to in this round, or the number of used places.
 pub fn find_link(
-    s: State,
+    s: &State,
     keys: &[u64],
     order: &[u64],
     refs: &[u64],
     j: usize,
     round: Round,
 ) -> usize
-    requires ready { Ready s keys.now order.now }
+    requires ready { Ready s.now keys.now order.now }
     requires j_in_bounds { j * 5 + 5 ≤ length refs.now }
-    ensures { result ≡ found_at s keys.now order.now refs.now j round.0 }
+    ensures { result ≡ found_at s.now keys.now order.now refs.now j round.0 }
 {
     let words = dag_round_keys::id_at(
         refs,
@@ -152,7 +149,7 @@ pub fn find_link(
 
 // Whether link j of a point of this round leads d rounds down into a retained round, and to no named point.
 fn is_dangling(
-    s: State,
+    s: &State,
     keys: &[u64],
     order: &[u64],
     refs: &[u64],
@@ -160,9 +157,9 @@ fn is_dangling(
     d: u32,
     round: Round,
 ) -> bool
-    requires ready { Ready s keys.now order.now }
+    requires ready { Ready s.now keys.now order.now }
     requires j_in_bounds { (j * 5 + 5 ≤ length refs.now) × (d ≤ 2) }
-    ensures { result ≡ is_dangling s keys.now order.now refs.now d round.0 j }
+    ensures { result ≡ is_dangling s.now keys.now order.now refs.now d round.0 j }
 {
     let bottom = s.bottom;
     if (round.0 as u64) < bottom.0 as u64 + d as u64 {
@@ -175,7 +172,7 @@ fn is_dangling(
 // Whether one of the m links from `from` on, which lead d rounds down from this round, leads into a retained round and to no named point
 // (12).
 pub fn any_dangling(
-    s: State,
+    s: &State,
     keys: &[u64],
     order: &[u64],
     refs: &[u64],
@@ -184,16 +181,9 @@ pub fn any_dangling(
     d: u32,
     round: Round,
 ) -> bool
-    requires ready { Ready s keys.now order.now }
+    requires ready { Ready s.now keys.now order.now }
     requires m_in_bounds { ((from + m) * 5 ≤ length refs.now) × (d ≤ 2) }
-    ensures { result ≡ any_dangling s keys.now order.now refs.now d round.0 from m }
+    ensures { result ≡ any_dangling s.now keys.now order.now refs.now d round.0 from m }
 {
-    let mut i: usize = 0;
-    while i < m {
-        if is_dangling(s, keys, order, refs, from + i, d, round) {
-            return true;
-        }
-        i += 1;
-    }
-    false
+    (from..from + m).any(|j| is_dangling(s, keys, order, refs, j, d, round))
 }

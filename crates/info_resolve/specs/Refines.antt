@@ -14,8 +14,6 @@ use Rattle.models.specs.Digest.{Fit}
 use Rattle.models.specs.Tables.{round_at, status_at, Used}
 use Rattle.models.specs.DagPoint.{case_of, has_info}
 use Rattle.models.specs.declared.dag_point.DagPoint.{DagPoint}
-use Rattle.models.specs.declared.dag_point.Resolved.{Resolved}
-use Rattle.models.specs.declared.dag_point.Resolved.TheVariants.{Case, Nothing}
 use Rattle.models.specs.declared.info.PointInfo.{PointInfo}
 use Rattle.tables_heights.specs.View.{height_at, top_at}
 use Rattle.models.specs.Live.{reach, reach_live, reach-unresolved}
@@ -38,6 +36,7 @@ use Rattle.info_store.specs.Model.{stored_keys, stored_links}
 use Rattle.info_store.specs.Flags.{cert_of, deps_set, cert_height, cert_flags}
 use Rattle.info_store.specs.Ranged.{Ranged}
 use Rattle.info_store.specs.Refines.{status-own, keys_other, keys_kept, links-other, cert_own, cert_other, regular_resolution, shape_resolution, resolution_pt}
+use Rattle.std.specs.Prelude.{None, Option, Some}
 
 -- the links of a place depend on its words alone
 leads-same : (b : ℕ) (ks ks2 ls ls2 os : List ℕ) (n p x : ℕ) → Same ks 8 p ks2 → Same ls 328 p ls2 → Leads b ks ls os n p x → Leads b ks2 ls2 os n p x
@@ -64,9 +63,9 @@ Resolvable s ks ls cs os q info rs =
     × Placed s.bottom.0 (stored_keys ks q info) (stored_links s ks ls os q info rs) (deps_set cs q info.status) q)
 
 -- a point of this case has links
-unfoldable has_links : Resolved → Bool
-has_links (Case p) = has_info p
-has_links Nothing = false
+unfoldable has_links : Option DagPoint → Bool
+has_links (Some p) = has_info p
+has_links None = false
 
 -- by its status, which is above 0
 links_is : (n : ℕ) → 0 < n → has_links (case_of n) ≡ leb n 3
@@ -80,27 +79,27 @@ links_is (suc (suc (suc (suc (suc zero))))) l = refl
 links_is (suc (suc (suc (suc (suc (suc n)))))) l = sym (lt-leb (suc (suc (suc (suc (suc (suc n)))))) 3 (omega arith))
 
 -- the code's steps: r is the case of the status
-module _ (cs : List ℕ) (q status : ℕ) (r : Resolved) (some : 0 < status) (is : r ≡ case_of status) where
-  few : (x : Resolved) → r ≡ x → leb status 3 ≡ has_links x
+module _ (cs : List ℕ) (q status : ℕ) (r : Option DagPoint) (some : 0 < status) (is : r ≡ case_of status) where
+  few : (x : Option DagPoint) → r ≡ x → leb status 3 ≡ has_links x
   few x e = sym (links_is status some) ∙ ap has_links (sym is ∙ e)
 
   kept : leb status 3 ≡ false → cs ≡ deps_set cs q status
   unfolding deps_set cert_of
   kept l = rw l (sym (set-get_or cs q 0))
 
-  pub deps_nothing : r ≡ Nothing → cs ≡ deps_set cs q status
+  pub deps_nothing : r ≡ None → cs ≡ deps_set cs q status
   unfolding has_links
-  deps_nothing e = kept (few Nothing e)
+  deps_nothing e = kept (few None e)
 
   -- a case without links, and one with them
-  module _ (p : DagPoint) (i : Bool) (e : r ≡ Case p) (f : i ≡ has_info p) where
+  module _ (p : DagPoint) (i : Bool) (e : r ≡ Some p) (f : i ≡ has_info p) where
     pub deps_none : i ≡ false → cs ≡ deps_set cs q status
     unfolding has_links
-    deps_none h = kept (few (Case p) e ∙ (sym f ∙ h))
+    deps_none h = kept (few (Some p) e ∙ (sym f ∙ h))
 
     pub deps_set_lem : (w : ℕ) → i ≡ true → w ≡ word (linked (flags_of (get_or cs q 0))) (height_of (get_or cs q 0)) → set cs q w ≡ deps_set cs q status
     unfolding deps_set cert_of has_links
-    deps_set_lem w h g = rw (few (Case p) e ∙ (sym f ∙ h), g) refl
+    deps_set_lem w h g = rw (few (Some p) e ∙ (sym f ∙ h), g) refl
 
 -- what the queue of heights needs, of the tables by then
 pub placed_by : (s : State) (ks ls cs os : List ℕ) (q : ℕ) (info : PointInfo) (rs us zs ws : List ℕ) → us ≡ stored_keys ks q info → zs ≡ stored_links s ks ls os q info rs → ws ≡ deps_set cs q info.status

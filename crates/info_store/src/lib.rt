@@ -53,7 +53,7 @@ fn head_words(info: PointInfo) -> [u64; HEAD_WORDS]
 
 // The target word of link j, which leads d rounds down from this round: 1 + the place of its point, or 1 where the round is not retained.
 fn target_word(
-    s: State,
+    s: &State,
     keys: &[u64],
     order: &[u64],
     refs: &[u64],
@@ -61,9 +61,9 @@ fn target_word(
     d: u32,
     round: Round,
 ) -> u64
-    requires ready { Ready s keys.now order.now }
+    requires ready { Ready s.now keys.now order.now }
     requires j_in_bounds { (j * 5 + 5 ≤ length refs.now) × (d ≤ 2) }
-    ensures { result ≡ target_of s keys.now order.now refs.now d round.0 j }
+    ensures { result ≡ target_of s.now keys.now order.now refs.now d round.0 j }
 {
     let bottom = s.bottom;
     if (round.0 as u64) < bottom.0 as u64 + d as u64 {
@@ -95,7 +95,7 @@ fn put_link(links: &mut [u64], q: usize, k: usize, target: u64, refs: &[u64], j:
 
 // Writes the m lent links from `from` on, which lead d rounds down from this round, into place q.
 fn put_links(
-    s: State,
+    s: &State,
     keys: &[u64],
     links: &mut [u64],
     order: &[u64],
@@ -106,26 +106,23 @@ fn put_links(
     d: u32,
     round: Round,
 )
-    requires ready { Ready s keys.now order.now }
+    requires ready { Ready s.now keys.now order.now }
     requires q_in_bounds { (q * 328 + 328 ≤ length links.old) × ((from + m) * 5 ≤ length refs.now) × (1 ≤ d) × (d ≤ 2) }
     requires peers { Peers refs.now from m }
-    ensures { links.new ≡ links_put (target_of s keys.now order.now refs.now d round.0)
+    ensures { links.new ≡ links_put (target_of s.now keys.now order.now refs.now d round.0)
         links.old q ((d - 1) * 32) refs.now from m }
 {
     let base = ((d - 1) * PEER_SLOTS) as usize;
-    let mut i: usize = 0;
-    while i < m {
-        let j = from + i;
+    for j in from..from + m {
         let peer = laws::slot(info_checks::peer(refs, j));
         let to = target_word(s, keys, order, refs, j, d, round);
         put_link(links, q, base + peer, to, refs, j);
-        i += 1;
     }
 }
 
 // Writes evidence, top proof, payload and links into place q, of a point of this round, after zeros: a free place may hold anything.
 fn store_links(
-    s: State,
+    s: &State,
     keys: &[u64],
     links: &mut [u64],
     order: &[u64],
@@ -134,10 +131,10 @@ fn store_links(
     info: PointInfo,
     refs: &[u64],
 )
-    requires ready { Ready s keys.now order.now }
+    requires ready { Ready s.now keys.now order.now }
     requires links_len { (length links.old ≡ length order.now * 328) × (q < length order.now) }
     requires q_value { (round_at keys.now q ≡ round.0) × (well_formed round.0 (info_of info refs.now) ≡ true) }
-    ensures { links.new ≡ stored_links s keys.now links.old order.now q info refs.now }
+    ensures { links.new ≡ stored_links s.now keys.now links.old order.now q info refs.now }
 {
     let i = info.includes;
     let w = info.witness;
@@ -161,7 +158,7 @@ fn store_status(keys: &mut [u64], q: usize, info: PointInfo)
 // Writes what a resolution gives into place q, of a point of this round: status and marks, evidence, top proof,
 // payload, and for each link its digest and the place it leads to.
 pub fn store_info(
-    s: State,
+    s: &State,
     keys: &mut [u64],
     links: &mut [u64],
     order: &[u64],
@@ -170,11 +167,11 @@ pub fn store_info(
     info: PointInfo,
     refs: &[u64],
 )
-    requires ready { Ready s keys.old order.now }
+    requires ready { Ready s.now keys.old order.now }
     requires links_len { (length links.old ≡ length order.now * 328) × (q < length order.now) }
     requires q_value { (round_at keys.old q ≡ round.0) × (well_formed round.0 (info_of info refs.now) ≡ true) }
     ensures keys { keys.new ≡ stored_keys keys.old q info }
-    ensures links { links.new ≡ stored_links s keys.old links.old order.now q info refs.now }
+    ensures links { links.new ≡ stored_links s.now keys.old links.old order.now q info refs.now }
 {
     store_links(s, keys, links, order, q, round, info, refs);
     store_status(keys, q, info);

@@ -12,9 +12,9 @@ ghost use Rattle.inspector_answer.specs.Peers.{peer_of, peers_bytes, with_stats}
 
 use answer_bytes::emit_number;
 use models::parts::peer_count;
-use models::tables::{PEER_SLOTS, PEERS_MAX};
+use models::tables::PEERS_MAX;
+use stats::MempoolPeerCounters;
 use stats::peer_stats::MempoolPeerStats;
-use stats::{COUNTERS, MempoolPeerCounters};
 
 // The nine counters, two bytes each.
 fn emit_counters(b: &mut [u8], at: usize, write: bool, counters: MempoolPeerCounters) -> usize
@@ -23,10 +23,8 @@ fn emit_counters(b: &mut [u8], at: usize, write: bool, counters: MempoolPeerCoun
 {
     let counts = counters.counts();
     let mut out = at;
-    let mut k: usize = 0;
-    while k < COUNTERS {
-        out = emit_number(b, out, write, 2, counts[k] as u64);
-        k += 1;
+    for &count in &counts {
+        out = emit_number(b, out, write, 2, count as u64);
     }
     out
 }
@@ -55,13 +53,10 @@ fn peers_with_stats(stats: [MempoolPeerStats; PEERS_MAX]) -> u32
     ensures { result ≡ with_stats stats }
 {
     let mut peers: u32 = 0;
-    let mut k: usize = 0;
-    while k < PEERS_MAX {
-        let peer = stats[k];
+    for (k, peer) in stats.iter().enumerate() {
         if peer.filled_rounds != 0 {
             peers = peers | (1 << k as u32);
         }
-        k += 1;
     }
     peers
 }
@@ -78,10 +73,8 @@ pub fn emit_stats(
 {
     let peers = peer_count(peers_with_stats(stats));
     let mut out = emit_number(b, at, write, 1, peers as u64);
-    let mut k: u32 = 0;
-    while k < PEER_SLOTS {
-        out = emit_peer(b, out, write, k, stats[k as usize]);
-        k += 1;
+    for (k, &peer) in stats.iter().enumerate() {
+        out = emit_peer(b, out, write, k as u32, peer);
     }
     out
 }

@@ -11,24 +11,21 @@ use stats::MempoolPeerCounters;
 pub fn is_leader(used: u32, author: u32) -> bool
     ensures { result ≡ leads used author }
 {
-    if used == 0 {
-        return false;
-    }
-    used - 1 == author
+    used.checked_sub(1) == Some(author)
 }
 
 // 1 if it holds, else 0.
 fn one_if(holds: bool) -> u16
     ensures { result ≡ one holds }
 {
-    if holds { 1 } else { 0 }
+    u16::from(holds)
 }
 
 // All but one.
 fn less_one(x: u16) -> u16
     ensures { result ≡ x - 1 }
 {
-    if x == 0 { 0 } else { x - 1 }
+    x.saturating_sub(1)
 }
 
 // The counters of a peer with these counts, and with this number of references skipped, which the Rust adds apart from the others.

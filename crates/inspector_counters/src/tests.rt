@@ -4,7 +4,6 @@ ghost use Rattle.std.specs.Prelude.{◌≡◌, ◌+◌, ◌*◌, ◌<◌, ◌≤
 ghost use Rattle.inspector_counters.specs.Tests.{nothing, version_at, inspect_case, inspected, chosen, passes};
 
 use dag_round_keys::look::{Look, look_place};
-use laws::and;
 use models::cert::Cert;
 use models::dag_point::DagPoint;
 use models::place::marks_at;
@@ -107,13 +106,13 @@ impl Version {
             }
             DagPoint::TransInvalid => {
                 r.found = true;
-                r.trans_invalid = and(!self.proved, self.cause);
+                r.trans_invalid = !self.proved && self.cause;
                 r.trusted = self.certified;
                 r
             }
             DagPoint::Invalid => {
                 r.found = true;
-                r.invalid = and(!self.certified, self.cause);
+                r.invalid = !self.certified && self.cause;
                 r.trusted = self.certified;
                 r
             }

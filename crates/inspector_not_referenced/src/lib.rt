@@ -45,16 +45,12 @@ fn owed_later(rows: &[u64], n: usize, k: usize) -> u64
     requires { (k < n) × (n * 11 ≤ length rows.now) }
     ensures { result ≡ owed_later rows.now n k }
 {
-    let from = k + 1;
     let mut peers: u64 = 0;
-    let mut i: usize = 0;
-    while i < n - from {
-        let j = from + i;
+    for j in k + 1..n {
         if same_previous(rows, k, j) {
             let more = rows[j * ROW_WORDS + ROW_PEERS];
             peers = peers | more;
         }
-        i += 1;
     }
     peers
 }
@@ -95,10 +91,8 @@ fn row_authors(rows: &[u64], n: usize) -> u64
     ensures { result ≡ row_authors rows.now n }
 {
     let mut peers: u64 = 0;
-    let mut k: usize = 0;
-    while k < n {
+    for k in 0..n {
         peers = with_peer(peers, rows[k * ROW_WORDS + ROW_AUTHOR]);
-        k += 1;
     }
     peers
 }
@@ -110,11 +104,8 @@ fn place_authors(keys: &[u64], places: &[usize], m: usize) -> u64
     ensures { result ≡ place_authors keys.now places.now m }
 {
     let mut peers: u64 = 0;
-    let mut j: usize = 0;
-    while j < m {
-        let q = places[j];
+    for &q in &places[..m] {
         peers = with_peer(peers, models::place::author(keys, q));
-        j += 1;
     }
     peers
 }
@@ -153,12 +144,10 @@ pub fn not_referenced(
     let both = active(keys, places, m, adjacent, rows, n);
     let mut sets: [u64; ROUND_POINTS_MAX] = [0; ROUND_POINTS_MAX];
     let mut signers: u64 = 0;
-    let mut k: usize = 0;
-    while k < n {
+    for k in 0..n {
         let owed = exclude_witness(keys, links, places, m, live, rows, n, k) & both;
         sets[k] = owed;
         signers = signers | owed;
-        k += 1;
     }
     NotReferenced { sets, signers }
 }
@@ -168,14 +157,6 @@ pub fn references_skipped(sets: &[u64], n: usize, a: u32) -> u16
     requires { (n ≤ length sets.now) × (n ≤ 128) × (a < 32) }
     ensures { result ≡ skipped_by sets.now n a }
 {
-    let mut found: u16 = 0;
-    let mut k: usize = 0;
-    while k < n {
-        let set = sets[k];
-        if (set >> a) % 2 == 1 {
-            found += 1;
-        }
-        k += 1;
-    }
-    found
+    let found = sets[..n].iter().filter(|&&set| (set >> a) % 2 == 1).count();
+    found as u16
 }

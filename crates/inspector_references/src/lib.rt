@@ -14,6 +14,7 @@ ghost use Rattle.inspector_references.specs.Trusted.{Listed, trusted_in};
 ghost use Rattle.inspector_references.specs.Refs.{refers_by, refers_at};
 ghost use Rattle.inspector_references.specs.Referring.{RowIn, refers_row, referring_by};
 
+use commit_state::dag::Dag;
 use inspector_counters::tests::version_at;
 use models::place::target;
 use models::tables::{
@@ -29,29 +30,21 @@ pub struct Trusted {
 }
 
 // Those of the points at positions `low` to `high`.
-pub fn trusted_places(
-    keys: &[u64],
-    certs: &[u64],
-    order: &[u64],
-    low: usize,
-    high: usize,
-) -> Trusted
-    requires range { Range certs.now order.now low high }
-    requires keys_len { (length keys.now ≡ length order.now * 8) × (high - low ≤ 128) }
-    ensures { Listed result.places result.count (trusted_in keys.now certs.now order.now low (high - low)) }
+pub fn trusted_places(dag: &Dag, low: usize, high: usize) -> Trusted
+    requires range { Range dag.now.certs.now dag.now.order.now low high }
+    requires keys_len { (length dag.now.keys.now ≡ length dag.now.order.now * 8) × (high - low ≤ 128) }
+    ensures { Listed result.places result.count (trusted_in dag.now.keys.now dag.now.certs.now dag.now.order.now low (high - low)) }
 {
     let mut places: [usize; ROUND_POINTS_MAX] = [0; ROUND_POINTS_MAX];
     let mut count: usize = 0;
-    let mut k: usize = 0;
-    while k < high - low {
-        let q = dag_round_keys::place(order, high, low + k);
-        let version = version_at(keys, certs, q);
+    for &point in &dag.order[low..high] {
+        let q = laws::slot(point);
+        let version = version_at(dag.keys, dag.certs, q);
         let passed = version.inspect();
         if passed.trusted {
             places[count] = q;
             count += 1;
         }
-        k += 1;
     }
     Trusted { count, places }
 }
@@ -77,14 +70,7 @@ fn refers(links: &[u64], q: usize, first: usize, words: &[u64], p: usize) -> boo
     requires { (q * 328 + 328 ≤ length links.now) × (first ≤ 32) × (p + 4 ≤ length words.now) }
     ensures { result ≡ refers_at links.now q first (digest_at words.now p) }
 {
-    let mut k: usize = 0;
-    while k < PEERS_MAX {
-        if refers_by(links, q, first + k, words, p) {
-            return true;
-        }
-        k += 1;
-    }
-    false
+    (0..PEERS_MAX).any(|k| refers_by(links, q, first + k, words, p))
 }
 
 // Whether the point at place q refers to the previous point of row k, by those links. If they lead into a retained round (`live`), then by
@@ -132,13 +118,10 @@ pub fn referring(
     ensures { result ≡ referring_by keys.now links.now places.now n first live rows.now k }
 {
     let mut peers: u64 = 0;
-    let mut j: usize = 0;
-    while j < n {
-        let q = places[j];
+    for &q in &places[..n] {
         if refers_row(links, q, first, live, rows, k) {
             peers = with_peer(peers, models::place::author(keys, q));
         }
-        j += 1;
     }
     peers
 }

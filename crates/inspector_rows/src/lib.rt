@@ -114,11 +114,9 @@ pub fn must_reference(
     requires by_index { (j : ℕ) → j < n → Placed keys.now links.now (get_or places.now j 0) }
     ensures { rows.new ≡ must_rows keys.now links.now places.now n live rows.old }
 {
-    let mut k: usize = 0;
-    while k < n {
-        let row = must_row(keys, links, places, n, live, places[k]);
+    for (k, &q) in places[..n].iter().enumerate() {
+        let row = must_row(keys, links, places, n, live, q);
         dag_round_keys::copy_words(rows, k * ROW_WORDS, &row, 0, ROW_WORDS);
-        k += 1;
     }
 }
 
@@ -144,12 +142,9 @@ pub fn rows_of(memory: Memory, rows: &mut [u64])
     requires { (memory.count ≤ 128) × (memory.count * 11 ≤ length rows.old) }
     ensures { rows.new ≡ memory_rows memory rows.old }
 {
-    let n = memory.count;
-    let mut k: usize = 0;
-    while k < n {
-        let row = entry_row(memory.entries[k]);
+    for (k, &entry) in memory.entries[..memory.count].iter().enumerate() {
+        let row = entry_row(entry);
         dag_round_keys::copy_words(rows, k * ROW_WORDS, &row, 0, ROW_WORDS);
-        k += 1;
     }
 }
 
@@ -157,7 +152,7 @@ pub fn rows_of(memory: Memory, rows: &mut [u64])
 fn one_if(holds: bool) -> u32
     ensures { result ≡ one_if holds }
 {
-    if holds { 1 } else { 0 }
+    u32::from(holds)
 }
 
 // Row k as an entry.
@@ -188,10 +183,8 @@ pub fn memory_of(last: Round, n: usize, rows: &[u64]) -> Memory
 {
     let empty = empty_memory();
     let mut entries = empty.entries;
-    let mut k: usize = 0;
-    while k < n {
+    for k in 0..n {
         entries[k] = entry_of(rows, k);
-        k += 1;
     }
     Memory {
         last,

@@ -63,8 +63,7 @@ fn emit_rows(
     ensures { Told id_bytes write b.old e (row_ids rows.now sets.now n round.0 signer proofs) result b.new }
 {
     let mut out = e;
-    let mut k: usize = 0;
-    while k < n {
+    for k in 0..n {
         if row_passes(rows, sets, k, signer, proofs) {
             let at = emit_row_id(b, out.at, write, rows, k, round);
             out = Emitted {
@@ -72,7 +71,6 @@ fn emit_rows(
                 count: out.count + 1,
             };
         }
-        k += 1;
     }
     out
 }
@@ -92,9 +90,7 @@ fn emit_points(
     ensures { Told id_bytes write b.old e (point_ids keys.now places.now m signer) result b.new }
 {
     let mut out = e;
-    let mut k: usize = 0;
-    while k < m {
-        let q = places[k];
+    for &q in &places[..m] {
         let author = models::place::author(keys, q);
         if author == signer as u64 {
             let at = emit_id(b, out.at, write, keys, q);
@@ -103,7 +99,6 @@ fn emit_points(
                 count: out.count + 1,
             };
         }
-        k += 1;
     }
     out
 }
@@ -211,12 +206,10 @@ pub fn emit_signers(
         (signers_of keys.now places.now m rows.now sets.now n last.0 signers 32) result b.new }
 {
     let mut out = e;
-    let mut signer: u32 = 0;
-    while signer < PEER_SLOTS {
+    for signer in 0..PEER_SLOTS {
         if (signers >> signer) % 2 == 1 {
             out = emit_signer(keys, places, m, rows, sets, n, last, b, out, write, signer);
         }
-        signer += 1;
     }
     out
 }

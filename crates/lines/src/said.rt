@@ -40,16 +40,14 @@ fn put_anchors(b: &[u8], n: u32, out: &mut [u8], at: usize) -> usize
     requires { (at + length b.now ≤ length out.old) × Holds n b.now }
     ensures { Put out.old at (text (lines_at n b.now 0)) result out.new × (result ≤ at + length b.now) }
 {
-    let mut left = n;
     let mut from: usize = 0;
     let mut next = at;
-    while 0 < left {
+    for _ in 0..n {
         let round = number_of(b, from);
         let author = byte_of(b, from + ID_AUTHOR);
         let points = number_of(b, from + RECORD_POINTS);
         next = put_anchor(out, next, round, author, points);
         from = from + RECORD_BYTES + points as usize * POINT_BYTES;
-        left -= 1;
     }
     next
 }

@@ -3,21 +3,20 @@ use Rattle.std.specs.Prelude.{ℕ, zero, suc, ◌≡◌, refl, Bool, true, false
 use Rattle.std.proofs.Common.{sym, ap, ◌∙◌, arith, eqb-true, ne_eqb}
 use Rattle.models.specs.declared.dag_point.DagPoint.{DagPoint}
 use Rattle.models.specs.declared.dag_point.DagPoint.TheVariants.{Valid, TransInvalid, Invalid, IllFormed, NotFound}
-use Rattle.models.specs.declared.dag_point.Resolved.{Resolved}
-use Rattle.models.specs.declared.dag_point.Resolved.TheVariants.{Case, Nothing}
+use Rattle.std.specs.Prelude.{None, Option, Some}
 
 -- 01, dag_point.rs: "a status (1 valid, 2 trans-invalid, 3 invalid, 4 ill-formed, 5 not found)"
-unfoldable pub case_of : ℕ → Resolved
-case_of zero = Nothing
-case_of (suc zero) = Case Valid
-case_of (suc (suc zero)) = Case TransInvalid
-case_of (suc (suc (suc zero))) = Case Invalid
-case_of (suc (suc (suc (suc zero)))) = Case IllFormed
-case_of (suc (suc (suc (suc (suc zero))))) = Case NotFound
-case_of (suc (suc (suc (suc (suc (suc n)))))) = Nothing
+unfoldable pub case_of : ℕ → Option DagPoint
+case_of zero = None
+case_of (suc zero) = Some Valid
+case_of (suc (suc zero)) = Some TransInvalid
+case_of (suc (suc (suc zero))) = Some Invalid
+case_of (suc (suc (suc (suc zero)))) = Some IllFormed
+case_of (suc (suc (suc (suc (suc zero))))) = Some NotFound
+case_of (suc (suc (suc (suc (suc (suc n)))))) = None
 
 -- no other number is a status
-pub case_none : (n : ℕ) → (n ≡ 1 → ⊥) → (n ≡ 2 → ⊥) → (n ≡ 3 → ⊥) → (n ≡ 4 → ⊥) → (n ≡ 5 → ⊥) → Nothing ≡ case_of n
+pub case_none : (n : ℕ) → (n ≡ 1 → ⊥) → (n ≡ 2 → ⊥) → (n ≡ 3 → ⊥) → (n ≡ 4 → ⊥) → (n ≡ 5 → ⊥) → None ≡ case_of n
 unfolding case_of
 case_none zero a b c d e = refl
 case_none (suc zero) a b c d e = absurd (a refl)
@@ -52,13 +51,13 @@ info_is Invalid = refl
 info_is IllFormed = refl
 info_is NotFound = refl
 
-unfoldable pub is_valid : Resolved → Bool
-is_valid Nothing = false
-is_valid (Case Valid) = true
-is_valid (Case TransInvalid) = false
-is_valid (Case Invalid) = false
-is_valid (Case IllFormed) = false
-is_valid (Case NotFound) = false
+unfoldable pub is_valid : Option DagPoint → Bool
+is_valid None = false
+is_valid (Some Valid) = true
+is_valid (Some TransInvalid) = false
+is_valid (Some Invalid) = false
+is_valid (Some IllFormed) = false
+is_valid (Some NotFound) = false
 
 -- a point is valid exactly if its status is 1
 pub valid_is : (n : ℕ) → is_valid (case_of n) ≡ eqb n 1
@@ -71,6 +70,6 @@ valid_is (suc (suc (suc (suc zero)))) = refl
 valid_is (suc (suc (suc (suc (suc zero))))) = refl
 valid_is (suc (suc (suc (suc (suc (suc n)))))) = sym (ne_eqb (suc (suc (suc (suc (suc (suc n)))))) 1 (λ e. omega arith))
 
-pub valid-status : (n : ℕ) → case_of n ≡ Case Valid → n ≡ 1
+pub valid-status : (n : ℕ) → case_of n ≡ Some Valid → n ≡ 1
 unfolding is_valid
 valid-status n e = eqb-true n 1 (sym (valid_is n) ∙ ap is_valid e)

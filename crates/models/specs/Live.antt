@@ -9,17 +9,16 @@ use Rattle.laws.specs.Test.{le_or}
 use Rattle.models.specs.Tables.{round_at, status_at, dist}
 use Rattle.models.specs.DagPoint.{case_of}
 use Rattle.models.specs.declared.dag_point.DagPoint.{DagPoint}
-use Rattle.models.specs.declared.dag_point.Resolved.{Resolved}
-use Rattle.models.specs.declared.dag_point.Resolved.TheVariants.{Case, Nothing}
+use Rattle.std.specs.Prelude.{None, Option, Some}
 
 -- how many links of a point of round r lead into rounds from b up: none, includes only, or all
 unfoldable pub span : ℕ → ℕ → ℕ
 span b r = cond (ltb r (b + 1)) 0 (cond (ltb r (b + 2)) 32 64)
 
 -- the same by the case of the point: none, unless it is resolved
-unfoldable pub reach_of : Resolved → ℕ → ℕ → ℕ
-reach_of Nothing b r = 0
-reach_of (Case p) b r = span b r
+unfoldable pub reach_of : Option DagPoint → ℕ → ℕ → ℕ
+reach_of None b r = 0
+reach_of (Some p) b r = span b r
 
 -- and for a place
 unfoldable pub reach : ℕ → List ℕ → ℕ → ℕ
@@ -89,11 +88,11 @@ module _ (b : ℕ) (ks : List ℕ) (q : ℕ) where
   )
 
   -- the code's steps: c is the case of the point
-  module _ (c : Resolved) (is : c ≡ case_of (status_at ks q)) where
-    pub reach-nothing : c ≡ Nothing → 0 ≡ reach b ks q
+  module _ (c : Option DagPoint) (is : c ≡ case_of (status_at ks q)) where
+    pub reach-nothing : c ≡ None → 0 ≡ reach b ks q
     unfolding reach reach_of
-    reach-nothing e = ap (λ (x : Resolved). reach_of x b (round_at ks q)) (sym e ∙ is)
+    reach-nothing e = ap (λ (x : Option DagPoint). reach_of x b (round_at ks q)) (sym e ∙ is)
 
-    pub reach-span : (p : DagPoint) (r m : ℕ) → c ≡ Case p → r ≡ round_at ks q → span b r ≡ m → m ≡ reach b ks q
+    pub reach-span : (p : DagPoint) (r m : ℕ) → c ≡ Some p → r ≡ round_at ks q → span b r ≡ m → m ≡ reach b ks q
     unfolding reach reach_of
-    reach-span p r m e g f = sym f ∙ (ap (span b) g ∙ ap (λ (x : Resolved). reach_of x b (round_at ks q)) (sym e ∙ is))
+    reach-span p r m e g f = sym f ∙ (ap (span b) g ∙ ap (λ (x : Option DagPoint). reach_of x b (round_at ks q)) (sym e ∙ is))

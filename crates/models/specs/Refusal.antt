@@ -9,8 +9,7 @@ use Rattle.models.specs.Cert.{height_of}
 use Rattle.models.specs.declared.parts.Round.{Round}
 use Rattle.models.specs.declared.refusal.Refusal.{Refusal}
 use Rattle.models.specs.declared.refusal.Refusal.TheVariants.{Number, Conflict}
-use Rattle.models.specs.declared.refusal.Check.{Check}
-use Rattle.models.specs.declared.refusal.Check.TheVariants.{Passed, Failed}
+use Rattle.std.specs.Prelude.{Result, Err, Ok, is_err}
 
 -- 01's number of a refusal, with the round of a history conflict
 unfoldable pub refusal_of : Refusal → chain.Refusal
@@ -42,45 +41,48 @@ module _ (w : Refusal) where
   unfolding number_of refusal_of
   number_13 r e = rw e refl
 
+-- a test: no_refusal, or what it refuses with
+abbrev pub Check : Type 0
+Check = Result (Unit {0}) Refusal
+
+abbrev pub no_refusal : Check
+no_refusal = Ok tt
+
 -- what follows a test
 unfoldable pub unless_failed : {A : Type 0} → Check → Out A → Out A
-unless_failed Passed o = o
-unless_failed (Failed r) o = bad (refusal_of r)
+unless_failed (Ok tt) o = o
+unless_failed (Err r) o = bad (refusal_of r)
 
 -- refused with a number
 abbrev pub failed : ℕ → Check
-failed n = Failed (Number n)
+failed n = Err (Number n)
 
 -- the test that refuses with this number, 0 for none
 unfoldable pub numbered : ℕ → Check
-numbered zero = Passed
+numbered zero = no_refusal
 numbered (suc n) = failed (suc n)
 
--- a test that passed didn't fail
-pub not_failed : (r : Refusal) → Failed r ≡ Passed → ⊥
+-- a test that no_refusal didn't fail
+pub not_failed : (r : Refusal) → Err r ≡ no_refusal → ⊥
 not_failed r e = let z : ◌≡◌ {A = ℕ} 0 1 = cc in omega arith
 
-pub numbered-passed : (n : ℕ) → numbered n ≡ Passed → n ≡ 0
+pub numbered-passed : (n : ℕ) → numbered n ≡ no_refusal → n ≡ 0
 unfolding numbered
 numbered-passed zero e = refl
 numbered-passed (suc n) e = absurd (not_failed _ e)
 
 -- a history conflict in the round r
 abbrev pub conflicting : ℕ → Check
-conflicting r = Failed (Conflict (record { 0 = r }))
+conflicting r = Err (Conflict (record { 0 = r }))
 
 -- a refusal, or what follows
 unfoldable pub or_next : Check → Check → Check
-or_next Passed d = d
-or_next (Failed r) d = Failed r
+or_next (Ok tt) d = d
+or_next (Err r) d = Err r
 
 -- what a point that isn't valid is refused with, by its certificate word and its round
 unfoldable pub not_valid : ℕ → ℕ → Check
 not_valid c r = cond (ltb 0 (height_of c)) (conflicting r) (failed 15)
-
-unfoldable pub is_failed : Check → Bool
-is_failed Passed = false
-is_failed (Failed r) = true
 
 -- 01's verdict on a resolved point that isn't usable
 pub checked_as_not : (c r q : ℕ) → checked_as false (ltb 0 (height_of c)) r q ≡ unless_failed (not_valid c r) (good q)
@@ -92,15 +94,14 @@ checked_as_not c r q = by (ltb 0 (height_of c))
     by false = refl
 
 -- by cases on a test, with the equation in hand
-pub by_check : {A : Type 0} (c : Check) → (c ≡ Passed → A) → ((r : Refusal) → c ≡ Failed r → A) → A
-by_check Passed f g = f refl
-by_check (Failed r) f g = g r refl
+pub by_check : {A : Type 0} (c : Check) → (c ≡ no_refusal → A) → ((r : Refusal) → c ≡ Err r → A) → A
+by_check (Ok tt) f g = f refl
+by_check (Err r) f g = g r refl
 
 -- a test that refuses has a refusal
-pub failed_elim : (c : Check) → is_failed c ≡ true → (r : Refusal) × (c ≡ Failed r)
-unfolding is_failed
-failed_elim Passed h = absurd (true≢false (sym h))
-failed_elim (Failed r) h = (r, refl)
+pub failed_elim : (c : Check) → is_err c ≡ true → (r : Refusal) × (c ≡ Err r)
+failed_elim (Ok tt) h = absurd (true≢false (sym h))
+failed_elim (Err r) h = (r, refl)
 
 -- ---- one law for each way out of the code
 

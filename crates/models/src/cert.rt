@@ -51,7 +51,7 @@ impl Cert {
     pub fn has_proof(self) -> bool
         ensures { result ≡ has_proof self.0 }
     {
-        laws::and(0 < self.0 % HEIGHTS, self.0 / TOP % 2 == 1)
+        self.is_certified() && self.is_top()
     }
 
     // The word with another height.

@@ -14,22 +14,16 @@ pub enum DagPoint {
 }
 
 // The case that a status number stands for, if it stands for one.
-#[derive(Clone, Copy)]
-pub enum Resolved {
-    Case(DagPoint),
-    Nothing,
-}
-
-pub fn of_status(status: u64) -> Resolved
+pub fn of_status(status: u64) -> Option<DagPoint>
     ensures { result ≡ case_of status }
 {
     match status {
-        1 => Resolved::Case(DagPoint::Valid),
-        2 => Resolved::Case(DagPoint::TransInvalid),
-        3 => Resolved::Case(DagPoint::Invalid),
-        4 => Resolved::Case(DagPoint::IllFormed),
-        5 => Resolved::Case(DagPoint::NotFound),
-        _ => Resolved::Nothing,
+        1 => Some(DagPoint::Valid),
+        2 => Some(DagPoint::TransInvalid),
+        3 => Some(DagPoint::Invalid),
+        4 => Some(DagPoint::IllFormed),
+        5 => Some(DagPoint::NotFound),
+        _ => None,
     }
 }
 

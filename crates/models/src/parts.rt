@@ -38,16 +38,14 @@ impl Round {
     pub fn prev(self) -> Round
         ensures { result.0 ≡ self.0 - 1 }
     {
-        let n = self.0;
-        if n == 0 { Round(0) } else { Round(n - 1) }
+        Round(self.0.saturating_sub(1))
     }
 
     // n rounds down; stops at 0.
     pub fn minus(self, n: u32) -> Round
         ensures { result.0 ≡ self.0 - n }
     {
-        let m = self.0;
-        if m < n { Round(0) } else { Round(m - n) }
+        Round(self.0.saturating_sub(n))
     }
 
     // n rounds up.
@@ -62,14 +60,14 @@ impl Round {
     pub fn min(self, other: Round) -> Round
         ensures { result.0 ≡ min self.0 other.0 }
     {
-        if self.0 < other.0 { self } else { other }
+        Round(self.0.min(other.0))
     }
 
     // The later of two rounds.
     pub fn max(self, other: Round) -> Round
         ensures { result.0 ≡ max self.0 other.0 }
     {
-        if self.0 < other.0 { other } else { self }
+        Round(self.0.max(other.0))
     }
 }
 

@@ -7,7 +7,7 @@ ghost use Rattle.models.specs.Tables.{round_at, author_at, status_at, marks_at, 
 ghost use Rattle.models.specs.Live.{reach};
 ghost use Rattle.models.specs.Ids.{id_from, has_previous, previous_id, top_id, Placed, Topped};
 
-use crate::dag_point::{Resolved, of_status};
+use crate::dag_point::{DagPoint, of_status};
 use crate::parts::{Digest, PointId, Round};
 use crate::tables::{
     DIGEST_WORDS, KEY_AUTHOR, KEY_MARKS, KEY_ROUND, KEY_STATUS, KEY_WORDS, LINK_DIGESTS,
@@ -48,7 +48,7 @@ pub fn status(keys: &[u64], i: usize) -> u64
 }
 
 // The case of the point at place i; none if it is named and not resolved.
-pub fn case_at(keys: &[u64], i: usize) -> Resolved
+pub fn case_at(keys: &[u64], i: usize) -> Option<DagPoint>
     requires { i * 8 + 8 ≤ length keys.now }
     ensures { result ≡ case_of (status_at keys.now i) }
 {
@@ -95,8 +95,8 @@ pub fn live_links(keys: &[u64], bottom: Round, q: usize) -> usize
 {
     let case = case_at(keys, q);
     match case {
-        Resolved::Nothing => 0,
-        Resolved::Case(_) => {
+        None => 0,
+        Some(_) => {
             let r = round_word(keys, q);
             let b = bottom.0 as u64;
             if r < b + 1 {

@@ -85,7 +85,8 @@ pub const BAD_RECORD: u32 = 26;
 // A record of a trace of an unknown version or kind.
 pub const UNKNOWN_RECORD: u32 = 27;
 
-// Document 01's number of a refusal; 13, the history conflict, holds its round.
+// Document 01's number of a refusal; 13, the history conflict, holds its round. A number and no variant for each: `refusal_of_from` says that
+// every number is a refusal's, and C is given the number as it is.
 #[derive(Clone, Copy)]
 pub enum Refusal {
     Number(u32),
@@ -102,19 +103,12 @@ pub fn refusal_number(why: Refusal) -> u32
     }
 }
 
-// A test: passed, or what it refuses with.
-#[derive(Clone, Copy)]
-pub enum Check {
-    Passed,
-    Failed(Refusal),
-}
-
 // What a point that isn't valid is refused with: a history conflict in its round if it is certified.
-pub fn not_valid(cert: Cert, round: Round) -> Check
+pub fn not_valid(cert: Cert, round: Round) -> Result<(), Refusal>
     ensures { result ≡ not_valid cert.0 round.0 }
 {
     if cert.is_certified() {
-        return Check::Failed(Refusal::Conflict(round));
+        return Err(Refusal::Conflict(round));
     }
-    Check::Failed(Refusal::Number(UNUSABLE))
+    Err(Refusal::Number(UNUSABLE))
 }

@@ -4,7 +4,7 @@
 // Places at most.
 pub const PLACES_MAX: usize = 4096;
 
-// The same for a word of a table.
+// The same for a word of a table, here and below: a cast at each use would say no more.
 pub const PLACES_MAX_WORD: u64 = PLACES_MAX as u64;
 
 // Retained rounds at most.

@@ -5,7 +5,6 @@ use Rattle.std.proofs.Math.Path.{sym, ap}
 use Rattle.std.proofs.Common.{◌∙◌, arith, add-one, eq-eqb, ne_eqb, lt-ltb}
 use Rattle.std.proofs.Math.Option.{none, some}
 use Rattle.laws.specs.Test.{same_or, le_or}
-use Rattle.spec.specs.Store as store
 use Rattle.spec.specs.History.{use_proof, gap_asked}
 use Rattle.commit_state.specs.View.{record_of, round_of, rounds_of, option_of, gap_of}
 use Rattle.commit_state.specs.Reads.{window_in, window-below, window_above, record_at, record_off}

@@ -23,15 +23,13 @@ pub fn mark_all(
     requires { (low ≤ high) × (high ≤ length order.now) × (length certs.old ≤ 4096) × Inside order.now high (length certs.old) × Small order.now certs.old high }
     ensures { certs.new ≡ marks_all order.now marks.now low certs.old high }
 {
-    let mut i = low;
-    while i < high {
-        let q = laws::slot(order[i]);
+    for &word in &order[low..high] {
+        let q = laws::slot(word);
         if is_uncommitted(marks, certs, q) {
-            let word = Cert(certs[q]);
-            let done = word.set_committed();
+            let cert = Cert(certs[q]);
+            let done = cert.set_committed();
             certs[q] = done.0;
         }
-        i += 1;
     }
 }
 
@@ -41,7 +39,7 @@ pub fn after_anchor(s: State, anchor_round: Round, proof_round: Round, author: u
     requires { (anchor_round.0 ≤ 4000000000) × (proof_round.0 ≤ 4000000000) × (author < 32) }
     ensures { result ≡ after_state s anchor_round.0 proof_round.0 author }
 {
-    let first = is_first_executable(s, anchor_round);
+    let first = is_first_executable(&s, anchor_round);
     let mut next = s;
     let last_committed_proof = OptionRound(proof_round.0 + 1);
     let last_anchor = OptionRound(anchor_round.0 + 1);

@@ -17,10 +17,7 @@ fn is_next(keys: &[u64], q: usize, p: usize) -> bool
 {
     let here = round_word(keys, q);
     let up = round_word(keys, p);
-    if here < up {
-        return up - here == 1;
-    }
-    false
+    up.checked_sub(here) == Some(1)
 }
 
 // The 45 bytes of the point at place q, from what is noted for it: a place plus 1, or 0 where it "stands with itself". Includes lead one

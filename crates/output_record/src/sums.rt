@@ -8,6 +8,7 @@ ghost use Rattle.output_record.specs.Sums.{len_sum, bytes_sum, sums_of};
 
 use answer_bytes::put_number;
 use back_history::is_uncommitted;
+use commit_state::dag::Dag;
 use models::tables::PLACES_MAX;
 
 // 02, N2: "their two 64-bit sums over its history".
@@ -18,30 +19,21 @@ pub struct PayloadSums {
 }
 
 // The sums over the history. At most 4,096 numbers below 2^32 each: no sum leaves 64 bits.
-pub fn payload_sums(
-    marks: &[bool; PLACES_MAX],
-    links: &[u64],
-    certs: &[u64],
-    order: &[u64],
-    low: usize,
-    high: usize,
-) -> PayloadSums
-    requires { (low ≤ high) × (high ≤ length order.now) × (high ≤ 4096) × (length certs.now ≤ 4096) × (length certs.now * 328 ≤ length links.now)
-        × Inside order.now high (length certs.now) }
-    ensures { (result.len ≡ len_sum links.now order.now (is_uncommitted certs.now marks.now) low (high - low))
-        × (result.bytes ≡ bytes_sum links.now order.now (is_uncommitted certs.now marks.now) low (high - low)) }
+pub fn payload_sums(marks: &[bool; PLACES_MAX], dag: &Dag, low: usize, high: usize) -> PayloadSums
+    requires { (low ≤ high) × (high ≤ length dag.now.order.now) × (high ≤ 4096) × (length dag.now.certs.now ≤ 4096) × (length dag.now.certs.now * 328 ≤ length dag.now.links.now)
+        × Inside dag.now.order.now high (length dag.now.certs.now) }
+    ensures { (result.len ≡ len_sum dag.now.links.now dag.now.order.now (is_uncommitted dag.now.certs.now marks.now) low (high - low))
+        × (result.bytes ≡ bytes_sum dag.now.links.now dag.now.order.now (is_uncommitted dag.now.certs.now marks.now) low (high - low)) }
 {
     let mut len: u64 = 0;
     let mut bytes: u64 = 0;
-    let mut i = low;
-    while i < high {
-        let q = laws::slot(order[i]);
-        if is_uncommitted(marks, certs, q) {
-            let payload = models::place::payload(links, q);
+    for &word in &dag.order[low..high] {
+        let q = laws::slot(word);
+        if is_uncommitted(marks, dag.certs, q) {
+            let payload = models::place::payload(dag.links, q);
             len += payload / 4294967296;
             bytes += payload % 4294967296;
         }
-        i += 1;
     }
     PayloadSums { len, bytes }
 }

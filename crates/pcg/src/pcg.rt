@@ -46,15 +46,12 @@ fn step(generator: Pcg) -> Pcg
     }
 }
 
-// The word rotated right by k bits. A rotation by 0 would shift by 64.
+// The word rotated right by k bits.
 fn rotate_right(x: u64, k: u32) -> u64
     requires { k < 64 }
     ensures { result ≡ rotated_right k x }
 {
-    if k == 0 {
-        return x;
-    }
-    (x >> k) | (x << (64 - k))
+    x.rotate_right(k)
 }
 
 // XSL RR: the halves' exclusive or, rotated right by the top 6 bits.
@@ -68,15 +65,7 @@ fn output(state: Wide) -> u64
 fn swap_bytes(word: u64) -> u64
     ensures { result ≡ le (be 8 word) }
 {
-    let mut swapped: u64 = 0;
-    let mut rest = word;
-    let mut left = 8u32;
-    while 0 < left {
-        swapped = swapped * 256 + rest % 256;
-        rest = rest / 256;
-        left -= 1;
-    }
-    swapped
+    word.swap_bytes()
 }
 
 // The generator that a digest seeds: state low, state high, increment low, increment high.

@@ -44,10 +44,8 @@ fn write_draw(generator: Pcg) -> Pcg {
 // The first n draws.
 fn write_draws(digest: Digest, n: u32) {
     let mut generator = seed(digest);
-    let mut left = n;
-    while 0 < left {
+    for _ in 0..n {
         generator = write_draw(generator);
-        left -= 1;
     }
     write(b"\n");
 }

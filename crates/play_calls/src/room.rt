@@ -7,10 +7,5 @@ ghost use Rattle.play_calls.specs.Room.{zeros};
 pub fn clear(b: &mut [u8])
     ensures { b.new ≡ zeros (length b.old) }
 {
-    let n = b.len();
-    let mut i: usize = 0;
-    while i < n {
-        b[i] = 0;
-        i += 1;
-    }
+    b.fill(0);
 }

@@ -35,12 +35,7 @@ fn move_down(input: &mut [u8], from: usize, n: usize)
     requires { (from ≤ n) × (n ≤ length input.old) }
     ensures { take (n - from) input.new ≡ take (n - from) (drop from input.old) }
 {
-    let mut i: usize = 0;
-    while i < n - from {
-        let moved = input[from + i];
-        input[i] = moved;
-        i += 1;
-    }
+    input.copy_within(from..n, 0);
 }
 
 // Whether to go on after a record that is refused with this number, with so many bytes left. last: nothing follows them.
@@ -104,8 +99,8 @@ fn play_some(
     }
 }
 
-// Plays the whole input of a program, from tables that aren't started. Nothing says that it ends, so turns are counted, from a number that no
-// input uses up.
+// Plays the whole input of a program, from tables that aren't started. Nothing says that it ends, so turns are counted, to a number that no
+// input reaches.
 pub fn play_input(
     keys: &mut [u64],
     links: &mut [u64],
@@ -126,8 +121,7 @@ pub fn play_input(
     let mut held: usize = 0;
     let mut code: u32 = 0;
     let mut more = true;
-    let mut turns = u64::MAX;
-    while turns > 0 {
+    for _ in 0..u64::MAX {
         let turn = play_some(
             now, keys, links, certs, order, answer, input, out, base, held, bench,
         );
@@ -140,7 +134,6 @@ pub fn play_input(
         if !more {
             break;
         }
-        turns -= 1;
     }
     Turn {
         state: now,

@@ -48,6 +48,7 @@ pub fn play_part(
     let size = out.len();
     let most = b.len() + REFUSED_BYTES;
     let least = least_left(last);
+    // Each record moves the offset by its own length, so this is no count.
     while least <= n - at {
         if size - put < most {
             break;

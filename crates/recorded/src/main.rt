@@ -122,11 +122,9 @@ fn play_next(input: &mut [u8], number: u64) -> bool {
 // Nothing says that the input ends, so the runs are counted, to a number that no input reaches.
 fn main() {
     let mut input = io::large_buffer();
-    let mut number: u64 = 0;
-    while number < u64::MAX {
+    for number in 0..u64::MAX {
         if !play_next(&mut input, number) {
             break;
         }
-        number += 1;
     }
 }

@@ -24,21 +24,14 @@ fn number_said(digits: &[u8]) -> usize
     ensures { result ≡ number_said digits.now }
 {
     let mut n: usize = 0;
-    let mut i: usize = 0;
-    let size = digits.len();
-    while i < size {
-        let d = digits[i];
-        if d < 48 {
+    for &d in digits {
+        if !d.is_ascii_digit() {
             return 0;
         }
-        if 57 < d {
-            return 0;
-        }
-        n = n * 10 + (d - 48) as usize;
+        n = n * 10 + (d - b'0') as usize;
         if PLACES_ASKED_MAX < n {
             return 0;
         }
-        i += 1;
     }
     n
 }

@@ -5,10 +5,7 @@ ghost use Rattle.std.specs.Prelude.{◌+◌, ◌*◌, ◌≤◌, length};
 use crate::text::{write, write_digest, write_number};
 use models::output::{ID_BYTES, LINK_BYTES, POINT_BYTES, RECORD_BYTES, RECORD_HEAD_BYTES};
 use models::parts::PointId;
-use trace::anchors::{
-    AnchorHead, AnchorSums, WORD_ANCHOR, WORD_INCLUDES, WORD_WITNESS, anchor_head, anchor_sums,
-    word_at,
-};
+use trace::anchors::{AnchorHead, AnchorSums, Word, anchor_head, anchor_sums, word_at};
 use trace::bytes::id_of;
 
 // An id after its name, with a mark between its parts.
@@ -38,21 +35,19 @@ fn write_head(head: AnchorHead, sums: AnchorSums) {
 pub fn write_ids(b: &[u8], at: usize, n: usize)
     requires { at + n * 37 ≤ length b.now }
 {
-    let mut i: usize = 0;
-    while i < n {
+    for i in 0..n {
         let id = id_of(b, at + i * ID_BYTES);
         write_id(b" ", id, b".");
-        i += 1;
     }
 }
 
 // The word of a link, after a space; `?` for bytes that are none of the three words.
-fn write_word(word: u32) {
+fn write_word(word: Option<Word>) {
     match word {
-        WORD_INCLUDES => write(b" includes\n"),
-        WORD_WITNESS => write(b" witness\n"),
-        WORD_ANCHOR => write(b" anchor\n"),
-        _ => write(b" ?\n"),
+        Some(Word::Includes) => write(b" includes\n"),
+        Some(Word::Witness) => write(b" witness\n"),
+        Some(Word::Anchor) => write(b" anchor\n"),
+        None => write(b" ?\n"),
     }
 }
 
@@ -60,15 +55,13 @@ fn write_word(word: u32) {
 fn write_links(b: &[u8], ids: usize, told: usize, n: usize)
     requires { (ids + n * 37 ≤ length b.now) × (told + n * 45 ≤ length b.now) }
 {
-    let mut i: usize = 0;
-    while i < n {
+    for i in 0..n {
         let id = id_of(b, ids + i * ID_BYTES);
         write_id(b"link ", id, b".");
         let by = id_of(b, told + i * LINK_BYTES);
         write_id(b" by ", by, b".");
         let word = word_at(b, told + i * LINK_BYTES + ID_BYTES);
         write_word(word);
-        i += 1;
     }
 }
 
@@ -99,9 +92,7 @@ fn write_anchor(b: &[u8], at: usize) -> usize
 // The lines of the first n records.
 pub fn write_anchors(b: &[u8], n: u32) {
     let mut at: usize = 0;
-    let mut i: u32 = 0;
-    while i < n {
+    for _ in 0..n {
         at = write_anchor(b, at);
-        i += 1;
     }
 }

@@ -36,11 +36,9 @@ fn rounds_of(reach: Reach, round: Round) -> u32 {
 fn write_counts(b: &[u8], at: usize, n: usize)
     requires { at + n * 4 ≤ length b.now }
 {
-    let mut i: usize = 0;
-    while i < n {
+    for i in 0..n {
         let count = number_of(b, at + i * COUNT_BYTES);
         write_number(b" ", count as u64);
-        i += 1;
     }
 }
 
@@ -70,9 +68,7 @@ fn write_look(b: &[u8], at: usize, reach: Reach) -> usize
 // The lines of the first n anchors.
 pub fn write_looks(b: &[u8], n: u32, reach: Reach) {
     let mut at: usize = 0;
-    let mut i: u32 = 0;
-    while i < n {
+    for _ in 0..n {
         at = write_look(b, at, reach);
-        i += 1;
     }
 }

@@ -9,18 +9,15 @@ use models::output::{
     COUNT_BYTES, DIGEST_BYTES, EVENT_BLAMED, EVENT_HEAD_BYTES, ID_BYTES, PEER_BYTES, SINGLE_BYTES,
     SINGLE_ID,
 };
-use stats::{COUNTERS, MempoolPeerCounters};
+use stats::MempoolPeerCounters;
 use trace::bytes::{byte_of, digest_words, id_of, number_of};
 use trace::events::{Event, event_of};
 use trace::peer_stats::{PeerStats, peer_of};
 
 // The nine counters.
 fn write_counters(cumulative: MempoolPeerCounters) {
-    let counts = cumulative.counts();
-    let mut i: usize = 0;
-    while i < COUNTERS {
-        write_number(b" ", counts[i] as u64);
-        i += 1;
+    for count in cumulative.counts() {
+        write_number(b" ", count as u64);
     }
 }
 
@@ -56,10 +53,8 @@ fn write_peers(b: &[u8]) -> usize
     }
     let n = byte_of(b, 0);
     let mut at: usize = 1;
-    let mut i: u32 = 0;
-    while i < n {
+    for _ in 0..n {
         at = write_peer(b, at);
-        i += 1;
     }
     at
 }
@@ -68,12 +63,10 @@ fn write_peers(b: &[u8]) -> usize
 fn write_digests(b: &[u8], at: usize, n: usize)
     requires { at + n * 32 ≤ length b.now }
 {
-    let mut i: usize = 0;
-    while i < n {
+    for i in 0..n {
         let words = digest_words(b, at + i * DIGEST_BYTES);
         write(b" ");
         write_digest(words[0], words[1], words[2], words[3]);
-        i += 1;
     }
 }
 
@@ -118,20 +111,23 @@ fn write_no_inclusion(b: &[u8], at: usize, signer: u32, x: usize, y: usize) -> u
 fn write_event(b: &[u8], at: usize) -> usize
     ensures { result ≤ length b.now }
 {
-    let event = event_of(b, at);
-    match event {
-        Event::Single(kind) => write_single(b, at, kind),
-        Event::Equivocated {
-            author,
-            round,
-            count,
-        } => write_equivocated(b, at, author, round.0, count),
-        Event::EvidenceNoInclusion {
-            signer,
-            blamed,
-            proofs,
-        } => write_no_inclusion(b, at, signer, blamed, proofs),
-        Event::Cut => b.len(),
+    match event_of(b, at) {
+        Some(Event::Single(kind)) => write_single(b, at, kind),
+        Some(
+            Event::Equivocated {
+                author,
+                round,
+                count,
+            },
+        ) => write_equivocated(b, at, author, round.0, count),
+        Some(
+            Event::EvidenceNoInclusion {
+                signer,
+                blamed,
+                proofs,
+            },
+        ) => write_no_inclusion(b, at, signer, blamed, proofs),
+        None => b.len(),
     }
 }
 
@@ -144,13 +140,11 @@ fn write_events(b: &[u8], at: usize)
     }
     let n = number_of(b, at);
     let mut next = at + COUNT_BYTES;
-    let mut i: u32 = 0;
-    while i < n {
+    for _ in 0..n {
         next = write_event(b, next);
         if next == b.len() {
             break;
         }
-        i += 1;
     }
 }
 

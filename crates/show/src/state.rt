@@ -4,6 +4,7 @@ ghost use Rattle.std.specs.Prelude.{◌+◌, ◌*◌, ◌≤◌, length};
 ghost use Rattle.show.specs.Points.{Readable};
 
 use crate::text::{write, write_digest, write_number};
+use commit_state::dag::Dag;
 use commit_state::state::State;
 use models::parts::OptionRound;
 use models::place::{author, round_word};
@@ -63,18 +64,23 @@ fn write_point(keys: &[u64], q: usize, word: u64)
 fn write_points(keys: &[u64], certs: &[u64], order: &[u64], count: usize)
     requires { Readable keys.now certs.now order.now count }
 {
-    let mut i: usize = 0;
-    while i < count {
-        let q = laws::slot(order[i]);
+    for &place in &order[..count] {
+        let q = laws::slot(place);
         let word = certs[q];
         write_point(keys, q, word);
-        i += 1;
     }
 }
 
 // The lines of the state and its points; tables that don't count as started have none.
 pub fn write_state(s: State, keys: &[u64], links: &[u64], certs: &[u64], order: &[u64]) {
-    if counts_as_started(s, keys, links, certs, order) {
+    let dag = Dag {
+        state: &s,
+        keys,
+        links,
+        certs,
+        order,
+    };
+    if counts_as_started(&dag) {
         write_rounds(s);
         write_points(keys, certs, order, s.count);
     } else {

@@ -26,9 +26,6 @@ pub struct MempoolPeerCounters {
 
 pub const COUNTERS: usize = 9;
 
-// A counter at most.
-const COUNTER_MAX: u16 = 65535;
-
 // What a count weighs, by counter (in the order of MempoolPeerCounters) and band: 1 to 9, 10 to 99, 100 up.
 const WEIGHTS: [[u32; 3]; 9] = [
     [0, 0, 0],
@@ -75,11 +72,7 @@ fn weigh(counter: usize, count: u16) -> u32
 fn saturating_add(x: u16, y: u16) -> u16
     ensures { result ≡ min (x + y) 65535 }
 {
-    if x < COUNTER_MAX - y {
-        x + y
-    } else {
-        COUNTER_MAX
-    }
+    x.saturating_add(y)
 }
 
 impl MempoolPeerCounters {
@@ -152,10 +145,8 @@ impl MempoolPeerCounters {
     {
         let counts = self.counts();
         let mut sum: u32 = 0;
-        let mut counter: usize = 0;
-        while counter < COUNTERS {
-            sum += weigh(counter, counts[counter]);
-            counter += 1;
+        for (counter, &count) in counts.iter().enumerate() {
+            sum += weigh(counter, count);
         }
         sum
     }

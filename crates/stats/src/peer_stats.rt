@@ -6,7 +6,7 @@ ghost use Rattle.stats.specs.PeerStats.{no_stats, added_in_order};
 use crate::{MempoolPeerCounters, merged};
 use models::parts::Round;
 
-// `filled_rounds` is 0 if the peer has no counters yet; the others then say nothing.
+// `filled_rounds` is 0 if the peer has no counters yet; the others then say nothing. No Option, as in the Rust: `stats_of` says what they say.
 #[derive(Clone, Copy)]
 pub struct MempoolPeerStats {
     pub first_round: Round,

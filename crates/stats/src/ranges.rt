@@ -6,19 +6,12 @@ ghost use Rattle.stats.specs.Ranges.{since_of};
 
 use models::parts::Round;
 
-// `stats_since` of a remove: none suppresses all counters.
-#[derive(Clone, Copy)]
-pub enum Since {
-    Nothing,
-    From(Round),
-}
-
-// Whether the counters of this round are reported.
-pub fn is_since(stats_since: Since, round: Round) -> bool
+// Whether the counters of this round are reported: `stats_since` of a remove, none suppresses all.
+pub fn is_since(stats_since: Option<Round>, round: Round) -> bool
     ensures { result ≡ since (since_of stats_since) round.0 }
 {
     match stats_since {
-        Since::Nothing => false,
-        Since::From(first) => first.0 <= round.0,
+        None => false,
+        Some(first) => first.0 <= round.0,
     }
 }

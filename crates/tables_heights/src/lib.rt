@@ -22,9 +22,7 @@ fn raise(cells: &mut [u16], p: u64, v: Height)
 {
     let i = p as usize;
     if i < cells.len() {
-        if cells[i] < v.0 {
-            cells[i] = v.0;
-        }
+        cells[i] = cells[i].max(v.0);
     }
 }
 
@@ -32,7 +30,7 @@ fn raise(cells: &mut [u16], p: u64, v: Height)
 fn less(v: Height, d: u16) -> Height
     ensures { result.0 ≡ v.0 - d }
 {
-    if d <= v.0 { Height(v.0 - d) } else { Height(0) }
+    Height(v.0.saturating_sub(d))
 }
 
 // Hands the height v of place q down its first m links; a height below 2 reaches no place, and then no link is read.
@@ -43,11 +41,9 @@ fn push(cells: &mut [u16], links: &[u64], q: usize, v: Height, m: usize)
     if v.0 < 2 {
         return;
     }
-    let mut k: usize = 0;
-    while k < m {
+    for k in 0..m {
         let d = (1 + k / PEERS_MAX) as u16;
         raise(cells, target(links, q, k), less(v, d));
-        k += 1;
     }
 }
 
@@ -83,12 +79,10 @@ fn push_all(
     requires inside { Inside order.now n (length order.now) }
     ensures { cells.new ≡ pushed_all bottom.0 top.0 keys.now links.now certs.now order.now cells.old n }
 {
-    let mut i: usize = 0;
-    while i < n {
-        let q = dag_round_keys::place(order, n, i);
+    for &cell in &order[..n] {
+        let q = laws::slot(cell);
         let cert = Cert(certs[q]);
         push_one(cells, links, q, cert, top, live_links(keys, bottom, q));
-        i += 1;
     }
 }
 
@@ -98,17 +92,10 @@ fn agree(cells: &[u16], certs: &[u64], order: &[u64], n: usize) -> bool
     requires inside { Inside order.now n (length order.now) }
     ensures { result ≡ agrees cells.now certs.now order.now n }
 {
-    let mut i: usize = 0;
-    while i < n {
-        let q = dag_round_keys::place(order, n, i);
-        let cert = Cert(certs[q]);
-        let height = cert.height();
-        if cells[q + 1] != height.0 {
-            return false;
-        }
-        i += 1;
-    }
-    true
+    order[..n].iter().all(|&cell| {
+        let q = laws::slot(cell);
+        cells[q + 1] == Cert(certs[q]).height().0
+    })
 }
 
 // Whether every stored height is right, with the height `top` of tops.

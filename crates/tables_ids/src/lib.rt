@@ -50,13 +50,10 @@ fn count_all(seen: &mut [u8], keys: &[u64], order: &[u64], n: usize) -> bool
     requires tallied { Tallied keys.now order.now seen.old 0 }
     ensures { result ≡ versions_hold keys.now order.now n }
 {
-    let mut i: usize = 0;
-    while i < n {
-        let q = dag_round_keys::place(order, n, i);
-        if !count_one(seen, keys, q) {
+    for &place in &order[..n] {
+        if !count_one(seen, keys, laws::slot(place)) {
             return false;
         }
-        i += 1;
     }
     true
 }

@@ -11,9 +11,8 @@ use Rattle.laws.specs.Scan.{every, every_elim}
 use Rattle.models.specs.Live.{reach}
 use Rattle.models.specs.DagPoint.{case_of, has_info}
 use Rattle.models.specs.declared.dag_point.DagPoint.{DagPoint}
-use Rattle.models.specs.declared.dag_point.Resolved.{Resolved}
-use Rattle.models.specs.declared.dag_point.Resolved.TheVariants.{Case, Nothing}
 use Rattle.models.specs.Tables.{status_at, target_at, evidence_at}
+use Rattle.std.specs.Prelude.{None, Option, Some}
 
 unfoldable pub empty_at : List ℕ → ℕ → ℕ → ℕ → Bool
 empty_at ls q m k = ltb k m || eqb (target_at ls q k) 0
@@ -23,9 +22,9 @@ unfoldable pub empty_from : List ℕ → ℕ → ℕ → Bool
 empty_from ls q m = every 64 (empty_at ls q m)
 
 -- no link that must not be, by the case of the point: one that is named only may hold anything
-unfoldable pub bare_of : Resolved → List ℕ → List ℕ → ℕ → Bool
-bare_of Nothing ks ls q = true
-bare_of (Case p) ks ls q = cond (has_info p) (empty_from ls q (reach 0 ks q)) (eqb (evidence_at ls q) 0 && empty_from ls q 0)
+unfoldable pub bare_of : Option DagPoint → List ℕ → List ℕ → ℕ → Bool
+bare_of None ks ls q = true
+bare_of (Some p) ks ls q = cond (has_info p) (empty_from ls q (reach 0 ks q)) (eqb (evidence_at ls q) 0 && empty_from ls q 0)
 
 -- the place q
 unfoldable pub bare_at : List ℕ → List ℕ → ℕ → Bool
@@ -52,19 +51,19 @@ module _ (ls : List ℕ) (q m : ℕ) where
   empty_elim h k l a =
       ⊎_elim (λ t. ltb-true k m t) (λ t. absurd (omega (arith, eqb-true (target_at ls q k) 0 t))) (or_cases (ltb k m) _ (every_elim 64 _ h k l))
 
-module _ (ks ls : List ℕ) (q : ℕ) (r : Resolved) (is : r ≡ case_of (status_at ks q)) where
-  pub bare_named : r ≡ Nothing → true ≡ bare_at ks ls q
+module _ (ks ls : List ℕ) (q : ℕ) (r : Option DagPoint) (is : r ≡ case_of (status_at ks q)) where
+  pub bare_named : r ≡ None → true ≡ bare_at ks ls q
   unfolding bare_at bare_of
-  bare_named e = ap (λ (x : Resolved). bare_of x ks ls q) (sym e ∙ is)
+  bare_named e = ap (λ (x : Option DagPoint). bare_of x ks ls q) (sym e ∙ is)
 
   -- a point with links, and one without
-  pub bare_full : (p : DagPoint) (i b : Bool) (m : ℕ) → r ≡ Case p → i ≡ has_info p → i ≡ true → m ≡ reach 0 ks q → b ≡ empty_from ls q m → b ≡ bare_at ks ls q
+  pub bare_full : (p : DagPoint) (i b : Bool) (m : ℕ) → r ≡ Some p → i ≡ has_info p → i ≡ true → m ≡ reach 0 ks q → b ≡ empty_from ls q m → b ≡ bare_at ks ls q
   unfolding bare_at bare_of
-  bare_full p i b m e f t g h = h ∙ (ap (empty_from ls q) g ∙ (rw (sym f ∙ t) refl ∙ ap (λ (x : Resolved). bare_of x ks ls q) (sym e ∙ is)))
+  bare_full p i b m e f t g h = h ∙ (ap (empty_from ls q) g ∙ (rw (sym f ∙ t) refl ∙ ap (λ (x : Option DagPoint). bare_of x ks ls q) (sym e ∙ is)))
 
-  pub bare_none : (p : DagPoint) (i b a : Bool) (x : ℕ) → r ≡ Case p → i ≡ has_info p → i ≡ false → x ≡ evidence_at ls q → b ≡ empty_from ls q 0 → a ≡ (eqb x 0 && b) → a ≡ bare_at ks ls q
+  pub bare_none : (p : DagPoint) (i b a : Bool) (x : ℕ) → r ≡ Some p → i ≡ has_info p → i ≡ false → x ≡ evidence_at ls q → b ≡ empty_from ls q 0 → a ≡ (eqb x 0 && b) → a ≡ bare_at ks ls q
   unfolding bare_at bare_of
-  bare_none p i b a x e f t y g h = h ∙ (ap₂ (λ (u : ℕ) (v : Bool). eqb u 0 && v) y g ∙ (rw (sym f ∙ t) refl ∙ ap (λ (x : Resolved). bare_of x ks ls q) (sym e ∙ is)))
+  bare_none p i b a x e f t y g h = h ∙ (ap₂ (λ (u : ℕ) (v : Bool). eqb u 0 && v) y g ∙ (rw (sym f ∙ t) refl ∙ ap (λ (x : Option DagPoint). bare_of x ks ls q) (sym e ∙ is)))
 
 -- ---- by the status
 

@@ -5,10 +5,9 @@ use Rattle.std.proofs.Math.Path.{refl, ap}
 use Rattle.std.proofs.Common.{sym, ◌∙◌, ap₂, arith}
 use Rattle.models.specs.DagPoint.{case_of}
 use Rattle.models.specs.declared.dag_point.DagPoint.{DagPoint}
-use Rattle.models.specs.declared.dag_point.Resolved.{Resolved}
-use Rattle.models.specs.declared.dag_point.Resolved.TheVariants.{Case, Nothing}
 use Rattle.models.specs.Tables.{author_at, status_at, marks_at, evidence_at, proof_round_at, proof_author_at}
 use Rattle.models.specs.Cert.{flags_of, height_of}
+use Rattle.std.specs.Prelude.{None, Option, Some}
 
 -- status, marks, author, certificate word
 unfoldable pub point_in_range : ℕ → ℕ → ℕ → ℕ → Bool
@@ -19,9 +18,9 @@ unfoldable pub resolution_in_range : ℕ → ℕ → ℕ → Bool
 resolution_in_range e r a = ltb e 4294967296 && (ltb r 4294967296 && ltb a 32)
 
 -- by the case of the point: of one that is named only they may be anything
-unfoldable pub told_of : Resolved → ℕ → ℕ → ℕ → Bool
-told_of Nothing e r a = true
-told_of (Case p) e r a = resolution_in_range e r a
+unfoldable pub told_of : Option DagPoint → ℕ → ℕ → ℕ → Bool
+told_of None e r a = true
+told_of (Some p) e r a = resolution_in_range e r a
 
 unfoldable pub told_fits : List ℕ → List ℕ → ℕ → Bool
 told_fits ks ls q = told_of (case_of (status_at ks q)) (evidence_at ls q) (proof_round_at ls q) (proof_author_at ls q)
@@ -31,14 +30,14 @@ words_at ks ls cs q = point_in_range (status_at ks q) (marks_at ks q) (author_at
 
 -- ---- the code's steps
 
-module _ (ks ls : List ℕ) (q : ℕ) (c : Resolved) (is : c ≡ case_of (status_at ks q)) where
-  pub resolution_named : c ≡ Nothing → true ≡ told_fits ks ls q
+module _ (ks ls : List ℕ) (q : ℕ) (c : Option DagPoint) (is : c ≡ case_of (status_at ks q)) where
+  pub resolution_named : c ≡ None → true ≡ told_fits ks ls q
   unfolding told_fits told_of
-  resolution_named e = ap (λ (x : Resolved). told_of x (evidence_at ls q) (proof_round_at ls q) (proof_author_at ls q)) (sym e ∙ is)
+  resolution_named e = ap (λ (x : Option DagPoint). told_of x (evidence_at ls q) (proof_round_at ls q) (proof_author_at ls q)) (sym e ∙ is)
 
-  pub resolution_given : (p : DagPoint) (b : Bool) (e r a : ℕ) → c ≡ Case p → e ≡ evidence_at ls q → r ≡ proof_round_at ls q → a ≡ proof_author_at ls q → b ≡ resolution_in_range e r a → b ≡ told_fits ks ls q
+  pub resolution_given : (p : DagPoint) (b : Bool) (e r a : ℕ) → c ≡ Some p → e ≡ evidence_at ls q → r ≡ proof_round_at ls q → a ≡ proof_author_at ls q → b ≡ resolution_in_range e r a → b ≡ told_fits ks ls q
   unfolding told_fits told_of
-  resolution_given p b e r a i x y z h = h ∙ (λ j. resolution_in_range (x j) (y j) (z j)) ∙ ap (λ (x : Resolved). told_of x (evidence_at ls q) (proof_round_at ls q) (proof_author_at ls q)) (sym i ∙ is)
+  resolution_given p b e r a i x y z h = h ∙ (λ j. resolution_in_range (x j) (y j) (z j)) ∙ ap (λ (x : Option DagPoint). told_of x (evidence_at ls q) (proof_round_at ls q) (proof_author_at ls q)) (sym i ∙ is)
 
 -- the words that are read
 pub words_by : (ks ls cs : List ℕ) (q s m a : ℕ) (n t b : Bool) → s ≡ status_at ks q → m ≡ marks_at ks q → a ≡ author_at ks q → n ≡ point_in_range s m a (get_or cs q 0) → t ≡ told_fits ks ls q → b ≡ (n && t) → b ≡ words_at ks ls cs q

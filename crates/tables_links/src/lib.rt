@@ -11,7 +11,6 @@ ghost use Rattle.models.specs.Tables.{round_at, dist};
 
 use laws::{and, or};
 use models::cert::{CERT_MAX, Cert};
-use models::dag_point::Resolved;
 use models::parts::Round;
 use models::place::{author, head_word, round_word, target};
 use models::tables::{
@@ -79,14 +78,7 @@ fn links_right(
     requires by_index { (k : ℕ) → k < m → dist k ≤ round_at keys.now q }
     ensures { result ≡ links_right keys.now links.now marks.now places q m }
 {
-    let mut k: usize = 0;
-    while k < m {
-        if !link_right(keys, links, marks, places, q, k) {
-            return false;
-        }
-        k += 1;
-    }
-    true
+    (0..m).all(|k| link_right(keys, links, marks, places, q, k))
 }
 
 // Whether every live link of place q leads to the used place that it says.
@@ -110,14 +102,7 @@ fn empty_from(links: &[u64], q: usize, m: usize) -> bool
     requires { (q * 328 + 328 ≤ length links.now) × (m ≤ 64) }
     ensures { result ≡ empty_from links.now q m }
 {
-    let mut k = m;
-    while k < LINKS_MAX {
-        if target(links, q, k) != 0 {
-            return false;
-        }
-        k += 1;
-    }
-    true
+    (m..LINKS_MAX).all(|k| target(links, q, k) == 0)
 }
 
 // Whether place q has no link and no evidence that must not be: any of an ill-formed or missing point, links into rounds below 0. A point
@@ -128,13 +113,13 @@ pub fn bare_one(keys: &[u64], links: &[u64], q: usize) -> bool
 {
     let case = models::place::case_at(keys, q);
     match case {
-        Resolved::Case(p) => {
+        Some(p) => {
             if p.has_info() {
                 return empty_from(links, q, models::place::live_links(keys, Round(0), q));
             }
             and(head_word(links, q, 0) == 0, empty_from(links, q, 0))
         }
-        Resolved::Nothing => true,
+        None => true,
     }
 }
 
@@ -166,13 +151,13 @@ fn told_fits(keys: &[u64], links: &[u64], q: usize) -> bool
 {
     let case = models::place::case_at(keys, q);
     match case {
-        Resolved::Case(_) => {
+        Some(_) => {
             let e = head_word(links, q, 0);
             let r = head_word(links, q, 1);
             let a = head_word(links, q, 2);
             resolution_in_range(e, r, a)
         }
-        Resolved::Nothing => true,
+        None => true,
     }
 }
 

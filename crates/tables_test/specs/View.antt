@@ -12,6 +12,7 @@ use Rattle.dag_round_keys.specs.Sorted.{is_inside, is_sorted}
 use Rattle.tables_links.specs.Links.{links_hold}
 use Rattle.commit_state.specs.View.{given_at, resolution_at, point_at, rounds_of, conf_of, progress_of, memory_of, phase_of}
 use Rattle.commit_state.specs.Memory.{memory_holds}
+use Rattle.commit_state.specs.declared.dag.Dag.{Dag}
 use Rattle.commit_state.specs.declared.state.State.{State}
 use Rattle.tables_test.specs.Model.{shape}
 
@@ -44,6 +45,10 @@ view s ks ls cs os = record {
   progress = progress_of s;
   memory = memory_of s.memory;
 }
+
+-- the same of what the code reads as one
+abbrev pub view_of : Dag → Store
+view_of d = view d.state.now d.keys.now d.links.now d.certs.now d.order.now
 
 module _ (ks ls cs os : List ℕ) (n q : ℕ) where
   pub seen_used : Used os n q → seen_at ks ls cs os n q ≡ point_at ks ls cs q

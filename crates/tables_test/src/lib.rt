@@ -7,9 +7,10 @@ ghost use Rattle.models.specs.Tables.{Inside};
 ghost use Rattle.spec.specs.Rules.{places_ok};
 ghost use Rattle.commit_state.specs.Numbers.{rounds_hold};
 ghost use Rattle.spec.specs.Rules.{counts_as_started};
-ghost use Rattle.tables_test.specs.View.{view};
+ghost use Rattle.tables_test.specs.View.{view_of};
 ghost use Rattle.tables_test.specs.Model.{shape, state_holds, order_holds, place_ok, each_ok, used_ok, points_hold, tested};
 
+use commit_state::dag::Dag;
 use commit_state::state::State;
 use models::parts::Round;
 use models::tables::{KEY_WORDS, LINK_WORDS, PLACES_MAX, ROUND_SLOTS_WORD};
@@ -51,8 +52,8 @@ pub fn places_hold(places: usize) -> bool
 
 // Whether the retained rounds lie in their ranges and their used marks are authors. The range is tested first: within it the number of
 // rounds is small, and no sum of rounds overflows.
-fn rounds_hold(s: State) -> bool
-    ensures { result ≡ rounds_hold s }
+fn rounds_hold(s: &State) -> bool
+    ensures { result ≡ rounds_hold s.now }
 {
     let genesis = s.genesis;
     let bottom = s.bottom;
@@ -66,8 +67,8 @@ fn rounds_hold(s: State) -> bool
 }
 
 // Whether the state is started, its numbers lie in their ranges and the inspector's memory holds.
-fn state_holds(s: State, places: usize) -> bool
-    ensures { result ≡ state_holds s places }
+fn state_holds(s: &State, places: usize) -> bool
+    ensures { result ≡ state_holds s.now places }
 {
     if s.phase != 1 {
         return false;
@@ -84,24 +85,23 @@ fn state_holds(s: State, places: usize) -> bool
     if places < s.count {
         return false;
     }
-    let memory = s.memory;
-    commit_state::state::memory_holds(memory)
+    commit_state::state::memory_holds(&s.memory)
 }
 
 // Whether the order holds places, sorted by their keys, at most four to an author and a round. That it holds places is tested first: the
 // other tests read at them.
-fn order_holds(s: State, keys: &[u64], order: &[u64]) -> bool
-    requires { (length keys.now ≡ length order.now * 8) × (s.count ≤ length order.now) }
-    ensures { result ≡ order_holds s keys.now order.now }
+fn order_holds(dag: &Dag) -> bool
+    requires { (length dag.now.keys.now ≡ length dag.now.order.now * 8) × (dag.now.state.now.count ≤ length dag.now.order.now) }
+    ensures { result ≡ order_holds dag.now.state.now dag.now.keys.now dag.now.order.now }
 {
-    let n = s.count;
-    if !dag_round_keys::inside(order, n, order.len()) {
+    let n = dag.state.count;
+    if !dag_round_keys::inside(dag.order, n, dag.order.len()) {
         return false;
     }
-    if !dag_round_keys::sorted(keys, order, n) {
+    if !dag_round_keys::sorted(dag.keys, dag.order, n) {
         return false;
     }
-    tables_ids::versions_hold(keys, order, n)
+    tables_ids::versions_hold(dag.keys, dag.order, n)
 }
 
 // Whether place q holds what a used place may hold: its id, its links and the words beside them. marks: the used places; peers: those of
@@ -135,88 +135,83 @@ fn place_ok(
 }
 
 // Whether every used place does.
-fn each_ok(
-    s: State,
-    keys: &[u64],
-    links: &[u64],
-    certs: &[u64],
-    marks: &[bool],
-    order: &[u64],
-) -> bool
-    requires order_in_bounds { (length order.now ≤ length marks.now) × (length keys.now ≡ length order.now * 8) × (length links.now ≡ length order.now * 328) ×
-        (length certs.now ≡ length order.now) × (s.count ≤ length order.now) }
-    requires inside { Inside order.now s.count (length order.now) }
-    ensures { result ≡ each_ok s keys.now links.now certs.now marks.now order.now }
+fn each_ok(dag: &Dag, marks: &[bool]) -> bool
+    requires order_in_bounds { (length dag.now.order.now ≤ length marks.now) × (length dag.now.keys.now ≡ length dag.now.order.now * 8) × (length dag.now.links.now ≡ length dag.now.order.now * 328) ×
+        (length dag.now.certs.now ≡ length dag.now.order.now) × (dag.now.state.now.count ≤ length dag.now.order.now) }
+    requires inside { Inside dag.now.order.now dag.now.state.now.count (length dag.now.order.now) }
+    ensures { result ≡ each_ok dag.now.state.now dag.now.keys.now dag.now.links.now dag.now.certs.now marks.now dag.now.order.now }
 {
-    let n = s.count;
-    let places = order.len();
-    let bottom = s.bottom;
-    let top = s.top;
-    let mut i: usize = 0;
-    while i < n {
-        let q = dag_round_keys::place(order, n, i);
-        let round = models::place::round_word(keys, q);
-        let x = s.rounds[(round % ROUND_SLOTS_WORD) as usize];
-        if !place_ok(keys, links, certs, marks, places, q, bottom, top, x.peers) {
+    let n = dag.state.count;
+    let places = dag.order.len();
+    let bottom = dag.state.bottom;
+    let top = dag.state.top;
+    for &cell in &dag.order[..n] {
+        let q = laws::slot(cell);
+        let round = models::place::round_word(dag.keys, q);
+        let x = dag.state.rounds[(round % ROUND_SLOTS_WORD) as usize];
+        if !place_ok(
+            dag.keys, dag.links, dag.certs, marks, places, q, bottom, top, x.peers,
+        ) {
             return false;
         }
-        i += 1;
     }
     true
 }
 
 // The same, with the used places marked here.
-fn used_ok(s: State, keys: &[u64], links: &[u64], certs: &[u64], order: &[u64]) -> bool
-    requires order_len_bound { (length order.now ≤ 4096) × (length keys.now ≡ length order.now * 8) × (length links.now ≡ length order.now * 328) ×
-        (length certs.now ≡ length order.now) × (s.count ≤ length order.now) }
-    requires inside { Inside order.now s.count (length order.now) }
-    ensures { result ≡ used_ok s keys.now links.now certs.now order.now }
+fn used_ok(dag: &Dag) -> bool
+    requires order_len_bound { (length dag.now.order.now ≤ 4096) × (length dag.now.keys.now ≡ length dag.now.order.now * 8) × (length dag.now.links.now ≡ length dag.now.order.now * 328) ×
+        (length dag.now.certs.now ≡ length dag.now.order.now) × (dag.now.state.now.count ≤ length dag.now.order.now) }
+    requires inside { Inside dag.now.order.now dag.now.state.now.count (length dag.now.order.now) }
+    ensures { result ≡ used_ok dag.now.state.now dag.now.keys.now dag.now.links.now dag.now.certs.now dag.now.order.now }
 {
     let mut marks = [false; PLACES_MAX];
-    dag_round_order::mark(&mut marks, order, s.count);
-    each_ok(s, keys, links, certs, &marks, order)
+    dag_round_order::mark(&mut marks, dag.order, dag.state.count);
+    each_ok(dag, &marks)
 }
 
 // Whether the used places hold what they may hold, and their heights are right.
-fn points_hold(s: State, keys: &[u64], links: &[u64], certs: &[u64], order: &[u64]) -> bool
-    requires order_len_bound { (length order.now ≤ 4096) × (length keys.now ≡ length order.now * 8) × (length links.now ≡ length order.now * 328) ×
-        (length certs.now ≡ length order.now) × (s.count ≤ length order.now) × (s.commit_history_rounds ≤ 255) }
-    requires inside { Inside order.now s.count (length order.now) }
-    ensures { result ≡ points_hold s keys.now links.now certs.now order.now }
+fn points_hold(dag: &Dag) -> bool
+    requires order_len_bound { (length dag.now.order.now ≤ 4096) × (length dag.now.keys.now ≡ length dag.now.order.now * 8) × (length dag.now.links.now ≡ length dag.now.order.now * 328) ×
+        (length dag.now.certs.now ≡ length dag.now.order.now) × (dag.now.state.now.count ≤ length dag.now.order.now) × (dag.now.state.now.commit_history_rounds ≤ 255) }
+    requires inside { Inside dag.now.order.now dag.now.state.now.count (length dag.now.order.now) }
+    ensures { result ≡ points_hold dag.now.state.now dag.now.keys.now dag.now.links.now dag.now.certs.now dag.now.order.now }
 {
-    if !used_ok(s, keys, links, certs, order) {
+    if !used_ok(dag) {
         return false;
     }
-    let bottom = s.bottom;
-    let top = s.top_height();
-    tables_heights::heights_hold(keys, links, certs, order, s.count, bottom, top)
+    let bottom = dag.state.bottom;
+    let top = dag.state.top_height();
+    tables_heights::heights_hold(
+        dag.keys,
+        dag.links,
+        dag.certs,
+        dag.order,
+        dag.state.count,
+        bottom,
+        top,
+    )
 }
 
 // All tests. Each relies on those before it, so that any state and any tables may be given.
-fn all_hold(s: State, keys: &[u64], links: &[u64], certs: &[u64], order: &[u64]) -> bool
-    ensures { result ≡ tested s keys.now links.now certs.now order.now }
+fn all_hold(dag: &Dag) -> bool
+    ensures { result ≡ tested dag.now.state.now dag.now.keys.now dag.now.links.now dag.now.certs.now dag.now.order.now }
 {
-    if !shape_holds(keys, links, certs, order) {
+    if !shape_holds(dag.keys, dag.links, dag.certs, dag.order) {
         return false;
     }
-    if !state_holds(s, order.len()) {
+    if !state_holds(dag.state, dag.order.len()) {
         return false;
     }
-    if !order_holds(s, keys, order) {
+    if !order_holds(dag) {
         return false;
     }
-    points_hold(s, keys, links, certs, order)
+    points_hold(dag)
 }
 
 // Whether the state and the tables count as started.
-pub fn counts_as_started(
-    s: State,
-    keys: &[u64],
-    links: &[u64],
-    certs: &[u64],
-    order: &[u64],
-) -> bool
-    ensures { result ≡ counts_as_started (view s keys.now links.now certs.now order.now) }
+pub fn counts_as_started(dag: &Dag) -> bool
+    ensures { result ≡ counts_as_started (view_of dag.now) }
 {
-    all_hold(s, keys, links, certs, order)
+    all_hold(dag)
 }

@@ -1,5 +1,5 @@
 -- The record of a committed anchor, read from bytes.
-use Rattle.std.specs.Prelude.{ℕ, ◌+◌, ◌<◌, ◌≤◌, ◌≡◌, List, Bool, true, false, cond, get_or}
+use Rattle.std.specs.Prelude.{ℕ, ◌+◌, ◌<◌, ◌≤◌, ◌≡◌, List, Bool, true, false, cond, get_or, Option, None, Some}
 use Rattle.std.proofs.Math.Path.{refl, sym}
 use Rattle.std.proofs.Common.{◌∙◌, arith}
 use Rattle.std.proofs.Math.Dec.{eqb}
@@ -11,6 +11,8 @@ use Rattle.spec.specs.History.{includes_word, witness_word, anchor_word}
 use Rattle.models.specs.Parts.{id_of}
 use Rattle.trace.specs.Numbers.{number_at, id_at, point_id_at, id_read}
 use Rattle.trace.specs.declared.anchors.AnchorHead.{AnchorHead}
+use Rattle.trace.specs.declared.anchors.Word.{Word}
+use Rattle.trace.specs.declared.anchors.Word.TheVariants as word
 
 -- "Anchor record: anchor id, proof id, executable (1 byte), previous anchor round (4; 0 for none), number of points (4), their ids."
 pub record Anchor : Type 0 where
@@ -40,9 +42,9 @@ anchor_is b p h i j k l m = rw (id_read b p h.anchor i, id_read b (p + 37) h.pro
 unfoldable pub stands_at : List ℕ → ℕ → List ℕ → Bool
 stands_at b p w = every 8 (λ k. eqb (get_or b (p + k) 0) (get_or w k 0))
 
--- the word there: 1 for `includes`, 2 for `witness`, 3 for `anchor`, 0 for other bytes
-unfoldable pub word_in : List ℕ → ℕ → ℕ
-word_in b p = cond (stands_at b p includes_word) 1 (cond (stands_at b p witness_word) 2 (cond (stands_at b p anchor_word) 3 0))
+-- the word there, by its bytes; none for other bytes
+unfoldable pub word_in : List ℕ → ℕ → Option Word
+word_in b p = cond (stands_at b p includes_word) (Some word.Includes) (cond (stands_at b p witness_word) (Some word.Witness) (cond (stands_at b p anchor_word) (Some word.Anchor) None))
 
 module _ (b : List ℕ) (p : ℕ) (w : List ℕ) where
   -- the first k bytes are alike
@@ -65,20 +67,20 @@ module _ (b : List ℕ) (p : ℕ) (w : List ℕ) where
 
 -- the word is read by the first that stands there
 module _ (b : List ℕ) (p : ℕ) (x : Bool) (is : x ≡ stands_at b p includes_word) where
-  pub word-includes : x ≡ true → 1 ≡ word_in b p
+  pub word-includes : x ≡ true → Some word.Includes ≡ word_in b p
   unfolding word_in
   word-includes t = rw (sym is ∙ t) refl
 
   module _ (no : x ≡ false) (y : Bool) (so : y ≡ stands_at b p witness_word) where
-    pub word_witness : y ≡ true → 2 ≡ word_in b p
+    pub word_witness : y ≡ true → Some word.Witness ≡ word_in b p
     unfolding word_in
     word_witness t = rw (sym is ∙ no, sym so ∙ t) refl
 
     module _ (nor : y ≡ false) (z : Bool) (thus : z ≡ stands_at b p anchor_word) where
-      pub word-anchor : z ≡ true → 3 ≡ word_in b p
+      pub word-anchor : z ≡ true → Some word.Anchor ≡ word_in b p
       unfolding word_in
       word-anchor t = rw (sym is ∙ no, sym so ∙ nor, sym thus ∙ t) refl
 
-      pub word-other : z ≡ false → 0 ≡ word_in b p
+      pub word-other : z ≡ false → None ≡ word_in b p
       unfolding word_in
       word-other f = rw (sym is ∙ no, sym so ∙ nor, sym thus ∙ f) refl

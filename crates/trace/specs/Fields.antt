@@ -11,14 +11,14 @@ use Rattle.spec.specs.Calls.{Call, StartArgs, start, reset_all, round, name, res
 use Rattle.commit_state.specs.Back.{used_of}
 use Rattle.commit_state.specs.Reads.{start_args_of}
 use Rattle.commit_state.specs.declared.back.StartArgs as code
-use Rattle.commit_state.specs.declared.back.UsedAuthor.{UsedAuthor}
-use Rattle.commit_state.specs.declared.back.UsedAuthor.TheVariants.{Nobody, Peer}
 use Rattle.models.specs.declared.parts.PointId.{PointId}
 use Rattle.models.specs.declared.info.PointInfo.{PointInfo}
 use Rattle.trace.specs.Numbers.{number_at, id_at, point_id_at}
 use Rattle.trace.specs.Head.{links_in, lists_in}
 use Rattle.trace.specs.Kinds.{Kind}
 use Rattle.trace.specs.Kinds as kind
+use Rattle.std.specs.Prelude as rust
+use Rattle.std.specs.Prelude.{None, Some}
 
 -- "a flag is no only at 0"
 abbrev pub flag_in : List ℕ → ℕ → Bool
@@ -88,8 +88,8 @@ call_by kind.Broken f b = gap_question
 
 -- ---- as the code has them
 
-unfoldable pub used_author_in : ℕ → UsedAuthor
-used_author_in b = cond (eqb b 255) Nobody (Peer b)
+unfoldable pub used_author_in : ℕ → (rust.Option ℕ)
+used_author_in b = cond (eqb b 255) None (Some b)
 
 unfoldable pub start_args_in : List ℕ → code.StartArgs
 start_args_in f = record {
@@ -119,16 +119,16 @@ info_in f = record {
 -- ---- laws
 
 -- by cases
-pub used_none : (b : ℕ) → b ≡ 255 → Nobody ≡ used_author_in b
+pub used_none : (b : ℕ) → b ≡ 255 → None ≡ used_author_in b
 unfolding used_author_in
 used_none b e = rw e refl
 
-pub used_some : (b : ℕ) → (b ≡ 255 → ⊥) → Peer b ≡ used_author_in b
+pub used_some : (b : ℕ) → (b ≡ 255 → ⊥) → Some b ≡ used_author_in b
 unfolding used_author_in
 used_some b n = rw (ne_eqb b 255 n) refl
 
 -- read as 01's
-used_read : (b : Bool) (n : ℕ) → used_of (cond b Nobody (Peer n)) ≡ cond b none (some n)
+used_read : (b : Bool) (n : ℕ) → used_of (cond b None (Some n)) ≡ cond b none (some n)
 unfolding used_of
 used_read true n = refl
 used_read false n = refl
@@ -139,7 +139,7 @@ start_read f = rw (used_read (eqb (get_or f 21 0) 255) (get_or f 21 0)) refl
 
 module _ (f : List ℕ) where
   -- from their parts
-  pub start_is : (g h d b q x y : ℕ) (u : UsedAuthor) → g ≡ number_at f 0 4 → h ≡ number_at f 4 4 → d ≡ number_at f 8 4 → b ≡ number_at f 12 4
+  pub start_is : (g h d b q x y : ℕ) (u : (rust.Option ℕ)) → g ≡ number_at f 0 4 → h ≡ number_at f 4 4 → d ≡ number_at f 8 4 → b ≡ number_at f 12 4
       → q ≡ number_at f 16 4 → x ≡ get_or f 20 0 → y ≡ get_or f 21 0 → u ≡ used_author_in y
       → ◌≡◌ {A = code.StartArgs} (record { genesis = record { 0 = g }; commit_history_rounds = h; deduplicate_rounds = d; bottom = record { 0 = b }; peers = q; after_gap = not (eqb x 0); used = u }) (start_args_in f)
   unfolding start_args_in

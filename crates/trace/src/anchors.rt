@@ -60,41 +60,35 @@ pub fn anchor_sums(b: &[u8], at: usize) -> AnchorSums
     }
 }
 
-// The words that a record tells of its points (02: N7), as numbers.
-pub const WORD_INCLUDES: u32 = 1;
-
-pub const WORD_WITNESS: u32 = 2;
-
-pub const WORD_ANCHOR: u32 = 3;
+// The words that a record tells of its points (02: N7).
+#[derive(Clone, Copy, Debug, PartialEq, Eq, Hash)]
+pub enum Word {
+    Includes,
+    Witness,
+    Anchor,
+}
 
 // Whether the eight bytes stand at the offset.
 fn is_word(b: &[u8], at: usize, word: &[u8; WORD_BYTES]) -> bool
     requires { at + 8 ≤ length b.now }
     ensures { result ≡ stands_at b.now at word.now }
 {
-    let mut k: usize = 0;
-    while k < WORD_BYTES {
-        if b[at + k] != word[k] {
-            return false;
-        }
-        k += 1;
-    }
-    true
+    b[at..].starts_with(word)
 }
 
-// The word at the offset, by its constant bytes; 0 for other bytes.
-pub fn word_at(b: &[u8], at: usize) -> u32
+// The word at the offset, by its constant bytes; `None` for other bytes.
+pub fn word_at(b: &[u8], at: usize) -> Option<Word>
     requires { at + 8 ≤ length b.now }
     ensures { result ≡ word_in b.now at }
 {
     if is_word(b, at, &INCLUDES) {
-        return WORD_INCLUDES;
+        return Some(Word::Includes);
     }
     if is_word(b, at, &WITNESS) {
-        return WORD_WITNESS;
+        return Some(Word::Witness);
     }
     if is_word(b, at, &ANCHOR) {
-        return WORD_ANCHOR;
+        return Some(Word::Anchor);
     }
-    0
+    None
 }

@@ -20,9 +20,7 @@ pub fn short_of(f: &[u8], at: usize) -> u16
     requires { at + 2 ≤ length f.now }
     ensures { result ≡ number_at f.now at 2 }
 {
-    let a = byte_of(f, at);
-    let b = byte_of(f, at + 1);
-    (a * 256 + b) as u16
+    u16::from_be_bytes([f[at], f[at + 1]])
 }
 
 // The number in four bytes.
@@ -30,11 +28,7 @@ pub fn number_of(f: &[u8], at: usize) -> u32
     requires { at + 4 ≤ length f.now }
     ensures { result ≡ number_at f.now at 4 }
 {
-    let a = byte_of(f, at);
-    let b = byte_of(f, at + 1);
-    let c = byte_of(f, at + 2);
-    let d = byte_of(f, at + 3);
-    ((a * 256 + b) * 256 + c) * 256 + d
+    u32::from_be_bytes([f[at], f[at + 1], f[at + 2], f[at + 3]])
 }
 
 // The number in eight bytes.
@@ -42,9 +36,16 @@ pub fn word_of(f: &[u8], at: usize) -> u64
     requires { at + 8 ≤ length f.now }
     ensures { result ≡ number_at f.now at 8 }
 {
-    let high = number_of(f, at) as u64;
-    let low = number_of(f, at + 4) as u64;
-    high * 4294967296 + low
+    u64::from_be_bytes([
+        f[at],
+        f[at + 1],
+        f[at + 2],
+        f[at + 3],
+        f[at + 4],
+        f[at + 5],
+        f[at + 6],
+        f[at + 7],
+    ])
 }
 
 // The four words of a digest.

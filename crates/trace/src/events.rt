@@ -27,74 +27,72 @@ pub enum Event {
         blamed: usize,
         proofs: usize,
     },
-    // None of these kinds, or cut.
-    Cut,
 }
 
-// The event of this kind, 1 to 3, at the offset.
-fn single_of(b: &[u8], at: usize, kind: u32) -> Event
+// The event of this kind, 1 to 3, at the offset; `None` if it is cut, as below.
+fn single_of(b: &[u8], at: usize, kind: u32) -> Option<Event>
     requires { at ≤ length b.now }
     ensures { result ≡ single_in b.now at kind }
 {
     if b.len() - at < SINGLE_BYTES {
-        return Event::Cut;
+        return None;
     }
-    Event::Single(kind)
+    Some(Event::Single(kind))
 }
 
 // The event of kind 4 at the offset.
-fn equivocated_of(b: &[u8], at: usize) -> Event
+fn equivocated_of(b: &[u8], at: usize) -> Option<Event>
     requires { at ≤ length b.now }
     ensures { result ≡ equivocated_in b.now at }
 {
     let left = b.len() - at;
     if left < EVENT_HEAD_BYTES {
-        return Event::Cut;
+        return None;
     }
     let author = byte_of(b, at + EVENT_PEER);
     let round = number_of(b, at + EVENT_ROUND);
     let count = number_of(b, at + EVENT_DIGEST_COUNT) as usize;
     if (left - EVENT_HEAD_BYTES) / DIGEST_BYTES < count {
-        return Event::Cut;
+        return None;
     }
-    Event::Equivocated {
+    Some(Event::Equivocated {
         author,
         round: Round(round),
         count,
-    }
+    })
 }
 
 // The event of kind 5 at the offset.
-fn no_inclusion_of(b: &[u8], at: usize) -> Event
+fn no_inclusion_of(b: &[u8], at: usize) -> Option<Event>
     requires { at ≤ length b.now }
     ensures { result ≡ no_inclusion_in b.now at }
 {
     let left = b.len() - at;
     if left < EVENT_HEAD_BYTES {
-        return Event::Cut;
+        return None;
     }
     let signer = byte_of(b, at + EVENT_PEER);
     let blamed = number_of(b, at + EVENT_BLAMED_COUNT) as usize;
     if (left - EVENT_HEAD_BYTES) / ID_BYTES < blamed {
-        return Event::Cut;
+        return None;
     }
     let proofs = number_of(b, at + EVENT_BLAMED + blamed * ID_BYTES) as usize;
     if (left - EVENT_HEAD_BYTES) / ID_BYTES - blamed < proofs {
-        return Event::Cut;
+        return None;
     }
-    Event::EvidenceNoInclusion {
+    Some(Event::EvidenceNoInclusion {
         signer,
         blamed,
         proofs,
-    }
+    })
 }
 
-// The event at the offset.
-pub fn event_of(b: &[u8], at: usize) -> Event
+// The event at the offset; `None` for what is none of these kinds, or cut.
+pub fn event_of(b: &[u8], at: usize) -> Option<Event>
     ensures { result ≡ event_in b.now at }
 {
     if b.len() <= at {
-        return Event::Cut;
+        return None;
     }
     let kind = byte_of(b, at);
     match kind {
@@ -103,6 +101,6 @@ pub fn event_of(b: &[u8], at: usize) -> Event
         3 => single_of(b, at, 3),
         4 => equivocated_of(b, at),
         5 => no_inclusion_of(b, at),
-        _ => Event::Cut,
+        _ => None,
     }
 }

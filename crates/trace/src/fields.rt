@@ -9,12 +9,11 @@ ghost use Rattle.trace.specs.Fields.{used_author_in, start_args_in, since_in, in
 ghost use Rattle.trace.specs.Links.{link_words, links_words};
 
 use crate::bytes::{byte_of, digest_words, id_of, number_of};
-use commit_state::back::{StartArgs, UsedAuthor};
+use commit_state::back::StartArgs;
 use models::info::PointInfo;
 use models::output::{COUNT_BYTES, DIGEST_BYTES, ID_BYTES};
 use models::parts::Round;
 use models::tables::REF_WORDS;
-use stats::ranges::Since;
 
 // The byte of a used author that stands for nobody.
 pub const NOBODY: u32 = 255;
@@ -83,17 +82,17 @@ pub struct RoundFields {
 #[derive(Clone, Copy)]
 pub struct RemoveFields {
     pub round: Round,
-    pub since: Since,
+    pub since: Option<Round>,
 }
 
 // The used author that a byte stands for.
-fn used_of(byte: u32) -> UsedAuthor
+fn used_of(byte: u32) -> Option<u32>
     ensures { result ≡ used_author_in byte }
 {
     if byte == NOBODY {
-        return UsedAuthor::Nobody;
+        return None;
     }
-    UsedAuthor::Peer(byte)
+    Some(byte)
 }
 
 // The fields of a start.
@@ -143,12 +142,12 @@ pub fn remove_of(f: &[u8]) -> RemoveFields
     if flag == 0 {
         return RemoveFields {
             round: Round(round),
-            since: Since::Nothing,
+            since: None,
         };
     }
     RemoveFields {
         round: Round(round),
-        since: Since::From(Round(since)),
+        since: Some(Round(since)),
     }
 }
 
@@ -202,10 +201,7 @@ pub fn refs_of(f: &[u8], refs: &mut [u64])
 {
     let includes = byte_of(f, INFO_INCLUDES) as usize;
     let witness = byte_of(f, INFO_WITNESS) as usize;
-    let n = includes + witness;
-    let mut k: usize = 0;
-    while k < n {
+    for k in 0..includes + witness {
         put_link(f, INFO_LINKS + k * REF_BYTES, refs, k * REF_WORDS);
-        k += 1;
     }
 }

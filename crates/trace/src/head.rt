@@ -22,7 +22,7 @@ pub const HEAD_KIND: usize = 5;
 pub const HEAD_FIELDS: usize = 6;
 
 // The fields are bytes[from..end], and the next record begins at end. code: the number that the record is refused with, 0 for none. A record
-// that is refused has kind 0, and both offsets are its own.
+// that is refused has kind 0, and both offsets are its own: its clause says so, and so it is no Result.
 #[derive(Clone, Copy)]
 pub struct Record {
     pub code: u32,

@@ -9,15 +9,13 @@ use Rattle.spec.specs.Store.{bit}
 use Rattle.spec.specs.Calls.{StartArgs, start, reset_all, round, gap_question, remove, drop}
 use Rattle.models.specs.declared.parts.Round.{Round}
 use Rattle.stats.specs.Ranges.{since_of}
-use Rattle.stats.specs.declared.ranges.Since.{Since}
-use Rattle.stats.specs.declared.ranges.Since.TheVariants.{Nothing, From}
 use Rattle.commit_state.specs.Back.{used_of}
-use Rattle.commit_state.specs.declared.back.UsedAuthor.{UsedAuthor}
-use Rattle.commit_state.specs.declared.back.UsedAuthor.TheVariants.{Nobody, Peer}
 use Rattle.trace.specs.Write.{Field, field, field_bytes, fits_field, used_byte, start_fields, remove_fields, fields_of, kind_byte, is255, sayable}
 use Rattle.trace.proofs.ReadBack.{size, fields_length}
 use Rattle.trace_write.specs.Puts.{Said}
 use Rattle.trace_write.specs.Fields.{fit_none, fit_more, put_fields}
+use Rattle.std.specs.Prelude as rust
+use Rattle.std.specs.Prelude.{None, Some}
 
 pub gap_said : Said gap_question 9 true 0 []
 unfolding kind_byte sayable fields_of size
@@ -49,11 +47,11 @@ unfolding kind_byte sayable fields_of remove_fields since_flag since_round size
 remove_said r none room h l = record { kind = refl; fields = refl; fit = fit_more _ _ _ _ h (fit_more _ _ _ _ (omega arith) (fit_more _ _ _ _ l fit_none)); size = λ _. sym (fields_length (field 4 r ∷ field 1 0 ∷ field 4 0 ∷ [])) }
 remove_said r (some x) room h l = record { kind = refl; fields = refl; fit = fit_more _ _ _ _ h (fit_more _ _ _ _ (omega arith) (fit_more _ _ _ _ l fit_none)); size = λ _. sym (fields_length (field 4 r ∷ field 1 1 ∷ field 4 x ∷ [])) }
 
-pub since_none : (s : Since) → s ≡ Nothing → (0 ≡ since_flag (since_of s)) × (0 ≡ since_round (since_of s))
+pub since_none : (s : (rust.Option Round)) → s ≡ None → (0 ≡ since_flag (since_of s)) × (0 ≡ since_round (since_of s))
 unfolding since_flag since_round since_of
 since_none s e = rw e (refl, refl)
 
-pub since_from : (s : Since) (first : Round) → s ≡ From first → (1 ≡ since_flag (since_of s)) × (first.0 ≡ since_round (since_of s))
+pub since_from : (s : (rust.Option Round)) (first : Round) → s ≡ Some first → (1 ≡ since_flag (since_of s)) × (first.0 ≡ since_round (since_of s))
 unfolding since_flag since_round since_of
 since_from s first e = rw e (refl, refl)
 
@@ -86,11 +84,11 @@ start_said a f u g h d b p = record {
   size = λ _. sym (fields_length (start_fields a));
 }
 
-pub used_none : (u : UsedAuthor) → u ≡ Nobody → (true ≡ used_fits (used_of u)) × (255 ≡ used_byte (used_of u))
+pub used_none : (u : (rust.Option ℕ)) → u ≡ None → (true ≡ used_fits (used_of u)) × (255 ≡ used_byte (used_of u))
 unfolding used_fits used_byte used_of
 used_none u e = rw e (refl, refl)
 
-pub used_some : (u : UsedAuthor) (a : ℕ) → u ≡ Peer a → (ltb a 255 ≡ used_fits (used_of u)) × (a ≡ used_byte (used_of u))
+pub used_some : (u : (rust.Option ℕ)) (a : ℕ) → u ≡ Some a → (ltb a 255 ≡ used_fits (used_of u)) × (a ≡ used_byte (used_of u))
 unfolding used_fits used_byte used_of
 used_some u a e = rw e (refl, refl)
 

@@ -28,15 +28,7 @@ fn peers_fit(refs: &[u64], n: usize) -> bool
     requires { n * 5 ≤ length refs.now }
     ensures { result ≡ all fits_field (link_fields (refs_of refs.now 0 n)) }
 {
-    let mut k: usize = 0;
-    while k < n {
-        let peer = refs[k * REF_WORDS + REF_PEER];
-        if PEER_MAX < peer {
-            return false;
-        }
-        k += 1;
-    }
-    true
+    (0..n).all(|k| refs[k * REF_WORDS + REF_PEER] <= PEER_MAX)
 }
 
 fn put_link(b: &mut [u8], at: usize, refs: &[u64], k: usize) -> usize
@@ -54,10 +46,8 @@ fn put_links(b: &mut [u8], at: usize, refs: &[u64], n: usize) -> usize
     ensures { (result ≡ at + n * 33) × (b.new ≡ written b.old at (field_bytes (link_fields (refs_of refs.now 0 n)))) }
 {
     let mut next = at;
-    let mut k: usize = 0;
-    while k < n {
+    for k in 0..n {
         next = put_link(b, next, refs, k);
-        k += 1;
     }
     next
 }

@@ -12,9 +12,8 @@ ghost use Rattle.trace_write.specs.Rounds.{used_fits, start_first, start_last, s
 
 use crate::head::{Written, mark, put_head};
 use answer_bytes::put_number;
-use commit_state::back::{StartArgs, UsedAuthor};
+use commit_state::back::StartArgs;
 use models::parts::Round;
-use stats::ranges::Since;
 use trace::codes::{DROP, GAP, REMOVE, RESET, ROUND, START};
 use trace::fields::{DROP_BYTES, NOBODY, REMOVE_BYTES, ROUND_BYTES, START_BYTES};
 use trace::head::HEAD_FIELDS;
@@ -68,26 +67,26 @@ pub fn put_round(b: &mut [u8], round: Round, peers: u32) -> Written
     Written { refused, length }
 }
 
-fn since_flag(since: Since) -> u64
+fn since_flag(since: Option<Round>) -> u64
     ensures { result ≡ since_flag (since_of since) }
 {
     match since {
-        Since::Nothing => 0,
-        Since::From(_) => 1,
+        None => 0,
+        Some(_) => 1,
     }
 }
 
-fn since_round(since: Since) -> u32
+fn since_round(since: Option<Round>) -> u32
     ensures { result ≡ since_round (since_of since) }
 {
     match since {
-        Since::Nothing => 0,
-        Since::From(first) => first.0,
+        None => 0,
+        Some(first) => first.0,
     }
 }
 
 // The call's own buffer isn't in its record.
-pub fn put_remove(b: &mut [u8], round: Round, since: Since) -> Written
+pub fn put_remove(b: &mut [u8], round: Round, since: Option<Round>) -> Written
     ensures { (room : List ℕ) → Puts b.old (calls.remove round.0 (since_of since) room) result.refused result.length b.new }
 {
     let first = since_round(since);
@@ -102,21 +101,21 @@ pub fn put_remove(b: &mut [u8], round: Round, since: Since) -> Written
 }
 
 // Whether the used author can be told from nobody, in a byte.
-fn used_fits(used: UsedAuthor) -> bool
+fn used_fits(used: Option<u32>) -> bool
     ensures { result ≡ used_fits (used_of used) }
 {
     match used {
-        UsedAuthor::Nobody => true,
-        UsedAuthor::Peer(author) => author < NOBODY,
+        None => true,
+        Some(author) => author < NOBODY,
     }
 }
 
-fn used_byte(used: UsedAuthor) -> u32
+fn used_byte(used: Option<u32>) -> u32
     ensures { result ≡ used_byte (used_of used) }
 {
     match used {
-        UsedAuthor::Nobody => NOBODY,
-        UsedAuthor::Peer(author) => author,
+        None => NOBODY,
+        Some(author) => author,
     }
 }
 

@@ -8,7 +8,7 @@ use Rattle.answer_bytes.proofs.put_digest.Goals as goal
 pub returns : goal.returns
 returns c =
     let a = c.args in
-    let f : Fit a.words.now = λ p. (c.shared_slice_known-1.given p).fits in (
+    let f : Fit a.words.now = λ p. (c.type_inv.words p).fits in (
       omega arith,
       rw (sym (digest_bytes a.words.now a.p f))
           (and_then _ _ _ _ _ _ _ 8 (be-length 8 _) c.put_number-a1.ensures.0 c.put_number-a1.ensures.1

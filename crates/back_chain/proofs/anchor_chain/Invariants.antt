@@ -8,7 +8,4 @@ use Rattle.back_chain.proofs.anchor_chain.Given as goal
 
 abbrev pub invariant-loop-k : goal.invariant-loop-k
 invariant-loop-k l =
-    (l.k ≤ l.span) × (l.count + l.k ≤ l.span) × (length l.list ≡ 512) × (walked l.s l.keys l.links l.certs l.order l.low.0 l.k l.sought (chain_of l.list l.count) ≡ walked l.s l.keys l.links l.certs l.order l.low.0 l.span l.initial.sought [])
-
-abbrev pub decreases-loop-k : goal.decreases-loop-k
-decreases-loop-k l = l.k
+    (l.count + l.k ≤ l.span) × (length l.list ≡ 512) × (walked l.dag.state.now l.dag.keys.now l.dag.links.now l.dag.certs.now l.dag.order.now l.low.0 l.k l.sought (chain_of l.list l.count) ≡ walked l.dag.state.now l.dag.keys.now l.dag.links.now l.dag.certs.now l.dag.order.now l.low.0 l.span l.initial.sought [])

@@ -1,24 +1,22 @@
-use borrow.Author.Rules.{rules}
-use Prim.Native.Nat.{◌≤◌, ◌-◌}
-use mathlib.Core.Path.{◌≡◌}
-use mathlib.Core.Logic.{⊎_elim}
-use native.Mathlib.Omega.{arith}
-use lib.ListN.{length}
-use Rattle.back_order.specs.Linked.{linked_by, count_none, count_yes, count_no, count_end}
+use Rattle.std.proofs.Common.{ℕ, ◌-◌, Bool, false, length, get_or, take, drop, arith, rules, ap, ◌∙◌}
+use borrow.Author.Tests.{tests}
+use Rattle.std.proofs.iter.Serving.{serving}
+use Rattle.std.proofs.lemmas.Iterator.{YieldsList-from_slice}
+use Rattle.std.proofs.lemmas.Iterator.Consumers.{YieldsList-from_filter, count_from_yields_List}
+use Rattle.back_history.proofs.Cells.{cells_inside, cells_picked}
+use Rattle.back_order.specs.Linked.{linked_by}
 use Rattle.back_order.proofs.count_linked.Goals as goal
-use Rattle.back_order.proofs.count_linked.Goals.{then-marks-q, else-marks-q}
 
-pub loop-k-init : goal.loop-k-init
-loop-k-init c = (search rules, search rules, count_none _ _ _)
-
-pub place-q-requires : goal.place-q-requires
-place-q-requires c = record { i_lt_n = search rules; inside = c.requires.3 }
-
-pub loop-k-preserved : goal.loop-k-preserved
-loop-k-preserved c =
-    let l = c.loop-k in
-    let at = c.place-q.ensures.value in
-    elim c.if-marks-q.branch [ then-marks-q w ↦ (search rules, search rules, count_yes _ _ _ l.k _ at _ _ l.invariant.2 w.if-marks-q.true w.n-is) | else-marks-q w ↦ (search rules, search rules, count_no _ _ _ l.k _ at _ _ l.invariant.2 w.if-marks-q.false w.n-is) ]
+pub count-requires-clause-can : goal.count-requires-clause-can
+count-requires-clause-can c =
+    let a = c.args in
+    let h = cells_inside a.order.now a.low a.high (length a.order.now) c.requires.3 in
+    grind serving
 
 pub returns : goal.returns
-returns c = count_end _ _ _ _ _ _ c.loop-k.invariant.2 (omega arith)
+unfolding linked_by
+returns c =
+    let a = c.args in
+    let test : ℕ → Bool = λ q. get_or a.marks.now q false in
+    count_from_yields_List c.filter.result _ c.count.ensures.ran (YieldsList-from_filter _ test (YieldsList-from_slice (take (a.high - a.low) (drop a.low a.order.now)) cc) c.filter.ensures.closure (λ x b q k. search (rules, tests)))
+    ∙ ap length (cells_picked a.order.now test a.low (a.high - a.low) (omega arith))

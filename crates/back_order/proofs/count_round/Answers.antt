@@ -1,4 +1,3 @@
-use borrow.Author.Rules.{rules}
 use Rattle.back_order.specs.Counts.{run_of, count_by_lem}
 use Rattle.back_order.proofs.count_round.Goals as goal
 

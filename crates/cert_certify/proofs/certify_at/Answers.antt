@@ -7,8 +7,8 @@ with_height-word-requires c = omega (arith, c.top_height-height.ensures, c.requi
 
 pub traverse_certify-requires : goal.traverse_certify-requires
 traverse_certify-requires c =
-    let told = certifiable_set c.args.s c.args.keys.now c.args.links.now c.args.certs.now c.args.q _ c.requires in record { keys_len = told.0; placed = told.1 }
+    let told = certifiable_set c.args.s.now c.args.keys.now c.args.links.now c.args.certs.now c.args.q _ c.requires in record { keys_len = told.0; placed = told.1 }
 
 pub returns : goal.returns
 returns c =
-    certified_by c.args.s c.args.keys.now c.args.links.now c.args.certs.now _ c.args.q _ _ _ c.set_top-top.ensures c.top_height-height.ensures c.with_height-word.ensures c.traverse_certify.ensures
+    certified_by c.args.s.now c.args.keys.now c.args.links.now c.args.certs.now _ c.args.q _ _ _ c.set_top-top.ensures c.top_height-height.ensures c.with_height-word.ensures c.traverse_certify.ensures

@@ -1,4 +1,3 @@
-use Prim.Native.Nat.{◌≤◌, ◌-◌}
 use mathlib.Core.Path.{◌≡◌}
 use Rattle.models.specs.Tables.{target_at}
 use Rattle.tables_heights.specs.View.{height_at}
@@ -8,7 +7,4 @@ use Rattle.cert_certify.proofs.certify_deps.Given as goal
 -- Link after link.
 abbrev pub invariant-loop-k : goal.invariant-loop-k
 invariant-loop-k l =
-    (l.k ≤ l.m) × (work l.certs l.queue l.end ≡ handed (target_at l.links l.p) (height_at l.initial.certs l.p) (work l.initial.certs l.initial.queue l.tail) l.k)
-
-abbrev pub decreases-loop-k : goal.decreases-loop-k
-decreases-loop-k l = l.m - l.k
+    work l.certs l.queue l.end ≡ handed (target_at l.links l.p) (height_at l.initial.certs l.p) (work l.initial.certs l.initial.queue l.tail) l.k

@@ -9,8 +9,8 @@ returns-then-not-counts_as_started c = round_did _ _ _ (c.well_formed.0.1.1.1.1.
 pub check_round-check-requires : goal.check_round-check-requires
 check_round-check-requires c = round_ready _ _ _ _ _ _ c.counts_as_started.ensures c.if-not-counts_as_started.false-raw
 
-pub returns-in-Failed : goal.returns-in-Failed
-returns-in-Failed c = round_did _ _ _ (c.well_formed.0.1.1.1.1.1.1.1.1.1.1.1.1.1.1.0.1.0.1) _ (left-refused _ _ _ _ (tested_by _ _ _ c.counts_as_started.ensures c.if-not-counts_as_started.false-raw _ (sym c.check_round-check.ensures ∙ c.in-Failed.is)) _ c.refused-in-Failed.ensures)
+pub returns-in-Err : goal.returns-in-Err
+returns-in-Err c = round_did _ _ _ (c.well_formed.0.1.1.1.1.1.1.1.1.1.1.1.1.1.1.0.1.0.1) _ (left-refused _ _ _ _ (tested_by _ _ _ c.counts_as_started.ensures c.if-not-counts_as_started.false-raw _ (sym c.check_round-check.ensures ∙ c.in-Err.is)) _ c.refused-in-Err.ensures)
 
 pub with_round-next-requires : goal.with_round-next-requires
 with_round-next-requires c =

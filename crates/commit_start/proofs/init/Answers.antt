@@ -4,8 +4,8 @@ use Rattle.commit_answer.specs.Answer.{left-same, left-refused, left-done}
 use Rattle.commit_start.specs.Start.{start_did, start_ranges}
 use Rattle.commit_start.proofs.init.Goals as goal
 
-pub returns-in-Failed : goal.returns-in-Failed
-returns-in-Failed c = start_did _ _ _ (left-refused _ _ _ _ (sym c.check_start-check.ensures ∙ c.in-Failed.is) _ c.refused.ensures)
+pub returns-in-Err : goal.returns-in-Err
+returns-in-Err c = start_did _ _ _ (left-refused _ _ _ _ (sym c.check_start-check.ensures ∙ c.in-Err.is) _ c.refused.ensures)
 
 pub init_state-next-requires : goal.init_state-next-requires
 init_state-next-requires c = start_ranges _ _ _ _ _ _ (sym c.check_start-check.ensures ∙ c.in_default.is)

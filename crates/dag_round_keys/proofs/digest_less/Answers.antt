@@ -1,18 +1,7 @@
-use mathlib.Core.Path.{sym}
-use native.Mathlib.Omega.{arith}
-use borrow.Author.Count.{below_none, below_more}
-use borrow.Author.Rules.{rules}
-use Rattle.dag_round_keys.specs.Digest.{digest_level, digest_first}
+use Rattle.dag_round_keys.proofs.Parts.{part_before}
 use Rattle.dag_round_keys.proofs.digest_less.Goals as goal
 
-pub loop-k-init : goal.loop-k-init
-loop-k-init c = (search rules, below_none _)
-
-pub returns-then-x-y : goal.returns-then-x-y
-returns-then-x-y c = sym (digest_first _ _ _ _ (λ p. (c.shared_slice_known-1.given p).fits) (λ p. (c.shared_slice_known-in-loop-k-1.given p).fits) _ c.loop-k-test.true c.loop-k.invariant.1 c.if-x-y.true)
-
-pub loop-k-preserved : goal.loop-k-preserved
-loop-k-preserved c = (search rules, below_more _ _ c.loop-k.invariant.1 c.if-x-y.false)
-
 pub returns : goal.returns
-returns c = sym (digest_level _ _ _ _ (λ m l. c.loop-k.invariant.1 m (omega (arith, c.loop-k-test.false))))
+returns c =
+    let a = c.args in
+    part_before a.a.now a.b.now a.i a.j c.requires.0 c.requires.1 (λ p. (c.type_inv.a p).fits) (λ p. (c.type_inv.b p).fits) c.lt.result c.lt.ensures

@@ -2,7 +2,6 @@ use Prim.Native.Nat.{◌<◌, ◌/◌}
 use mathlib.Core.Path.{◌≡◌, sym}
 use mathlib.Core.Bool.{true, false}
 use native.Mathlib.Omega.{arith}
-use borrow.Author.Tests.{not-true, not-false}
 use lib.ListN.{length, get_or}
 use Rattle.dag_round_keys.specs.Key.{key, before}
 use Rattle.dag_round_keys.specs.Sorted.{key_at, standing_here, standing_not, standing_end}
@@ -20,7 +19,7 @@ pub returns-then-not-less : goal.returns-then-not-less
 returns-then-not-less c =
     let a = c.args in
     let f = c.seek-p in
-    let no = not-true c.less.result c.if-not-less.true-raw in
+    let no : c.less.result ≡ false = search rules in
     let h : before (key a.id.now 0) (key_at a.keys.now a.order.now f.result) ≡ false = cc in
     sym (standing_here a.keys.now a.order.now a.n (key a.id.now 0) f.result f.ensures (omega arith) h)
 
@@ -28,7 +27,7 @@ pub returns-else-not-less : goal.returns-else-not-less
 returns-else-not-less c =
     let a = c.args in
     let f = c.seek-p in
-    let yes = not-false c.less.result c.if-not-less.false-raw in
+    let yes : c.less.result ≡ true = search rules in
     let h : before (key a.id.now 0) (key_at a.keys.now a.order.now f.result) ≡ true = cc in
     sym (standing_not a.keys.now a.order.now a.n (key a.id.now 0) f.result f.ensures c.requires.sorted (omega arith) h)
 

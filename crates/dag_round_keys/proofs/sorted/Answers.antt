@@ -1,39 +1,44 @@
-use Prim.Native.Nat.{◌<◌, ◌-◌, ◌/◌}
-use mathlib.Core.Path.{◌≡◌, sym}
-use mathlib.Core.Bool.{true, false}
-use native.Mathlib.Omega.{arith}
-use borrow.Author.Tests.{not-true, not-false}
-use lib.ListN.{length, get_or}
+use Rattle.std.proofs.Common.{ℕ, zero, suc, ◌+◌, ◌-◌, ◌/◌, ◌<◌, ◌≡◌, List, Bool, true, false, length, get_or, sym, refl, arith, rules}
+use borrow.Author.Tests.{tests}
+use Rattle.std.specs.Bool.{MatchBool}
+use Rattle.std.specs.List.{AllWithin, HoldsAt, range_with_len}
+use Rattle.std.proofs.lemmas.Iterator.{cases_from_all, serves_from_Range, YieldsList-from_range}
+use Rattle.std.proofs.lemmas.List.FromFn.{length-range_with_len, get_or-range_with_len}
 use Rattle.dag_round_keys.specs.Key.{before}
-use Rattle.dag_round_keys.specs.Sorted.{key_at, sorted_is, sorted_not, sorted_more}
-use borrow.Author.Rules.{rules}
+use Rattle.dag_round_keys.specs.Sorted.{Sorted, key_at, is_sorted, sorted_is, sorted_not, sorted_more}
 use Rattle.dag_round_keys.proofs.sorted.Goals as goal
 
-pub loop-k-init : goal.loop-k-init
-loop-k-init c = (search rules, λ a b l m. absurd (omega arith))
+-- neighbours that rise are enough
+rising : (ks o : List ℕ) (n : ℕ) → ((k : ℕ) → 0 < k → k < n → before (key_at ks o (k - 1)) (key_at ks o k) ≡ true) → Sorted ks o n
+rising ks o zero h a b l m = absurd (omega arith)
+rising ks o (suc zero) h a b l m = absurd (omega arith)
+rising ks o (suc (suc n)) h a b l m =
+    sorted_more ks o (suc n) (omega arith) (rising ks o (suc n) (λ k i j. h k i (omega arith))) (h (suc n) (omega arith) (omega arith)) a b l (omega arith)
 
-pub less-requires : goal.less-requires
-less-requires c =
-    let k = c.loop-k.k in
-    let low : get_or c.args.order.now (k - 1) 0 < length c.args.keys.now / 8 = c.requires.1 (k - 1) (omega arith) in
-    let high : get_or c.args.order.now k 0 < length c.args.keys.now / 8 = c.requires.1 k (omega arith) in
-    search rules
+-- what the test of the neighbours says
+neighbours : (ks o : List ℕ) (n : ℕ) (r : Bool) → MatchBool r (AllWithin (λ k. before (key_at ks o (k - 1)) (key_at ks o k) ≡ true) (range_with_len 1 (n - 1)) 0 (length (range_with_len 1 (n - 1)))) ((x : ℕ) × (x < length (range_with_len 1 (n - 1))) × HoldsAt (λ k. before (key_at ks o (k - 1)) (key_at ks o k) ≡ false) (range_with_len 1 (n - 1)) x) → r ≡ is_sorted ks o n
+neighbours ks o n true h =
+    sym ((sorted_is ks o n).1 (rising ks o n (λ k l m.
+    let e : 1 + (k - 1) ≡ k = omega arith in
+    let i : k - 1 < n - 1 = omega arith in
+    rw (get_or-range_with_len 1 (n - 1) (k - 1) 0 i, e) at (h (k - 1) 0 (omega arith) (omega (arith, length-range_with_len 1 (n - 1)))))))
+neighbours ks o n false (x, l, h) =
+    let i : x < n - 1 = omega (arith, length-range_with_len 1 (n - 1)) in
+    sym (sorted_not ks o n (1 + x - 1) (1 + x) (omega arith) (omega arith) (rw (get_or-range_with_len 1 (n - 1) x 0 i) at (h 0)))
 
-pub returns-then-not-less : goal.returns-then-not-less
-returns-then-not-less c =
+pub all-requires-clause-callable : goal.all-requires-clause-callable
+all-requires-clause-callable c =
     let a = c.args in
-    let k = c.loop-k.k in
-    let no = not-true c.less.result c.if-not-less.true-raw in
-    let h : before (key_at a.keys.now a.order.now (k - 1)) (key_at a.keys.now a.order.now k) ≡ false = cc in
-    sym (sorted_not _ _ _ _ _ (omega arith) (omega arith) h)
-
-pub loop-k-preserved : goal.loop-k-preserved
-loop-k-preserved c =
-    let a = c.args in
-    let l = c.loop-k in
-    let yes = not-false c.less.result c.if-not-less.false-raw in
-    let h : before (key_at a.keys.now a.order.now (l.k - 1)) (key_at a.keys.now a.order.now l.k) ≡ true = cc in
-    (search rules, sorted_more a.keys.now a.order.now l.k l.invariant.0 l.invariant.1 h)
+    serves_from_Range (λ x q k. search (rules, tests))
+    (λ k l m.
+    let low : get_or a.order.now (k - 1) 0 < length a.keys.now / 8 = c.requires.1 (k - 1) (omega arith) in
+    let high : get_or a.order.now k 0 < length a.keys.now / 8 = c.requires.1 k (omega arith) in
+    search (rules, low, high))
 
 pub returns : goal.returns
-returns c = sym ((sorted_is _ _ _).1 (λ a b l m. c.loop-k.invariant.1 a b l (omega arith)))
+returns c =
+    let a = c.args in
+    let ks = a.keys.now in
+    let o = a.order.now in
+    neighbours ks o a.n c.all.result
+    (cases_from_all _ _ c.all.result (λ k. before (key_at ks o (k - 1)) (key_at ks o k) ≡ true) (λ k. before (key_at ks o (k - 1)) (key_at ks o k) ≡ false) c.all.ensures.ran (YieldsList-from_range 1 a.n (a.n - 1) refl refl) (λ x q k. search (rules, tests)) (λ x q k. search (rules, tests)))

@@ -1,17 +1,9 @@
-use mathlib.Core.Path.{refl, ◌∙◌}
-use lib.ListN.{length-set}
-use borrow.Author.Rules.{rules}
-use Rattle.dag_round_keys.specs.Fill.{filled, filled_more, filled_end}
+use Rattle.std.proofs.Common.{arith}
+use Rattle.std.proofs.lemmas.List.{places}
+use Rattle.dag_round_keys.proofs.Parts.{part_filled}
 use Rattle.dag_round_keys.proofs.zero_words.Goals as goal
 
-pub loop-i-init : goal.loop-i-init
-unfolding filled
-loop-i-init c = (search rules, refl, refl)
-
-pub loop-i-preserved : goal.loop-i-preserved
-loop-i-preserved c =
-    let l = c.loop-i in
-    (search rules, length-set l.t _ _ ∙ l.invariant.1, filled_more _ _ _ _ _ l.invariant.2)
-
 pub returns : goal.returns
-returns c = filled_end _ _ _ _ _ _ c.loop-i.invariant.2 c.loop-i.invariant.0 c.loop-i-test.false
+returns c =
+    let a = c.args in
+    part_filled a.t.now c.fill.new.self a.from a.n _ c.requires (omega arith) (grind (arith, places)) _ (λ i l. grind (arith, places))

@@ -1,50 +1,33 @@
-use Prim.Native.Nat.{◌<◌}
-use mathlib.Core.Path.{◌≡◌, sym, ◌∙◌}
-use mathlib.Core.Bool.{true, false}
-use native.Mathlib.Omega.{arith}
-use lib.ListN.{get_or, get_or-replicate}
-use borrow.Author.Tests.{not-true, not-false}
-use borrow.Author.Count.{below_more}
-use Rattle.dag_round_order.specs.Free.{used_none, used_more, free-here, free-none}
-use borrow.Author.Rules.{rules}
+use Rattle.std.proofs.Common.{ℕ, ◌<◌, ◌≡◌, List, Bool, true, false, Option, Some, None, MatchOption, EachIndex, unwrap_or, take, length, get_or, refl, sym, ◌∙◌, arith, rules}
+use Rattle.std.proofs.lemmas.List.{get_or-take, length-take-le, get_or-replicate}
 use Rattle.models.specs.Tables.{is_used}
+use Rattle.dag_round_order.specs.Free.{first_free, used_none, used_more, free-here, free-none}
 use Rattle.dag_round_order.proofs.free_place.Goals as goal
 
-pub loop-p-init : goal.loop-p-init
-loop-p-init c = (search rules, search rules, λ s l. get_or-replicate 4096 s false false l ∙ sym (used_none _ s))
+pub loop-cell-init : goal.loop-cell-init
+loop-cell-init c = (refl, λ s l. get_or-replicate 4096 s false false l ∙ sym (used_none _ s))
 
-pub bounds-seen-s : goal.bounds-seen-s
-bounds-seen-s c =
-    let p = c.loop-p.p in
-    let h : get_or c.args.order.now p 0 < c.args.places = c.requires.1.1 p (omega arith) in
-    search rules
-
-pub loop-p-preserved : goal.loop-p-preserved
-loop-p-preserved c =
+pub loop-cell-preserved : goal.loop-cell-preserved
+loop-cell-preserved c =
     let a = c.args in
-    let l = c.loop-p in
-    let h : get_or a.order.now l.p 0 < a.places = c.requires.1.1 l.p (omega arith) in
-    (search rules, search rules, λ s b. rw c.slot-s.ensures (used_more a.order.now l.seen l.p s (omega arith) (l.invariant.2 s b)))
+    let i = c.loop-cell.cell-index in
+    let k : i < a.n = omega (arith, length-take-le a.n a.order.now c.requires.0) in
+    let s : c.slot.result ≡ get_or a.order.now i 0 = c.slot.ensures ∙ get_or-take a.n a.order.now i 0 k in
+    let h = c.requires.1.1 i k in
+    (search rules, λ q b. rw s (used_more a.order.now c.loop-cell.seen i q (omega (arith, c.loop-cell.invariant.0)) (c.loop-cell.invariant.1 q b)))
 
-pub loop-s-init : goal.loop-s-init
-loop-s-init c = (search rules, λ j l. absurd (omega arith))
-
-pub returns-then-not-seen-s : goal.returns-then-not-seen-s
-returns-then-not-seen-s c =
-    let l = c.loop-s in
-    let e : c.loop-p.p ≡ c.args.n = omega arith in
-    let h : is_used c.args.order.now c.args.n l.s ≡ false = rw (sym e, sym (c.loop-p.invariant.2 l.s (omega arith))) (not-true _ c.if-not-seen-s.true-raw) in
-    sym (free-here c.args.order.now c.args.n c.args.places l.s (omega arith) h l.invariant.1)
-
-pub loop-s-preserved : goal.loop-s-preserved
-loop-s-preserved c =
-    let l = c.loop-s in
-    let e : c.loop-p.p ≡ c.args.n = omega arith in
-    let h : is_used c.args.order.now c.args.n l.s ≡ true = rw (sym e, sym (c.loop-p.invariant.2 l.s (omega arith))) (not-false _ c.if-not-seen-s.false-raw) in
-    (search rules, below_more _ _ l.invariant.1 h)
+-- the first cell that is not marked is the first free place
+free_from : (o : List ℕ) (n places : ℕ) (xs : List Bool) (r : Option ℕ) → length xs ≡ places → ((s : ℕ) → s < places → get_or xs s false ≡ is_used o n s) → MatchOption r (EachIndex xs (λ k. get_or xs k false ≡ true)) (λ i. (i < length xs) × (get_or xs i false ≡ false) × ((k : ℕ) → k < i → get_or xs k false ≡ true)) → unwrap_or r places ≡ first_free o n places
+free_from o n places xs None l m h = sym (free-none o n places (λ s b. sym (m s b) ∙ h s (omega arith)))
+free_from o n places xs (Some i) l m h =
+    let b : i < places = omega (arith, h.0) in
+    sym (free-here o n places i b (sym (m i b) ∙ h.1) (λ j d. sym (m j (omega arith)) ∙ h.2 j d))
 
 pub returns : goal.returns
 returns c =
-    let l = c.loop-s in
-    let e : l.s ≡ c.args.places = omega arith in
-    rw e (sym (free-none c.args.order.now c.args.n c.args.places (λ s m. l.invariant.1 s (omega arith))))
+    let a = c.args in
+    let xs = take a.places c.loop-cell.seen in
+    let len = length-take-le a.places c.loop-cell.seen (omega (arith, c.loop-cell.invariant.0)) in
+    let e : c.loop-cell.cell-index ≡ a.n = omega (arith, length-take-le a.n a.order.now c.requires.0) in
+    let h : MatchOption c.position.result (EachIndex xs (λ k. get_or xs k false ≡ true)) (λ i. (i < length xs) × (get_or xs i false ≡ false) × ((k : ℕ) → k < i → get_or xs k false ≡ true)) = search rules in
+    c.unwrap_or.ensures ∙ free_from a.order.now a.n a.places xs c.position.result len (λ s b. get_or-take a.places c.loop-cell.seen s false b ∙ (rw e at (c.loop-cell.invariant.1 s (omega arith)))) h

@@ -1,32 +1,43 @@
-use mathlib.Core.Path.{◌≡◌, sym, ◌∙◌, ap}
-use native.Mathlib.Omega.{arith}
-use borrow.Author.Rules.{rules}
-use Rattle.laws.specs.Scan.{those, those_most}
-use Rattle.dag_round_points.specs.Model.{is_version, version_at, count_yes, count_no}
+use Rattle.std.proofs.Common.{ℕ, zero, suc, ◌+◌, ◌*◌, ◌<◌, ◌≤◌, ◌≡◌, ◌∙◌, List, Bool, length, take, get_or, refl, add-one, arith, rules}
+use borrow.Author.Tests.{tests}
+use Rattle.std.specs.List.{filter}
+use Rattle.std.proofs.lemmas.List.{get_or_default, get_or-take, length-take-le}
+use Rattle.std.proofs.lemmas.List.Sums.{length-filter, count_by_more_yes, count_by_more_no}
+use Rattle.std.proofs.lemmas.Iterator.{YieldsList-from_slice}
+use Rattle.std.proofs.lemmas.Iterator.Adapters.{serves_from_places}
+use Rattle.std.proofs.lemmas.Iterator.Consumers.{count_from_yields_List, YieldsList-from_filter}
+use Rattle.laws.specs.Test.{by_test}
+use Rattle.laws.specs.Scan.{those, those-yes, those_no}
+use Rattle.dag_round_points.specs.Model.{is_version}
 use Rattle.dag_round_points.proofs.versions.Goals as goal
-use Rattle.dag_round_points.proofs.versions.Goals.{then-is_version, else-is_version}
 
-pub loop-i-init : goal.loop-i-init
+-- the cells of the first n that pass are as many as their positions
+as_many : (o : List ℕ) (p : ℕ → Bool) (n : ℕ) → n ≤ length o → length (filter p (take n o)) ≡ length (those n (λ i. p (get_or o i 0)))
 unfolding those
-loop-i-init c = search rules
+as_many o p zero l = refl
+as_many o p (suc n) l =
+    let h = as_many o p n (omega arith) in
+    let a = length-filter p (take (suc n) o) in
+    let b = length-filter p (take n o) in
+    by_test (p (get_or o n 0))
+    (λ t. let e = rw (add-one n) at (count_by_more_yes p o n 0 l t) in omega (arith, h, a, b, e, those-yes n (λ i. p (get_or o i 0)) t))
+    (λ t. let e = rw (add-one n) at (count_by_more_no p o n 0 l t) in omega (arith, h, a, b, e, those_no n (λ i. p (get_or o i 0)) t))
 
-pub overflow_add-count : goal.overflow_add-count
-overflow_add-count c =
-    let l = c.loop-i in
-    let a = c.args in
-    omega (arith, l.invariant.1, those_most l.i (version_at a.keys.now a.order.now a.round.0 a.author))
-
-pub loop-i-preserved : goal.loop-i-preserved
-loop-i-preserved c =
-    let l = c.loop-i in
-    let a = c.args in
-    let f = version_at a.keys.now a.order.now a.round.0 a.author in
-    let e = c.is_version.ensures ∙ ap (is_version a.keys.now a.round.0 a.author) c.place-q.ensures.value in
-    elim c.if-is_version.branch [ then-is_version w ↦ (search rules, w.count-is ∙ count_yes f l.i l.count l.invariant.1 (sym e ∙ w.if-is_version.true)) | else-is_version w ↦ (search rules, w.count-is ∙ count_no f l.i l.count l.invariant.1 (sym e ∙ w.if-is_version.false)) ]
+pub count-requires-clause-can : goal.count-requires-clause-can
+count-requires-clause-can c =
+    let a = c.args in (
+      tt,
+      tt,
+      serves_from_places (YieldsList-from_slice (take a.n a.order.now) cc) (λ x q k. search (rules, tests)) (λ x k l e.
+          let i : k < a.n = omega (arith, length-take-le a.n a.order.now c.requires.keys_len.1) in
+          let b : x.now < length a.order.now = omega (arith, e, get_or-take a.n a.order.now k x.now i, get_or_default a.order.now k x.now 0 (omega (arith, c.requires.keys_len)), c.requires.inside k i) in
+          let w : x.now * 8 + 8 ≤ length a.keys.now = omega (arith, c.requires.keys_len) in
+          search (rules, w)),
+    )
 
 pub returns : goal.returns
 returns c =
-    let l = c.loop-i in
     let a = c.args in
-    let e : l.i ≡ a.n = omega arith in
-    rw e at l.invariant.1
+    let p = is_version a.keys.now a.round.0 a.author in
+    count_from_yields_List c.filter.result c.count.result c.count.ensures.ran (YieldsList-from_filter _ p (YieldsList-from_slice (take a.n a.order.now) cc) c.filter.ensures.closure (λ x r q k. search (rules, tests)))
+    ∙ as_many a.order.now p a.n c.requires.keys_len.1

@@ -3,16 +3,16 @@ use borrow.Author.Rules.{rules}
 use Rattle.info_checks.proofs.rises.Goals as goal
 
 pub loop-i-init : goal.loop-i-init
-loop-i-init c = (search rules, search rules, rise_start _ _ _)
+loop-i-init c = (search rules, rise_start _ _ _)
 
 pub returns-then-next-low : goal.returns-then-next-low
-returns-then-next-low c = rise_low _ _ _ _ _ c.loop-i.invariant.2 c.loop-i-test.true _ c.peer-next.ensures c.if-next-low.true
+returns-then-next-low c = rise_low _ _ _ _ _ c.loop-i.invariant.1 c.loop-i-test.true _ c.peer-next.ensures c.if-next-low.true
 
 pub returns-then-next-ge-PEER_SLOTS_WORD : goal.returns-then-next-ge-PEER_SLOTS_WORD
-returns-then-next-ge-PEER_SLOTS_WORD c = rise_high _ _ _ _ _ c.loop-i.invariant.2 c.loop-i-test.true _ c.peer-next.ensures c.if-next-low.false c.if-next-ge-PEER_SLOTS_WORD.true
+returns-then-next-ge-PEER_SLOTS_WORD c = rise_high _ _ _ _ _ c.loop-i.invariant.1 c.loop-i-test.true _ c.peer-next.ensures c.if-next-low.false c.if-next-ge-PEER_SLOTS_WORD.true
 
 pub loop-i-preserved : goal.loop-i-preserved
-loop-i-preserved c = (search rules, search rules, rise_more _ _ _ _ _ c.loop-i.invariant.2 c.loop-i-test.true _ c.peer-next.ensures c.if-next-low.false c.if-next-ge-PEER_SLOTS_WORD.false)
+loop-i-preserved c = (search rules, rise_more _ _ _ _ _ c.loop-i.invariant.1 c.loop-i-test.true _ c.peer-next.ensures c.if-next-low.false c.if-next-ge-PEER_SLOTS_WORD.false)
 
 pub returns : goal.returns
-returns c = rise_end _ _ _ _ _ c.loop-i.invariant.2 c.loop-i-test.false
+returns c = rise_end _ _ _ _ _ c.loop-i.invariant.1 c.loop-i-test.false

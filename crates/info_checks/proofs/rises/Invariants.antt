@@ -4,7 +4,4 @@ use Rattle.info_checks.specs.Form.{rises_from}
 use Rattle.info_checks.proofs.rises.Given as goal
 
 abbrev pub invariant-loop-i : goal.invariant-loop-i
-invariant-loop-i l = (l.i ≤ l.m) × (l.low ≤ 32) × (rises_from l.refs 0 l.from l.m ≡ rises_from l.refs l.low (l.from + l.i) (l.m - l.i))
-
-abbrev pub decreases-loop-i : goal.decreases-loop-i
-decreases-loop-i l = l.m - l.i
+invariant-loop-i l = (l.low ≤ 32) × (rises_from l.refs 0 l.from l.m ≡ rises_from l.refs l.low (l.from + l.i) (l.m - l.i))

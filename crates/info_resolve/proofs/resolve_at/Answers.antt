@@ -19,9 +19,9 @@ set_deps-requires c =
 pub traverse_certify-requires : goal.traverse_certify-requires
 traverse_certify-requires c =
     let a = c.args in
-    let told = placed_by a.s a.keys.now a.links.now a.certs.now a.order.now a.q a.info a.refs.now _ _ _ c.store_info.ensures.keys c.store_info.ensures.links c.set_deps.ensures c.requires.resolvable in record { keys_len = told.0; placed = told.1 }
+    let told = placed_by a.s.now a.keys.now a.links.now a.certs.now a.order.now a.q a.info a.refs.now _ _ _ c.store_info.ensures.keys c.store_info.ensures.links c.set_deps.ensures c.requires.resolvable in record { keys_len = told.0; placed = told.1 }
 
 pub returns : goal.returns
 returns c =
     let a = c.args in
-    record { keys = c.store_info.ensures.keys; links = c.store_info.ensures.links; certs = settled_by a.s a.keys.now a.links.now a.certs.now a.order.now a.q a.info a.refs.now _ _ _ _ c.store_info.ensures.keys c.store_info.ensures.links c.set_deps.ensures c.traverse_certify.ensures }
+    record { keys = c.store_info.ensures.keys; links = c.store_info.ensures.links; certs = settled_by a.s.now a.keys.now a.links.now a.certs.now a.order.now a.q a.info a.refs.now _ _ _ _ c.store_info.ensures.keys c.store_info.ensures.links c.set_deps.ensures c.traverse_certify.ensures }

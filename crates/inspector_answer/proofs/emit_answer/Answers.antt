@@ -10,25 +10,25 @@ pub emit_all_faults-faults-requires : goal.emit_all_faults-faults-requires
 emit_all_faults-faults-requires c =
     let a = c.args in
     let p = c.requires in
-    let fk : Fit a.keys.now = λ i. (c.shared_slice_known-1.given i).fits in
-    let fl : Fit a.links.now = λ i. (c.shared_slice_known-2-1.given i).fits in
+    let fk : Fit a.dag.now.keys.now = a.dag.now.keys_fit in
+    let fl : Fit a.dag.now.links.now = a.dag.now.links_fit in
     let q = p.first_value in
-    record { order_value = p.order_value; first_value = q; ready = answer-faults a.s a.keys.now a.links.now a.certs.now a.order.now fk fl p.order_value a.low.0 q.1 _ _ (head_length _ _) p.low_in_bounds _ _ c.emit_head-at.ensures _ refl refl }
+    record { order_value = p.order_value; first_value = q; ready = answer-faults a.dag.now.state.now a.dag.now.keys.now a.dag.now.links.now a.dag.now.certs.now a.dag.now.order.now fk fl p.order_value a.low.0 q.1 _ _ (head_length _ _) p.low_in_bounds _ _ c.emit_head-at.ensures _ refl refl }
 
 pub emit_signer_rounds-requires : goal.emit_signer_rounds-requires
 emit_signer_rounds-requires c =
     let a = c.args in
     let p = c.requires in
-    let fk : Fit a.keys.now = λ i. (c.shared_slice_known-1.given i).fits in
-    let fl : Fit a.links.now = λ i. (c.shared_slice_known-2-1.given i).fits in
+    let fk : Fit a.dag.now.keys.now = a.dag.now.keys_fit in
+    let fl : Fit a.dag.now.links.now = a.dag.now.links_fit in
     let q = p.first_value in
-    record { order_value = p.order_value; first_value = q; signers_hold = p.signers_hold; ready = answer_owed a.s a.keys.now a.links.now a.certs.now a.order.now fk fl p.order_value a.low.0 q.1 _ _ (head_length _ _) p.low_in_bounds _ _ c.emit_head-at.ensures _ refl refl _ _ c.emit_all_faults-faults.ensures }
+    record { order_value = p.order_value; first_value = q; signers_hold = p.signers_hold; ready = answer_owed a.dag.now.state.now a.dag.now.keys.now a.dag.now.links.now a.dag.now.certs.now a.dag.now.order.now fk fl p.order_value a.low.0 q.1 _ _ (head_length _ _) p.low_in_bounds _ _ c.emit_head-at.ensures _ refl refl _ _ c.emit_all_faults-faults.ensures }
 
 pub returns : goal.returns
 returns c =
     let a = c.args in
     let p = c.requires in
-    let fk : Fit a.keys.now = λ i. (c.shared_slice_known-1.given i).fits in
-    let fl : Fit a.links.now = λ i. (c.shared_slice_known-2-1.given i).fits in
+    let fk : Fit a.dag.now.keys.now = a.dag.now.keys_fit in
+    let fl : Fit a.dag.now.links.now = a.dag.now.links_fit in
     let q = p.first_value in
-    answer-written a.s a.keys.now a.links.now a.certs.now a.order.now fk fl p.order_value a.low.0 q.1 _ _ (head_length _ _) p.low_in_bounds _ _ c.emit_head-at.ensures _ refl refl _ _ c.emit_all_faults-faults.ensures _ _ c.emit_signer_rounds.ensures
+    answer-written a.dag.now.state.now a.dag.now.keys.now a.dag.now.links.now a.dag.now.certs.now a.dag.now.order.now fk fl p.order_value a.low.0 q.1 _ _ (head_length _ _) p.low_in_bounds _ _ c.emit_head-at.ensures _ refl refl _ _ c.emit_all_faults-faults.ensures _ _ c.emit_signer_rounds.ensures

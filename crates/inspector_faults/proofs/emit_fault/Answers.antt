@@ -1,12 +1,7 @@
-use mathlib.Core.Path.{◌≡◌, subst}
-use mathlib.Core.Logic.{◌⊎◌, ⊎_elim}
-use native.Mathlib.Omega.{arith}
-use denote.Enum.Declared.{tag_of}
-use Rattle.inspector_faults.specs.Faults.{Single, fork_counts, singles_ready, singles-told, forks_ready, forks_told, none_told}
-use Rattle.inspector_faults.specs.declared.Fault.{Fault}
+use mathlib.Core.Path.{◌≡◌}
+use Rattle.inspector_faults.specs.Faults.{fork_counts, singles_ready, singles-told, forks_ready, forks_told, none_told}
 use Rattle.inspector_faults.specs.declared.Fault.TheVariants as fault
 use borrow.Author.Rules.{rules}
-use Rattle.inspector_faults.specs.contracts.Fault.{the_type}
 use Rattle.inspector_faults.proofs.emit_fault.Goals as goal
 
 pub returns-then-n-eq0 : goal.returns-then-n-eq0

@@ -1,16 +1,13 @@
-use Prim.Native.Nat.{◌+◌, ◌-◌, ◌≤◌}
 use mathlib.Core.Path.{refl}
 use native.Mathlib.Omega.{arith}
-use Rattle.laws.specs.Lists.{up_to}
-use Rattle.spec.specs.Inspect.{event_bytes}
-use Rattle.inspector_events.specs.Told.{Told, told-length, upto_none, upto_more, upto_ready, upto_end}
+use Rattle.inspector_events.specs.Told.{upto_none, upto_more, upto_ready, upto_end}
 use Rattle.inspector_counters.specs.Count.{span_range}
-use Rattle.inspector_faults.specs.Faults.{round_faults, round_ready, round-told}
+use Rattle.inspector_faults.specs.Faults.{round_ready, round-told}
 use borrow.Author.Rules.{rules}
 use Rattle.inspector_faults.proofs.emit_fault_rounds.Goals as goal
 
 pub loop-k-init : goal.loop-k-init
-loop-k-init c = (search rules, upto_none _ _ _ _ _)
+loop-k-init c = upto_none _ _ _ _ _
 
 pub plus-round-requires : goal.plus-round-requires
 plus-round-requires c = let h = c.requires.by_index c.loop-k.k c.loop-k-test.true in search rules
@@ -27,12 +24,12 @@ emit_faults-out-requires c =
     let a = c.args in
     let l = c.loop-k in
     let x = c.span_at-span.ensures in
-    record { range = (span_range a.keys.now a.certs.now a.order.now a.n _ _ x p.sorted.0 p.keys_len.1 p.sorted.1 p.sorted.2 p.keys_len.2, p.keys_len.0); ready = round_ready _ _ _ _ _ _ _ c.plus-round.ensures _ x _ _ _ (upto_ready _ _ _ _ _ l.k _ _ l.invariant.1 _ c.loop-k-test.true p.ready) }
+    record { range = (span_range a.dag.now.keys.now a.dag.now.certs.now a.dag.now.order.now a.n _ _ x p.sorted.0 p.keys_len.1 p.sorted.1 p.sorted.2 p.keys_len.2, p.keys_len.0); ready = round_ready _ _ _ _ _ _ _ c.plus-round.ensures _ x _ _ _ (upto_ready _ _ _ _ _ l.k _ _ l.invariant _ c.loop-k-test.true p.ready) }
 
 pub loop-k-preserved : goal.loop-k-preserved
 loop-k-preserved c =
     let l = c.loop-k in
-    (search rules, upto_more _ _ _ _ _ _ _ _ l.invariant.1 _ _ _ _ (round-told _ _ _ _ _ _ _ c.plus-round.ensures _ c.span_at-span.ensures _ _ _ _ _ c.emit_faults-out.ensures) refl refl)
+    upto_more _ _ _ _ _ _ _ _ l.invariant _ _ _ _ (round-told _ _ _ _ _ _ _ c.plus-round.ensures _ c.span_at-span.ensures _ _ _ _ _ c.emit_faults-out.ensures) refl refl
 
 pub returns : goal.returns
-returns c = upto_end _ _ _ _ _ _ _ _ c.loop-k.invariant.1 _ (omega arith)
+returns c = upto_end _ _ _ _ _ _ _ _ c.loop-k.invariant _ (omega arith)

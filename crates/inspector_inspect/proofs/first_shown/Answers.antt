@@ -6,11 +6,11 @@ pub plus-requires : goal.plus-requires
 plus-requires c =
     let a = c.args in
     let p = c.requires in
-    let fk : Fit a.keys.now = λ i. (c.shared_slice_known-1.given i).fits in
-    let fl : Fit a.links.now = λ i. (c.shared_slice_known-2-1.given i).fits in
-    genesis-fits a.s a.keys.now a.links.now a.certs.now a.order.now fk fl p
+    let fk : Fit a.dag.now.keys.now = a.dag.now.keys_fit in
+    let fl : Fit a.dag.now.links.now = a.dag.now.links_fit in
+    genesis-fits a.dag.now.state.now a.dag.now.keys.now a.dag.now.links.now a.dag.now.certs.now a.dag.now.order.now fk fl p
 
 pub returns : goal.returns
 returns c =
     let a = c.args in
-    shown-first a.s a.keys.now a.links.now a.certs.now a.order.now _ _ _ c.plus.ensures c.max.ensures c.max-2.ensures
+    shown-first a.dag.now.state.now a.dag.now.keys.now a.dag.now.links.now a.dag.now.certs.now a.dag.now.order.now _ _ _ c.plus.ensures c.max.ensures c.max-2.ensures

@@ -8,7 +8,7 @@ pub active-both-requires : goal.active-both-requires
 active-both-requires c = let p = c.requires in record { m_in_bounds = (p.m_in_bounds.0, p.m_in_bounds.2); by_index = (λ j l. ((p.by_index j l).0, (p.by_index j l).2)); by_index_2 = p.by_index_2 }
 
 pub loop-k-init : goal.loop-k-init
-loop-k-init c = (search rules, cells_none _)
+loop-k-init c = cells_none _
 
 pub exclude_witness-requires : goal.exclude_witness-requires
 exclude_witness-requires c =
@@ -18,7 +18,7 @@ exclude_witness-requires c =
 pub loop-k-preserved : goal.loop-k-preserved
 loop-k-preserved c =
     let l = c.loop-k in
-    (search rules, cells_more _ l.k l.signers l.sets _ _ _ l.invariant.1 (omega arith) (cell_by _ _ _ _ _ _ _ _ _ _ _ c.exclude_witness.ensures c.active-both.ensures) refl refl)
+    cells_more _ l.k l.signers l.sets _ _ _ l.invariant (omega arith) (cell_by _ _ _ _ _ _ _ _ _ _ _ c.exclude_witness.ensures c.active-both.ensures) refl refl
 
 pub returns : goal.returns
-returns c = let l = c.loop-k in cells_end _ l.k _ _ _ l.invariant.1 l.invariant.0 c.loop-k-test.false
+returns c = let l = c.loop-k in cells_end _ l.k _ _ _ l.invariant (search rules) c.loop-k-test.false

@@ -1,15 +1,24 @@
-use Rattle.inspector_not_referenced.specs.Signers.{skipped_none, skipped_yes, skipped_no, skipped_end}
-use borrow.Author.Rules.{rules}
+use Rattle.std.proofs.Common.{◌≡◌, ◌∙◌, ◌≤◌, ℕ, zero, suc, List, length, get_or, take, Bool, refl, sym, ap, add-one, arith, rules}
+use Rattle.std.specs.Prelude.{count_by}
+use Rattle.std.proofs.lemmas.List.Sums.{count_by_more_yes, count_by_more_no}
+use Rattle.laws.specs.Test.{by_test}
+use Rattle.laws.specs.Scan.{those, those-yes, those_no}
+use Rattle.laws.specs.Peers.{member}
+use Rattle.inspector_not_referenced.specs.Signers.{skipped_by}
 use Rattle.inspector_not_referenced.proofs.references_skipped.Goals as goal
-use Rattle.inspector_not_referenced.proofs.references_skipped.Goals.{then-set-a-eq1, else-set-a-eq1}
 
-pub loop-k-init : goal.loop-k-init
-loop-k-init c = (search rules, search rules, skipped_none _ _)
-
-pub loop-k-preserved : goal.loop-k-preserved
-loop-k-preserved c =
-    let l = c.loop-k in
-    elim c.if-set-a-eq1.branch [ then-set-a-eq1 w ↦ (search rules, search rules, skipped_yes _ _ l.k l.found _ l.invariant.2 w.if-set-a-eq1.true w.found-is) | else-set-a-eq1 w ↦ (search rules, search rules, skipped_no _ _ l.k l.found _ l.invariant.2 w.if-set-a-eq1.false w.found-is) ]
+-- as many of the first n elements pass as numbers below n
+count_those : (p : ℕ → Bool) (l : List ℕ) (n : ℕ) → n ≤ length l → count_by p (take n l) ≡ length (those n (λ k. p (get_or l k 0)))
+unfolding those
+count_those p l zero h = refl
+count_those p l (suc n) h =
+    let r : count_by p (take n l) ≡ length (those n (λ k. p (get_or l k 0))) = count_those p l n (omega arith) in
+    by_test (p (get_or l n 0))
+    (λ t. rw (add-one n) at (count_by_more_yes p l n 0 (omega arith) t) ∙ (add-one _ ∙ (ap suc r ∙ sym (those-yes n (λ k. p (get_or l k 0)) t))))
+    (λ t. rw (add-one n) at (count_by_more_no p l n 0 (omega arith) t) ∙ (r ∙ sym (those_no n (λ k. p (get_or l k 0)) t)))
 
 pub returns : goal.returns
-returns c = let l = c.loop-k in skipped_end _ _ l.k _ _ l.invariant.2 l.invariant.0 c.loop-k-test.false
+unfolding skipped_by member
+returns c =
+    let e : c.count-found.result ≡ count_by (λ x. member x c.args.a) (take c.args.n c.args.sets.now) = search rules in
+    e ∙ count_those (λ x. member x c.args.a) c.args.sets.now c.args.n c.requires.0

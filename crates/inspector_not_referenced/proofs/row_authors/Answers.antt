@@ -7,15 +7,15 @@ use borrow.Author.Rules.{rules}
 use Rattle.inspector_not_referenced.proofs.row_authors.Goals as goal
 
 pub loop-k-init : goal.loop-k-init
-loop-k-init c = (search rules, union_none _ _)
+loop-k-init c = union_none _ _
 
 pub with_peer-peers-requires : goal.with_peer-peers-requires
 with_peer-peers-requires c = c.requires.by_index _ c.loop-k-test.true
 
 pub loop-k-preserved : goal.loop-k-preserved
 unfolding with_peer
-loop-k-preserved c = let l = c.loop-k in (search rules, union_yes _ _ l.k l.peers _ l.invariant.1 true refl _ refl refl c.with_peer-peers.ensures)
+loop-k-preserved c = let l = c.loop-k in union_yes _ _ l.k l.peers _ l.invariant true refl _ refl refl c.with_peer-peers.ensures
 
 pub returns : goal.returns
 unfolding row_authors
-returns c = let l = c.loop-k in union_end _ _ l.k _ _ l.invariant.1 l.invariant.0 c.loop-k-test.false
+returns c = let l = c.loop-k in union_end _ _ l.k _ _ l.invariant (search rules) c.loop-k-test.false

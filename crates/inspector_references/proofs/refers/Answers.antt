@@ -1,21 +1,36 @@
-use mathlib.Core.Path.{refl, sym, ◌∙◌}
-use Rattle.laws.specs.Scan.{any, any_intro}
-use borrow.Author.Rules.{rules}
-use Rattle.info_checks.specs.Dangling.{none_more, none_end}
-use Rattle.inspector_references.specs.Refs.{refers_at}
+use Rattle.std.proofs.Common.{◌≡◌, ◌∙◌, ◌+◌, ℕ, zero, suc, Bool, ◌||◌, refl, sym, ap, arith, rules}
+use Rattle.std.specs.List.{list_any, range_with_len}
+use Rattle.std.proofs.lemmas.Iterator.{YieldsList-from_range}
+use Rattle.std.proofs.lemmas.Iterator.Search.{any_from_yields_List}
+use borrow.Author.Tests.{tests}
+use Rattle.laws.specs.Scan.{any, any_same, any-first}
+use Rattle.models.specs.Digest.{digest_at}
+use Rattle.inspector_references.specs.Refs.{refers_by, refers_at}
 use Rattle.inspector_references.proofs.refers.Goals as goal
 
-pub loop-k-init : goal.loop-k-init
+-- a test of the n numbers from a on
+any_range : (f : ℕ → Bool) (a n : ℕ) → list_any f (range_with_len a n) ≡ any n (λ k. f (a + k))
 unfolding any
-loop-k-init c = (search rules, refl)
+any_range f a zero = refl
+any_range f a (suc n) =
+    ap (λ z. f a || z) (any_range f (a + 1) n ∙ any_same n _ _ (λ i l. ap f (over i)))
+    ∙ (ap (λ z. f z || any n (λ k. f (a + suc k))) first ∙ sym (any-first n (λ k. f (a + k))))
+  where
+    first : a ≡ a + 0
+    first = omega arith
 
-pub returns-then-refers_by : goal.returns-then-refers_by
-unfolding refers_at
-returns-then-refers_by c = sym (any_intro _ _ _ c.loop-k-test.true (sym c.refers_by.ensures ∙ c.if-refers_by.true))
+    over : (i : ℕ) → a + 1 + i ≡ a + suc i
+    over i = omega arith
 
-pub loop-k-preserved : goal.loop-k-preserved
-loop-k-preserved c = (search rules, none_more _ _ c.loop-k.invariant.1 (sym c.refers_by.ensures ∙ c.if-refers_by.false))
+-- of the numbers below n
+any_below : (f : ℕ → Bool) (n : ℕ) → list_any f (range_with_len 0 n) ≡ any n f
+any_below f n = any_range f 0 n ∙ any_same n _ f (λ i l. ap f (zero_add i))
+  where
+    zero_add : (i : ℕ) → 0 + i ≡ i
+    zero_add i = omega arith
 
 pub returns : goal.returns
 unfolding refers_at
-returns c = none_end _ _ _ c.loop-k.invariant.1 c.loop-k.invariant.0 c.loop-k-test.false
+returns c =
+    let f : ℕ → Bool = λ k. refers_by c.args.links.now c.args.q (digest_at c.args.words.now c.args.p) (c.args.first + k) in
+    any_from_yields_List f _ _ c.any.result c.any.ensures.ran (YieldsList-from_range 0 32 32 refl refl) (λ x b q k. search (rules, tests)) ∙ any_below f 32

@@ -9,46 +9,46 @@ pub plus-round-requires : goal.plus-round-requires
 plus-round-requires c =
     let a = c.args in
     let p = c.requires in
-    let fk : Fit a.keys.now = λ i. (c.shared_slice_known-1.given i).fits in
-    let fl : Fit a.links.now = λ i. (c.shared_slice_known-2-1.given i).fits in
-    let l = next_low a.s a.keys.now a.links.now a.certs.now a.order.now fk fl p.order_value a.first.0 a.k p.first_value.0 p.first_value.1 in
+    let fk : Fit a.dag.now.keys.now = a.dag.now.keys_fit in
+    let fl : Fit a.dag.now.links.now = a.dag.now.links_fit in
+    let l = next_low a.dag.now.state.now a.dag.now.keys.now a.dag.now.links.now a.dag.now.certs.now a.dag.now.order.now fk fl p.order_value a.first.0 a.k p.first_value.0 p.first_value.1 in
     omega (arith, l)
 
 pub inspect-inspected-requires : goal.inspect-inspected-requires
 inspect-inspected-requires c =
     let a = c.args in
     let p = c.requires in
-    let fk : Fit a.keys.now = λ i. (c.shared_slice_known-1.given i).fits in
-    let fl : Fit a.links.now = λ i. (c.shared_slice_known-2-1.given i).fits in
-    let (l, h) = next_in a.s a.keys.now a.links.now a.certs.now a.order.now fk fl p.order_value a.first.0 a.k p.first_value.0 p.first_value.1 _ c.plus-round.ensures in
+    let fk : Fit a.dag.now.keys.now = a.dag.now.keys_fit in
+    let fl : Fit a.dag.now.links.now = a.dag.now.links_fit in
+    let (l, h) = next_in a.dag.now.state.now a.dag.now.keys.now a.dag.now.links.now a.dag.now.certs.now a.dag.now.order.now fk fl p.order_value a.first.0 a.k p.first_value.0 p.first_value.1 _ c.plus-round.ensures in
     record { order_value = p.order_value; bottom_le_round = (l, h, p.first_value.2) }
 
 pub merge_round-merged-requires : goal.merge_round-merged-requires
 merge_round-merged-requires c =
     let a = c.args in
     let p = c.requires in
-    let fk : Fit a.keys.now = λ i. (c.shared_slice_known-1.given i).fits in
-    let fl : Fit a.links.now = λ i. (c.shared_slice_known-2-1.given i).fits in
-    next_ready a.s a.keys.now a.links.now a.certs.now a.order.now fk fl p.order_value a.first.0 a.k p.first_value.0 p.first_value.1 (since_of a.stats_since) a.sum p.summed
+    let fk : Fit a.dag.now.keys.now = a.dag.now.keys_fit in
+    let fl : Fit a.dag.now.links.now = a.dag.now.links_fit in
+    next_ready a.dag.now.state.now a.dag.now.keys.now a.dag.now.links.now a.dag.now.certs.now a.dag.now.order.now fk fl p.order_value a.first.0 a.k p.first_value.0 p.first_value.1 (since_of a.stats_since) a.sum p.summed
 
 pub overflow_add-owed : goal.overflow_add-owed
 overflow_add-owed c =
     let a = c.args in
     let p = c.requires in
-    let fk : Fit a.keys.now = λ i. (c.shared_slice_known-1.given i).fits in
-    let fl : Fit a.links.now = λ i. (c.shared_slice_known-2-1.given i).fits in
+    let fk : Fit a.dag.now.keys.now = a.dag.now.keys_fit in
+    let fl : Fit a.dag.now.links.now = a.dag.now.links_fit in
     let x = c.inspect-inspected in
-    let l = next_owed a.s a.keys.now a.links.now a.certs.now a.order.now fk fl p.order_value a.first.0 a.k p.first_value.0 p.first_value.1 (since_of a.stats_since) a.sum p.summed _ c.plus-round.ensures x.result x.ensures.0 in
+    let l = next_owed a.dag.now.state.now a.dag.now.keys.now a.dag.now.links.now a.dag.now.certs.now a.dag.now.order.now fk fl p.order_value a.first.0 a.k p.first_value.0 p.first_value.1 (since_of a.stats_since) a.sum p.summed _ c.plus-round.ensures x.result x.ensures.0 in
     omega (arith, l.0)
 
 pub overflow_add-owed-2 : goal.overflow_add-owed-2
 overflow_add-owed-2 c =
     let a = c.args in
     let p = c.requires in
-    let fk : Fit a.keys.now = λ i. (c.shared_slice_known-1.given i).fits in
-    let fl : Fit a.links.now = λ i. (c.shared_slice_known-2-1.given i).fits in
+    let fk : Fit a.dag.now.keys.now = a.dag.now.keys_fit in
+    let fl : Fit a.dag.now.links.now = a.dag.now.links_fit in
     let x = c.inspect-inspected in
-    let l = next_owed a.s a.keys.now a.links.now a.certs.now a.order.now fk fl p.order_value a.first.0 a.k p.first_value.0 p.first_value.1 (since_of a.stats_since) a.sum p.summed _ c.plus-round.ensures x.result x.ensures.0 in
+    let l = next_owed a.dag.now.state.now a.dag.now.keys.now a.dag.now.links.now a.dag.now.certs.now a.dag.now.order.now fk fl p.order_value a.first.0 a.k p.first_value.0 p.first_value.1 (since_of a.stats_since) a.sum p.summed _ c.plus-round.ensures x.result x.ensures.0 in
     omega (arith, l.1)
 
 pub returns : goal.returns
@@ -56,7 +56,7 @@ unfolding record_of
 returns c =
     let a = c.args in
     let p = c.requires in
-    let fk : Fit a.keys.now = λ i. (c.shared_slice_known-1.given i).fits in
-    let fl : Fit a.links.now = λ i. (c.shared_slice_known-2-1.given i).fits in
+    let fk : Fit a.dag.now.keys.now = a.dag.now.keys_fit in
+    let fl : Fit a.dag.now.links.now = a.dag.now.links_fit in
     let x = c.inspect-inspected in
-    (next_added a.s a.keys.now a.links.now a.certs.now a.order.now fk fl p.order_value a.first.0 a.k p.first_value.0 p.first_value.1 (since_of a.stats_since) a.sum p.summed _ c.plus-round.ensures x.result x.ensures.0 _ c.is_since-counted.ensures _ c.merge_round-merged.ensures, x.ensures.1)
+    (next_added a.dag.now.state.now a.dag.now.keys.now a.dag.now.links.now a.dag.now.certs.now a.dag.now.order.now fk fl p.order_value a.first.0 a.k p.first_value.0 p.first_value.1 (since_of a.stats_since) a.sum p.summed _ c.plus-round.ensures x.result x.ensures.0 _ c.is_since-counted.ensures _ c.merge_round-merged.ensures, x.ensures.1)

@@ -2,7 +2,6 @@ use mathlib.Core.Path.{refl}
 use mathlib.Core.Bool.{false}
 use native.Mathlib.Omega.{arith}
 use Rattle.inspector_signers.specs.Signers.{row_ids, both_first, both-next, both-number, both-then, both_last, both_sent}
-use borrow.Author.Rules.{rules}
 use Rattle.inspector_signers.proofs.emit_blamed.Goals as goal
 
 pub emit_rows-then-requires : goal.emit_rows-then-requires

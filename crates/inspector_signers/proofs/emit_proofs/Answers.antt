@@ -1,7 +1,6 @@
 use mathlib.Core.Path.{refl}
 use native.Mathlib.Omega.{arith}
 use Rattle.inspector_signers.specs.Signers.{count_ready, list_number, list_ready, list_sent}
-use borrow.Author.Rules.{rules}
 use Rattle.inspector_signers.proofs.emit_proofs.Goals as goal
 
 pub emit_rows-counted-requires : goal.emit_rows-counted-requires

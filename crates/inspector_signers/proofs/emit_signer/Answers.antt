@@ -1,7 +1,6 @@
 use mathlib.Core.Path.{refl}
 use native.Mathlib.Omega.{arith}
 use Rattle.inspector_signers.specs.Signers.{signer_of, signer_count, signer_kind, signer_author, signer_blamed, signer_proofs, signer_told}
-use borrow.Author.Rules.{rules}
 use Rattle.inspector_signers.proofs.emit_signer.Goals as goal
 
 pub emit_number-a1-requires : goal.emit_number-a1-requires

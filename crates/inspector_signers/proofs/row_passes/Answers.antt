@@ -1,6 +1,5 @@
 use Rattle.laws.specs.Peers.{member}
 use Rattle.inspector_signers.specs.Signers.{row_proof, row-own}
-use borrow.Author.Rules.{rules}
 use Rattle.inspector_signers.proofs.row_passes.Goals as goal
 
 pub returns-then-proofs : goal.returns-then-proofs

@@ -1,20 +1,18 @@
-use mathlib.Core.Path.{refl}
-use native.Mathlib.Omega.{arith}
+use Rattle.std.proofs.Common.{refl, ◌≡◌, ◌<◌, ◌∙◌, get_or, arith}
+use Rattle.std.proofs.lemmas.List.{get_or-take, length-take-le}
 use Rattle.models.specs.Cert.{height_of}
-use Rattle.tables_heights.specs.Model.{pushed_all, all_more, all_end}
-use borrow.Author.Rules.{rules}
+use Rattle.tables_heights.specs.Model.{pushed_all, all_more}
 use Rattle.tables_heights.proofs.push_all.Goals as goal
 
-pub loop-i-init : goal.loop-i-init
+pub loop-cell-init : goal.loop-cell-init
 unfolding pushed_all
-loop-i-init c = (search rules, refl)
+loop-cell-init c = refl
 
-pub place-q-requires : goal.place-q-requires
-place-q-requires c = record { i_lt_n = search rules; inside = c.requires.inside }
-
-pub loop-i-preserved : goal.loop-i-preserved
+pub loop-cell-preserved : goal.loop-cell-preserved
 unfolding height_of
-loop-i-preserved c = (search rules, all_more _ _ _ _ _ _ _ _ _ _ _ _ c.loop-i.invariant.1 c.place-q.ensures.value c.live_links.ensures.value c.push_one.ensures)
-
-pub returns : goal.returns
-returns c = all_end _ _ _ _ _ _ _ _ _ _ c.loop-i.invariant.1 (omega arith) c.loop-i-test.false
+loop-cell-preserved c =
+    let a = c.args in
+    let i = c.loop-cell.cell-index in
+    let k : i < a.n = omega (arith, length-take-le a.n a.order.now (omega arith)) in
+    let s : c.slot-q.result ≡ get_or a.order.now i 0 = c.slot-q.ensures ∙ get_or-take a.n a.order.now i 0 k in
+    all_more _ _ _ _ _ _ _ _ _ _ _ _ c.loop-cell.invariant s c.live_links.ensures.value c.push_one.ensures

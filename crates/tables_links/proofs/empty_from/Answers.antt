@@ -1,21 +1,14 @@
-use mathlib.Core.Path.{sym, ◌∙◌}
-use native.Mathlib.Omega.{arith}
-use borrow.Author.Count.{below_more}
-use Rattle.laws.specs.Scan.{every_intro, every_not}
-use Rattle.tables_links.specs.Bare.{empty_from, empty_below, empty_more, empty_fails}
-use borrow.Author.Rules.{rules}
+use Rattle.std.proofs.Common.{◌-◌, ◌≡◌, ◌≢◌, refl, rules}
+use borrow.Author.Tests.{tests}
+use Rattle.std.proofs.lemmas.Iterator.{cases_from_all, YieldsList-from_range}
+use Rattle.models.specs.Tables.{target_at}
+use Rattle.tables_links.specs.Bare.{empty_from}
+use Rattle.tables_links.proofs.Ranges.{empty_all}
 use Rattle.tables_links.proofs.empty_from.Goals as goal
-
-pub loop-k-init : goal.loop-k-init
-loop-k-init c = (search rules, search rules, empty_below _ _ _)
-
-pub returns-then-target-ne0 : goal.returns-then-target-ne0
-unfolding empty_from
-returns-then-target-ne0 c = sym (every_not _ _ _ c.loop-k-test.true (empty_fails _ _ _ _ c.loop-k.invariant.0 (λ e. c.if-target-ne0.true (c.target.ensures ∙ e))))
-
-pub loop-k-preserved : goal.loop-k-preserved
-loop-k-preserved c = (search rules, search rules, below_more _ _ c.loop-k.invariant.2 (empty_more _ _ _ _ (sym c.target.ensures ∙ c.if-target-ne0.false)))
 
 pub returns : goal.returns
 unfolding empty_from
-returns c = sym (every_intro _ _ (λ k l. c.loop-k.invariant.2 k (omega arith)))
+returns c =
+    let a = c.args in
+    empty_all a.links.now a.q a.m c.all.result c.requires.1
+    (cases_from_all _ _ c.all.result (λ k. target_at a.links.now a.q k ≡ 0) (λ k. target_at a.links.now a.q k ≢ 0) c.all.ensures.ran (YieldsList-from_range a.m 64 (64 - a.m) refl refl) (λ x q k. search (rules, tests)) (λ x q k. search (rules, tests)))

@@ -7,4 +7,4 @@ pub returns : goal.returns
 returns c =
     let a = c.args in
     c.all_hold.ensures
-    ∙ sym (counts_as_started_is a.s a.keys.now a.links.now a.certs.now a.order.now (λ p. (c.shared_slice_known-1.given p).fits) (λ p. (c.shared_slice_known-2-1.given p).fits))
+    ∙ sym (counts_as_started_is a.dag.now.state.now a.dag.now.keys.now a.dag.now.links.now a.dag.now.certs.now a.dag.now.order.now a.dag.now.keys_fit a.dag.now.links_fit)

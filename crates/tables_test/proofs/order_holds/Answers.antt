@@ -11,7 +11,7 @@ returns-then-not-inside c = chain_no _ _ _ c.inside.ensures c.if-not-inside.true
 pub sorted-requires : goal.sorted-requires
 sorted-requires c =
     let a = c.args in
-    (search rules, inside_keys a.keys.now a.order.now _ c.requires.0 (inside_says _ _ _ (passed _ _ c.inside.ensures c.if-not-inside.false-raw)))
+    (search rules, inside_keys a.dag.now.keys.now a.dag.now.order.now _ c.requires.0 (inside_says _ _ _ (passed _ _ c.inside.ensures c.if-not-inside.false-raw)))
 
 pub returns-then-not-sorted : goal.returns-then-not-sorted
 unfolding order_holds

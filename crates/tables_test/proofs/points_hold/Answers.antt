@@ -12,4 +12,4 @@ pub returns : goal.returns
 unfolding points_hold
 returns c =
     let a = c.args in
-    chain-yes _ _ _ _ c.used_ok.ensures c.if-not-used_ok.false-raw (c.heights_hold.ensures ∙ ap (λ (t : ℕ). heights_hold a.s.bottom.0 t a.keys.now a.links.now a.certs.now a.order.now a.s.count) c.top_height-top.ensures)
+    chain-yes _ _ _ _ c.used_ok.ensures c.if-not-used_ok.false-raw (c.heights_hold.ensures ∙ ap (λ (t : ℕ). heights_hold a.dag.now.state.now.bottom.0 t a.dag.now.keys.now a.dag.now.links.now a.dag.now.certs.now a.dag.now.order.now a.dag.now.state.now.count) c.top_height-top.ensures)

@@ -6,4 +6,4 @@ use Rattle.back_committable.proofs.anchor.span_of.Goals as goal
 pub returns : goal.returns
 returns c =
     let a = c.args in
-    span_by a.s a.keys.now a.order.now a.round.0 _ _ _ _ c.history_limit-limit.ensures c.max-lowest.ensures c.cut-low.ensures (c.cut-high.ensures ∙ ap (below a.keys.now a.order.now a.s.count) c.plus.ensures)
+    span_by a.dag.now.state.now a.dag.now.keys.now a.dag.now.order.now a.round.0 _ _ _ _ c.history_limit-limit.ensures c.max-lowest.ensures c.cut-low.ensures (c.cut-high.ensures ∙ ap (below a.dag.now.keys.now a.dag.now.order.now a.dag.now.state.now.count) c.plus.ensures)

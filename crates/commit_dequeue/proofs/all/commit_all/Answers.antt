@@ -1,17 +1,12 @@
-use borrow.Author.Rules.{rules}
-use mathlib.Core.Path.{◌≡◌, refl}
+use mathlib.Core.Path.{refl}
 use native.Mathlib.Omega.{arith}
-use lib.ListN.{length}
-use Rattle.commit_dequeue.specs.All.{Going, going_first, going_end, going_anchored, going_taken, going_refused}
+use Rattle.commit_dequeue.specs.All.{going_first, going_end, going_anchored, going_taken, going_refused}
 use Rattle.commit_dequeue.proofs.all.commit_all.Goals as goal
 
 pub loop-k-init : goal.loop-k-init
 loop-k-init c =
     let a = c.args in
     (refl, refl, going_first a.keys.now a.links.now a.order.now a.s a.certs.now a.lists.now a.b.now _ a.count c.requires.order_value c.requires.rising)
-
-pub bounds-list-k : goal.bounds-list-k
-bounds-list-k c = let h = c.loop-k.invariant.2.number in let m = c.requires.count_bound in search rules
 
 pub dequeue_anchor-o-requires : goal.dequeue_anchor-o-requires
 dequeue_anchor-o-requires c =
@@ -20,12 +15,12 @@ dequeue_anchor-o-requires c =
     let g = l.invariant.2 in
     record { order_value = g.started; anchored = going_anchored a.keys.now a.links.now a.order.now a.s a.certs.now a.lists.now a.b.now _ a.count l.cur l.certs l.from l.b l.end l.finished l.k l.invariant.2 c.loop-k-test.true; from_in_bounds = (g.listed, g.within) }
 
-pub returns-in-Failed : goal.returns-in-Failed
-returns-in-Failed c =
+pub returns-in-Err : goal.returns-in-Err
+returns-in-Err c =
     let a = c.args in
     let l = c.loop-k in
     let o = c.dequeue_anchor-o in
-    let told = going_refused a.keys.now a.links.now a.order.now a.s a.certs.now a.lists.now a.b.now _ a.count l.cur l.certs l.from l.b l.end l.finished l.k l.invariant.2 c.loop-k-test.true _ o.ensures.words o.ensures.says _ c.in-Failed.is in record { words = told.0; finished = told.1 }
+    let told = going_refused a.keys.now a.links.now a.order.now a.s a.certs.now a.lists.now a.b.now _ a.count l.cur l.certs l.from l.b l.end l.finished l.k l.invariant.2 c.loop-k-test.true _ o.ensures.words o.ensures.says _ c.in-Err.is in record { words = told.0; finished = told.1 }
 
 pub overflow_add-finished : goal.overflow_add-finished
 overflow_add-finished c = omega (arith, c.loop-k.invariant.2.number, c.requires.count_bound)
@@ -41,4 +36,4 @@ pub returns : goal.returns
 returns c =
     let a = c.args in
     let l = c.loop-k in
-    let told = going_end a.keys.now a.links.now a.order.now a.s a.certs.now a.lists.now a.b.now _ a.count l.cur l.certs l.from l.b l.end l.finished l.k l.invariant.2 (omega (arith, c.loop-k-test.false)) in record { words = told.0; finished = told.1 }
+    let told = going_end a.keys.now a.links.now a.order.now a.s a.certs.now a.lists.now a.b.now _ a.count l.cur l.certs l.from l.b l.end l.finished l.k l.invariant.2 (omega arith) in record { words = told.0; finished = told.1 }

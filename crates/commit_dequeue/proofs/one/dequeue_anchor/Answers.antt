@@ -1,12 +1,11 @@
 use Prim.Native.Nat.{◌-◌}
-use mathlib.Core.Path.{◌≡◌, sym, ◌∙◌}
+use mathlib.Core.Path.{sym, ◌∙◌}
 use native.Mathlib.Omega.{arith}
-use lib.ListN.{length, length-map}
+use lib.ListN.{length}
 use Rattle.models.specs.Digest.{Fit}
 use Rattle.back_walk.specs.Refines.{enqueued_of}
 use Rattle.commit_dequeue.specs.Model.{number_fits, one-refused, one-taken}
 use Rattle.commit_dequeue.specs.Refines.{held, anchor_used, placed, listing, picked_ready, sums_ready, sources_ready, drawn_ready, one_says}
-use borrow.Author.Rules.{rules}
 use Rattle.commit_dequeue.proofs.one.dequeue_anchor.Goals as goal
 
 pub test_anchor-t-requires : goal.test_anchor-t-requires
@@ -37,13 +36,13 @@ number_for-check-requires c =
     let (n, q, w) = picked_ready a.s a.keys.now a.links.now a.certs.now a.order.now fk fl p.order_value (enqueued_of a.e) p.anchored c.test_anchor-t.result c.test_anchor-t.ensures.whole in
     n
 
-pub returns-in-Failed : goal.returns-in-Failed
-returns-in-Failed c =
+pub returns-in-Err : goal.returns-in-Err
+returns-in-Err c =
     let a = c.args in
     let fk : Fit a.keys.now = λ p. (c.shared_slice_known-1.given p).fits in
     let fl : Fit a.links.now = λ p. (c.shared_slice_known-2-1.given p).fits in
     let p = c.requires in
-    let w = one-refused a.s a.keys.now a.links.now a.certs.now a.order.now a.lists.now a.from a.b.now a.at (enqueued_of a.e) c.test_anchor-t.result c.test_anchor-t.ensures.whole _ c.list_anchor-listed.ensures.ok_value _ c.number_for-check.ensures _ c.in-Failed.is in
+    let w = one-refused a.s a.keys.now a.links.now a.certs.now a.order.now a.lists.now a.from a.b.now a.at (enqueued_of a.e) c.test_anchor-t.result c.test_anchor-t.ensures.whole _ c.list_anchor-listed.ensures.ok_value _ c.number_for-check.ensures _ c.in-Err.is in
     record { words = w; says = one_says a.s a.keys.now a.links.now a.certs.now a.order.now fk fl p.order_value (enqueued_of a.e) p.anchored a.lists.now a.from c.well_formed.0.1.1.1.1.1.1.1.1.1.1.1.1.1.1.0.1.0.1 a.b.now a.at p.from_in_bounds.1 _ w }
 
 pub payload_sums-sums-requires : goal.payload_sums-sums-requires

@@ -1,6 +1,5 @@
 use Rattle.back_walk.specs.Refines.{enqueued_of}
 use Rattle.commit_dequeue.specs.Model.{listed_by}
-use borrow.Author.Rules.{rules}
 use native.Mathlib.Omega.{arith}
 use Rattle.commit_dequeue.proofs.one.list_anchor.Goals as goal
 
@@ -12,4 +11,4 @@ lists_fit-requires c =
 pub returns : goal.returns
 returns c =
     let a = c.args in
-    let told = listed_by a.s a.keys.now a.order.now a.lists.now a.from a.marks.now a.lowest.0 (enqueued_of a.e) _ c.round_at-round.ensures _ _ (c.lists_fit.ensures.ok_value, c.lists_fit.ensures.end_value) in record { ok_value = told.0; end_value = told.1 }
+    let told = listed_by a.dag.now.state.now a.dag.now.keys.now a.dag.now.order.now a.lists.now a.from a.marks.now a.lowest.0 (enqueued_of a.e) _ c.round_at-round.ensures _ _ (c.lists_fit.ensures.ok_value, c.lists_fit.ensures.end_value) in record { ok_value = told.0; end_value = told.1 }

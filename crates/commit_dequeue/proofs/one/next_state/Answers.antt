@@ -1,7 +1,6 @@
 use mathlib.Core.Path.{◌∙◌}
 use Rattle.back_walk.specs.Refines.{enqueued_of}
 use Rattle.commit_dequeue.specs.Model.{state_by}
-use borrow.Author.Rules.{rules}
 use Rattle.commit_dequeue.proofs.one.next_state.Goals as goal
 
 pub returns : goal.returns

@@ -1,5 +1,4 @@
 use mathlib.Core.Path.{◌∙◌}
-use borrow.Author.Rules.{rules}
 use Rattle.models.specs.Digest.{Fit}
 use Rattle.models.specs.Refusal.{not_failed}
 use Rattle.back_history.specs.Supposing.{supposing}
@@ -14,40 +13,40 @@ pub round_at-round-requires : goal.round_at-round-requires
 round_at-round-requires c =
     let a = c.args in
     let p = c.requires in
-    anchor-words a.s a.keys.now a.links.now a.certs.now a.order.now p.started a.e.anchor p.used.0
+    anchor-words a.dag.now.state.now a.dag.now.keys.now a.dag.now.links.now a.dag.now.certs.now a.dag.now.order.now p.started a.e.anchor p.used.0
 
 pub look_size-size-requires : goal.look_size-size-requires
 look_size-size-requires c =
     let a = c.args in
     let p = c.requires in
-    look-round a.s a.keys.now a.links.now a.certs.now a.order.now p.started a.e.anchor p.used.0 c.round_at-round.result.0 c.round_at-round.ensures
+    look-round a.dag.now.state.now a.dag.now.keys.now a.dag.now.links.now a.dag.now.certs.now a.dag.now.order.now p.started a.e.anchor p.used.0 c.round_at-round.result.0 c.round_at-round.ensures
 
-pub returns-in-Failed : goal.returns-in-Failed
-returns-in-Failed c =
+pub returns-in-Err : goal.returns-in-Err
+returns-in-Err c =
     let a = c.args in
     let t = c.test_supposed-t in
-    let size = c.look_size-size.ensures ∙ tested-size a.s a.keys.now a.links.now (supposing a.taken.now a.certs.now) a.order.now a.e.anchor t.result t.ensures c.round_at-round.result.0 c.round_at-round.ensures in
-    record { outcome = look-tested a.s a.keys.now a.links.now (supposing a.taken.now a.certs.now) a.order.now a.e.anchor t.result t.ensures a.left _ _ size _ c.in-Failed.is; bytes = size; took = λ z. absurd (not_failed _ z) }
+    let size = c.look_size-size.ensures ∙ tested-size a.dag.now.state.now a.dag.now.keys.now a.dag.now.links.now (supposing a.taken.now a.dag.now.certs.now) a.dag.now.order.now a.e.anchor t.result t.ensures c.round_at-round.result.0 c.round_at-round.ensures in
+    record { outcome = look-tested a.dag.now.state.now a.dag.now.keys.now a.dag.now.links.now (supposing a.taken.now a.dag.now.certs.now) a.dag.now.order.now a.e.anchor t.result t.ensures a.left _ _ size _ c.in-Err.is; bytes = size; took = λ z. absurd (not_failed _ z) }
 
 pub returns-then-left-size : goal.returns-then-left-size
 returns-then-left-size c =
     let a = c.args in
     let t = c.test_supposed-t in
-    let size = c.look_size-size.ensures ∙ tested-size a.s a.keys.now a.links.now (supposing a.taken.now a.certs.now) a.order.now a.e.anchor t.result t.ensures c.round_at-round.result.0 c.round_at-round.ensures in
-    record { outcome = look_full a.s a.keys.now a.links.now (supposing a.taken.now a.certs.now) a.order.now a.e.anchor t.result t.ensures a.left _ _ size c.in_default.is c.if-left-size.true; bytes = size; took = λ z. absurd (not_failed _ z) }
+    let size = c.look_size-size.ensures ∙ tested-size a.dag.now.state.now a.dag.now.keys.now a.dag.now.links.now (supposing a.taken.now a.dag.now.certs.now) a.dag.now.order.now a.e.anchor t.result t.ensures c.round_at-round.result.0 c.round_at-round.ensures in
+    record { outcome = look_full a.dag.now.state.now a.dag.now.keys.now a.dag.now.links.now (supposing a.taken.now a.dag.now.certs.now) a.dag.now.order.now a.e.anchor t.result t.ensures a.left _ _ size c.in_default.is c.if-left-size.true; bytes = size; took = λ z. absurd (not_failed _ z) }
 
 pub take_history-requires : goal.take_history-requires
 take_history-requires c =
     let a = c.args in
     let p = c.requires in
-    let fk : Fit a.keys.now = λ q. (c.shared_slice_known-1.given q).fits in
-    let fl : Fit a.links.now = λ q. (c.shared_slice_known-2-1.given q).fits in
+    let fk : Fit a.dag.now.keys.now = a.dag.now.keys_fit in
+    let fl : Fit a.dag.now.links.now = a.dag.now.links_fit in
     let t = c.test_supposed-t in
-    record { range = tested_range a.s a.keys.now a.links.now (supposing a.taken.now a.certs.now) a.order.now a.e.anchor t.result t.ensures a.certs.now fk fl p.started p.used.0; taken_len = p.used.1 }
+    record { range = tested_range a.dag.now.state.now a.dag.now.keys.now a.dag.now.links.now (supposing a.taken.now a.dag.now.certs.now) a.dag.now.order.now a.e.anchor t.result t.ensures a.dag.now.certs.now fk fl p.started p.used.0; taken_len = p.used.1 }
 
 pub returns : goal.returns
 returns c =
     let a = c.args in
     let t = c.test_supposed-t in
-    let size = c.look_size-size.ensures ∙ tested-size a.s a.keys.now a.links.now (supposing a.taken.now a.certs.now) a.order.now a.e.anchor t.result t.ensures c.round_at-round.result.0 c.round_at-round.ensures in
-    record { outcome = look-pass a.s a.keys.now a.links.now (supposing a.taken.now a.certs.now) a.order.now a.e.anchor t.result t.ensures a.left _ _ size c.in_default.is c.if-left-size.false; bytes = size; took = λ z. tested_took a.s a.keys.now a.links.now (supposing a.taken.now a.certs.now) a.order.now a.e.anchor t.result t.ensures a.certs.now a.taken.now _ (c.take_history.ensures.words, c.take_history.ensures.places) }
+    let size = c.look_size-size.ensures ∙ tested-size a.dag.now.state.now a.dag.now.keys.now a.dag.now.links.now (supposing a.taken.now a.dag.now.certs.now) a.dag.now.order.now a.e.anchor t.result t.ensures c.round_at-round.result.0 c.round_at-round.ensures in
+    record { outcome = look-pass a.dag.now.state.now a.dag.now.keys.now a.dag.now.links.now (supposing a.taken.now a.dag.now.certs.now) a.dag.now.order.now a.e.anchor t.result t.ensures a.left _ _ size c.in_default.is c.if-left-size.false; bytes = size; took = λ z. tested_took a.dag.now.state.now a.dag.now.keys.now a.dag.now.links.now (supposing a.taken.now a.dag.now.certs.now) a.dag.now.order.now a.e.anchor t.result t.ensures a.dag.now.certs.now a.taken.now _ (c.take_history.ensures.words, c.take_history.ensures.places) }

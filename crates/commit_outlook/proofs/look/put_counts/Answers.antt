@@ -1,34 +1,36 @@
-use Prim.Native.Nat.{◌-◌, ◌+◌, ◌≤◌}
-use mathlib.Core.Path.{refl}
-use native.Mathlib.Omega.{arith}
+use Rattle.std.proofs.Common.{◌+◌, ◌-◌, ◌≡◌, arith}
+use Rattle.std.proofs.Math.Nat.{sub_self}
 use Rattle.commit_outlook.specs.Look.{Counting, counting-none, counting_more, counting_long, counting_end}
-use borrow.Author.Rules.{rules}
 use Rattle.commit_outlook.proofs.look.put_counts.Goals as goal
+use Rattle.commit_outlook.proofs.look.put_counts.Goals.{After-put_number-next}
 
-pub loop-k-init : goal.loop-k-init
-loop-k-init c = (omega arith, counting-none _ _ _ _ _ _ _)
+-- one round more is written
+more : (c : After-put_number-next) → Counting c.args.keys.now c.args.order.now c.args.n c.args.marks.now c.args.round.0 c.args.at c.args.b.now c.put_number-next.new.b c.put_number-next.result (c.args.round.0 - c.loop-r.r + 1)
+more c =
+    let l = c.loop-r in
+    counting_more _ _ _ _ _ _ _ l.b l.next (c.args.round.0 - l.r) l.invariant.1 l.r _ _ _ (omega arith) c.count_round-count.ensures c.put_number-next.ensures.0 c.put_number-next.ensures.1
 
-pub overflow_add-low : goal.overflow_add-low
-overflow_add-low c = let p = c.requires.sorted.1 in let h = c.loop-k.invariant.0 in search rules
-
-pub count_round-count-requires : goal.count_round-count-requires
-count_round-count-requires c = let p = c.requires in record { keys_len = p.keys_len; sorted = (p.sorted.0, omega (arith, p.sorted.1, c.loop-k-test.true)) }
+pub loop-r-init : goal.loop-r-init
+loop-r-init c = (omega arith, rw sub_self (counting-none _ _ _ _ _ _ _))
 
 pub put_number-next-requires : goal.put_number-next-requires
 put_number-next-requires c =
-    let p = c.requires in
-    let l = c.loop-k in
-    omega (arith, p.sorted.2, l.invariant.1.place, counting_long _ _ _ _ _ _ _ l.b l.next l.k l.invariant.1, c.loop-k-test.true)
+    let l = c.loop-r in
+    omega (arith, c.requires.sorted.2, l.invariant.1.place, counting_long _ _ _ _ _ _ _ l.b l.next (c.args.round.0 - l.r) l.invariant.1)
 
-pub loop-k-preserved : goal.loop-k-preserved
-loop-k-preserved c =
-    let l = c.loop-k in (
-      omega (arith, c.loop-k-test.true),
-      counting_more _ _ _ _ _ _ _ l.b l.next l.k l.invariant.1 _ _ _ _ refl c.count_round-count.ensures c.put_number-next.ensures.0 c.put_number-next.ensures.1,
-    )
+pub loop-r-preserved : goal.loop-r-preserved
+loop-r-preserved c =
+    let next : c.args.round.0 - (c.loop-r.r - 1) ≡ c.args.round.0 - c.loop-r.r + 1 = omega arith in
+    (omega arith, rw next (more (goal.at.loop-r-preserved c).After-put_number-next))
 
 pub returns : goal.returns
 returns c =
-    let l = c.loop-k in
     let a = c.args in
-    let told = counting_end _ _ _ _ _ _ _ l.b l.next l.k l.invariant.1 (a.round.0 + 1 - a.lowest.0) (omega (arith, l.invariant.0, c.loop-k-test.false)) in record { next = told.0; bytes = told.1 }
+    let l = c.loop-r in
+    let told = counting_end _ _ _ _ _ _ _ l.b l.next (a.round.0 - l.r) l.invariant.1 (a.round.0 + 1 - a.lowest.0) (omega arith) in record { next = told.0; bytes = told.1 }
+
+pub returns-2 : goal.returns-2
+returns-2 c =
+    let a = c.args in
+    let l = c.loop-r in
+    let told = counting_end _ _ _ _ _ _ _ c.put_number-next.new.b c.put_number-next.result (a.round.0 - l.r + 1) (more (goal.at.returns-2 c).After-put_number-next) (a.round.0 + 1 - a.lowest.0) (omega arith) in record { next = told.0; bytes = told.1 }

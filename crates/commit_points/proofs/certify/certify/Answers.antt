@@ -29,22 +29,22 @@ certify_at-requires c =
     let fk : Fit a.keys.now = λ p. (c.shared_slice_known-1.given p).fits in
     let fl : Fit a.links.now = λ p. (c.shared_slice_known-2-1.given p).fits in
     let fi = id_fit a.id _ c.well_formed.1.1.1.1.1.0 in
-    certify_ready a.id d fk fl fi _ c.counts_as_started.ensures c.if-not-counts_as_started.false-raw _ c.find_named.ensures _ c.in-At.is
+    certify_ready a.id d fk fl fi _ c.counts_as_started.ensures c.if-not-counts_as_started.false-raw _ c.find_named.ensures _ c.in-Ok.is
 
-pub returns-in-Refused : goal.returns-in-Refused
-returns-in-Refused c =
+pub returns-in-Err : goal.returns-in-Err
+returns-in-Err c =
     let a = c.args in
     let d = tables a.s a.keys.now a.links.now a.certs.now a.order.now in
     let fk : Fit a.keys.now = λ p. (c.shared_slice_known-1.given p).fits in
     let fl : Fit a.links.now = λ p. (c.shared_slice_known-2-1.given p).fits in
     let fi = id_fit a.id _ c.well_formed.1.1.1.1.1.0 in
-    certify-refused a.id d fk fl fi _ c.counts_as_started.ensures c.if-not-counts_as_started.false-raw _ c.find_named.ensures _ c.in-Refused.is _ c.refused-in-Refused.ensures
+    certify-refused a.id d fk fl fi _ c.counts_as_started.ensures c.if-not-counts_as_started.false-raw _ c.find_named.ensures _ c.in-Err.is _ c.refused-in-Err.ensures
 
-pub returns-in-At : goal.returns-in-At
-returns-in-At c =
+pub returns-in-Ok : goal.returns-in-Ok
+returns-in-Ok c =
     let a = c.args in
     let d = tables a.s a.keys.now a.links.now a.certs.now a.order.now in
     let fk : Fit a.keys.now = λ p. (c.shared_slice_known-1.given p).fits in
     let fl : Fit a.links.now = λ p. (c.shared_slice_known-2-1.given p).fits in
     let fi = id_fit a.id _ c.well_formed.1.1.1.1.1.0 in
-    certify-done a.id d fk fl fi _ c.counts_as_started.ensures c.if-not-counts_as_started.false-raw _ c.find_named.ensures _ c.in-At.is _ c.certify_at.ensures
+    certify-done a.id d fk fl fi _ c.counts_as_started.ensures c.if-not-counts_as_started.false-raw _ c.find_named.ensures _ c.in-Ok.is _ c.certify_at.ensures

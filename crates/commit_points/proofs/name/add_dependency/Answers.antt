@@ -28,23 +28,23 @@ name_point-next-requires c =
     let fk : Fit a.keys.now = λ p. (c.slice_known-1.given p).fits in
     let fl : Fit a.links.now = λ p. (c.shared_slice_known-1.given p).fits in
     let fi = id_fit a.id _ c.well_formed.1.1.1.1.1.0 in
-    let told = name_free a.id d fk fl fi _ c.counts_as_started.ensures c.if-not-counts_as_started.false-raw _ c.check_name.ensures _ c.in-At.is in record { ready = told.0; certs_len = told.1 }
+    let told = name_free a.id d fk fl fi _ c.counts_as_started.ensures c.if-not-counts_as_started.false-raw _ c.check_name.ensures _ c.in-Ok.is in record { ready = told.0; certs_len = told.1 }
 
-pub returns-in-Refused : goal.returns-in-Refused
-returns-in-Refused c =
+pub returns-in-Err : goal.returns-in-Err
+returns-in-Err c =
     let a = c.args in
     let d = tables a.s a.keys.now a.links.now a.certs.now a.order.now in
     let fk : Fit a.keys.now = λ p. (c.slice_known-1.given p).fits in
     let fl : Fit a.links.now = λ p. (c.shared_slice_known-1.given p).fits in
     let fi = id_fit a.id _ c.well_formed.1.1.1.1.1.0 in
-    name-refused a.id d fk fl fi _ c.counts_as_started.ensures c.if-not-counts_as_started.false-raw _ c.check_name.ensures _ c.in-Refused.is _ c.refused-in-Refused.ensures
+    name-refused a.id d fk fl fi _ c.counts_as_started.ensures c.if-not-counts_as_started.false-raw _ c.check_name.ensures _ c.in-Err.is _ c.refused-in-Err.ensures
 
-pub returns-in-At : goal.returns-in-At
-returns-in-At c =
+pub returns-in-Ok : goal.returns-in-Ok
+returns-in-Ok c =
     let a = c.args in
     let d = tables a.s a.keys.now a.links.now a.certs.now a.order.now in
     let fk : Fit a.keys.now = λ p. (c.slice_known-1.given p).fits in
     let fl : Fit a.links.now = λ p. (c.shared_slice_known-1.given p).fits in
     let fi = id_fit a.id _ c.well_formed.1.1.1.1.1.0 in
     let k = c.name_point-next.ensures in
-    name_done a.id d fk fl fi _ c.counts_as_started.ensures c.if-not-counts_as_started.false-raw _ c.check_name.ensures _ c.in-At.is _ _ _ _ k.state k.keys k.certs k.order
+    name_done a.id d fk fl fi _ c.counts_as_started.ensures c.if-not-counts_as_started.false-raw _ c.check_name.ensures _ c.in-Ok.is _ _ _ _ k.state k.keys k.certs k.order

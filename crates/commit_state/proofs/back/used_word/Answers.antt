@@ -4,12 +4,12 @@ use Rattle.commit_state.proofs.back.used_word.Goals as goal
 
 -- src/back.rt:44:37
 pub overflow_add-result : goal.overflow_add-result
-overflow_add-result c = let l = used_small _ _ c.requires c.in-Peer.is in search rules
+overflow_add-result c = let l = used_small _ _ c.requires c.in-Some.is in search rules
 
 -- src/back.rt:38:1
-pub returns-in-Nobody : goal.returns-in-Nobody
-returns-in-Nobody c = search word_nobody
+pub returns-in-None : goal.returns-in-None
+returns-in-None c = search word_nobody
 
 -- src/back.rt:38:1
-pub returns-in-Peer : goal.returns-in-Peer
-returns-in-Peer c = search word-peer
+pub returns-in-Some : goal.returns-in-Some
+returns-in-Some c = search word-peer

@@ -1,4 +1,3 @@
-use Prim.Native.Nat.{◌-◌, ◌≤◌}
 use Rattle.laws.specs.Lists.{up_to}
 use Rattle.spec.specs.Inspect.{stats_bytes}
 use Rattle.answer_bytes.specs.Sent.{Sent}
@@ -6,7 +5,4 @@ use Rattle.inspector_answer.specs.Peers.{peer_of}
 use Rattle.inspector_answer.proofs.peers.emit_stats.Given as goal
 
 abbrev pub invariant-loop-k : goal.invariant-loop-k
-invariant-loop-k l = (l.k ≤ 32) × Sent l.write l.initial.b l.initial.out (up_to l.k (λ a. stats_bytes a (peer_of l.stats a))) l.out l.b
-
-abbrev pub decreases-loop-k : goal.decreases-loop-k
-decreases-loop-k l = 32 - l.k
+invariant-loop-k l = Sent l.write l.initial.b l.initial.out (up_to l.k (λ a. stats_bytes a (peer_of l.fn.stats a))) l.out l.b

@@ -1,10 +1,6 @@
-use Prim.Native.Nat.{◌-◌, ◌≤◌}
 use mathlib.Core.Path.{◌≡◌}
 use Rattle.inspector_answer.specs.Peers.{with_stats_to}
 use Rattle.inspector_answer.proofs.peers.peers_with_stats.Given as goal
 
 abbrev pub invariant-loop-k : goal.invariant-loop-k
-invariant-loop-k l = (l.k ≤ 32) × (l.peers ≡ with_stats_to l.stats l.k)
-
-abbrev pub decreases-loop-k : goal.decreases-loop-k
-decreases-loop-k l = 32 - l.k
+invariant-loop-k l = l.peers ≡ with_stats_to l.fn.stats l.k

@@ -1,8 +1,8 @@
-use Rattle.inspector_counters.specs.Counters.{leads-none, leads-some}
+use Rattle.std.proofs.Common.{arith}
+use Rattle.inspector_counters.specs.Counters.{leads}
+use Rattle.std.proofs.lemmas.Grind.{common_steps}
 use Rattle.inspector_counters.proofs.counters.is_leader.Goals as goal
 
-pub returns-then-used-eq0 : goal.returns-then-used-eq0
-returns-then-used-eq0 c = leads-none _ _ c.if-used-eq0.true
-
 pub returns : goal.returns
-returns c = leads-some _ _ c.if-used-eq0.false
+unfolding leads
+returns c = grind (arith, common_steps)

@@ -1,7 +1,6 @@
 use mathlib.Core.Path.{ap, sym}
 use Rattle.inspector_faults.specs.Faults.{count_for}
 use Rattle.inspector_faults.specs.declared.Fault.{Fault}
-use borrow.Author.Rules.{rules}
 use Rattle.inspector_faults.proofs.Fault.count.Goals as goal
 
 pub returns-in-TransInvalid : goal.returns-in-TransInvalid

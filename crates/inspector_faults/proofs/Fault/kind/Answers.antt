@@ -1,6 +1,5 @@
 use mathlib.Core.Path.{ap, sym}
 use Rattle.inspector_faults.specs.Faults.{kind_of}
-use borrow.Author.Rules.{rules}
 use Rattle.inspector_faults.proofs.Fault.kind.Goals as goal
 
 pub returns-in-TransInvalid : goal.returns-in-TransInvalid

@@ -14,35 +14,35 @@ pub span_at-span-requires : goal.span_at-span-requires
 span_at-span-requires c =
     let a = c.args in
     let p = c.requires in
-    let fk : Fit a.keys.now = λ i. (c.shared_slice_known-1.given i).fits in
-    let fl : Fit a.links.now = λ i. (c.shared_slice_known-2-1.given i).fits in
-    let told = positions_ready a.s a.keys.now a.links.now a.certs.now a.order.now fk fl p.order_value a.round.0 p.round_bound.0 in record { keys_len = told.0; sorted = told.1 }
+    let fk : Fit a.dag.now.keys.now = a.dag.now.keys_fit in
+    let fl : Fit a.dag.now.links.now = a.dag.now.links_fit in
+    let told = positions_ready a.dag.now.state.now a.dag.now.keys.now a.dag.now.links.now a.dag.now.certs.now a.dag.now.order.now fk fl p.order_value a.round.0 p.round_bound.0 in record { keys_len = told.0; sorted = told.1 }
 
 pub trusted_places-trusted-requires : goal.trusted_places-trusted-requires
 trusted_places-trusted-requires c =
     let a = c.args in
     let p = c.requires in
-    let fk : Fit a.keys.now = λ i. (c.shared_slice_known-1.given i).fits in
-    let fl : Fit a.links.now = λ i. (c.shared_slice_known-2-1.given i).fits in
-    let told = trusted_ready a.s a.keys.now a.links.now a.certs.now a.order.now fk fl p.order_value a.round.0 c.span_at-span.result c.span_at-span.ensures in record { range = told.0; keys_len = told.1 }
+    let fk : Fit a.dag.now.keys.now = a.dag.now.keys_fit in
+    let fl : Fit a.dag.now.links.now = a.dag.now.links_fit in
+    let told = trusted_ready a.dag.now.state.now a.dag.now.keys.now a.dag.now.links.now a.dag.now.certs.now a.dag.now.order.now fk fl p.order_value a.round.0 c.span_at-span.result c.span_at-span.ensures in record { range = told.0; keys_len = told.1 }
 
 pub signers_at-owed-requires : goal.signers_at-owed-requires
 signers_at-owed-requires c =
     let a = c.args in
     let p = c.requires in
-    let fk : Fit a.keys.now = λ i. (c.shared_slice_known-1.given i).fits in
-    let fl : Fit a.links.now = λ i. (c.shared_slice_known-2-1.given i).fits in
+    let fk : Fit a.dag.now.keys.now = a.dag.now.keys_fit in
+    let fl : Fit a.dag.now.links.now = a.dag.now.links_fit in
     let x = c.span_at-span in
     let y = c.trusted_places-trusted in
-    record { order_value = p.order_value; listed = trusted_here a.s a.keys.now a.links.now a.certs.now a.order.now fk fl p.order_value a.round.0 x.result x.ensures y.result.places y.result.count y.ensures; rows_before = (c.fill_before-n.ensures, room _ _ c.rows-1.given p.round_bound.1) }
+    record { order_value = p.order_value; listed = trusted_here a.dag.now.state.now a.dag.now.keys.now a.dag.now.links.now a.dag.now.certs.now a.dag.now.order.now fk fl p.order_value a.round.0 x.result x.ensures y.result.places y.result.count y.ensures; rows_before = (c.fill_before-n.ensures, room _ _ c.rows-1.given p.round_bound.1) }
 
 pub returns : goal.returns
 returns c =
     let a = c.args in
     let p = c.requires in
-    let fk : Fit a.keys.now = λ i. (c.shared_slice_known-1.given i).fits in
-    let fl : Fit a.links.now = λ i. (c.shared_slice_known-2-1.given i).fits in
+    let fk : Fit a.dag.now.keys.now = a.dag.now.keys_fit in
+    let fl : Fit a.dag.now.links.now = a.dag.now.links_fit in
     let x = c.span_at-span in
     let y = c.trusted_places-trusted in
-    is_reported a.s a.keys.now a.links.now a.certs.now a.order.now a.round.0 _ _ (room _ _ c.rows-1.given p.round_bound.1) c.fill_before-n.ensures
-    (trusted_here a.s a.keys.now a.links.now a.certs.now a.order.now fk fl p.order_value a.round.0 x.result x.ensures y.result.places y.result.count y.ensures) c.signers_at-owed.ensures
+    is_reported a.dag.now.state.now a.dag.now.keys.now a.dag.now.links.now a.dag.now.certs.now a.dag.now.order.now a.round.0 _ _ (room _ _ c.rows-1.given p.round_bound.1) c.fill_before-n.ensures
+    (trusted_here a.dag.now.state.now a.dag.now.keys.now a.dag.now.links.now a.dag.now.certs.now a.dag.now.order.now fk fl p.order_value a.round.0 x.result x.ensures y.result.places y.result.count y.ensures) c.signers_at-owed.ensures

@@ -1,7 +1,6 @@
 use mathlib.Core.Path.{refl, sym, ◌∙◌}
 use Rattle.commit_state.specs.View.{record_of}
 use Rattle.output_record.specs.ModelState.{after_state}
-use borrow.Author.Rules.{rules}
 use Rattle.output_record.proofs.after.after_anchor.Goals as goal
 
 pub returns-then-first : goal.returns-then-first

@@ -1,65 +1,47 @@
-use borrow.Author.Rules.{rules}
-use Prim.Native.Nat.{◌≤◌, ◌<◌, ◌-◌}
-use mathlib.Core.Path.{◌≡◌, refl, sym, ap, ◌∙◌}
-use mathlib.Core.Logic.{⊎_elim}
-use native.Mathlib.Omega.{arith}
-use lib.ListN.{length, get_or, length-set}
+use Rattle.std.proofs.Common.{ℕ, ◌+◌, ◌<◌, ◌≡◌, length, get_or, arith, refl, sym, ap, ◌∙◌, add-zero, length-set}
+use Rattle.std.proofs.lemmas.List.{length-take, length-drop}
 use Rattle.models.specs.Cert.{committed_word}
-use Rattle.output_record.specs.Marks.{marks_all, marks-none, marks-yes, marks_no, marks_small}
+use Rattle.back_history.proofs.Cells.{cell}
+use Rattle.output_record.specs.Marks.{marks-none, marks-yes, marks_no, marks_small}
 use Rattle.output_record.proofs.after.mark_all.Goals as goal
-use Rattle.output_record.proofs.after.mark_all.Goals.{then-is_uncommitted, else-is_uncommitted}
+use Rattle.output_record.proofs.after.mark_all.Goals.{After-slot-q, then-is_uncommitted, else-is_uncommitted}
 
-pub loop-i-init : goal.loop-i-init
-loop-i-init c = (omega arith, search rules, refl, marks-none _ _ _ _)
+-- the place is the one at position low + k, and has a word
+at : (c : After-slot-q) → c.slot-q.result ≡ get_or c.args.order.now (c.args.low + c.loop-word.word-index) 0
+at c = cell c.args.order.now c.args.low c.args.high c.loop-word.word-index c.slot-q.result c.loop-word-test.true c.slot-q.ensures
+
+within : (c : After-slot-q) → c.slot-q.result < length c.args.certs.now
+within c = let h = c.requires.3 (c.args.low + c.loop-word.word-index) (omega (arith, length-take {A = ℕ})) in omega (arith, at c, h)
+
+pub loop-word-init : goal.loop-word-init
+loop-word-init c = (refl, rw add-zero (marks-none _ _ _ _))
 
 pub is_uncommitted-requires : goal.is_uncommitted-requires
-is_uncommitted-requires c =
-    let l = c.loop-i in
-    let h : get_or c.args.order.now l.i 0 < length c.args.certs.now = c.requires.3 l.i (omega arith) in
-    (omega (arith, h, c.slot-q.ensures, c.requires.2), omega (arith, h, c.slot-q.ensures, l.invariant.2))
-
-pub offset_bounds-certs-q : goal.offset_bounds-certs-q
-offset_bounds-certs-q c =
-    let l = c.loop-i in
-    let h : get_or c.args.order.now l.i 0 < length c.args.certs.now = c.requires.3 l.i (omega arith) in
-    search rules
-
-pub bounds-certs-q : goal.bounds-certs-q
-bounds-certs-q c =
-    let l = c.loop-i in
-    let h : get_or c.args.order.now l.i 0 < length c.args.certs.now = c.requires.3 l.i (omega arith) in
-    omega (arith, h, c.slot-q.ensures, l.invariant.2)
+is_uncommitted-requires c = let h = within c in (omega (arith, h, c.requires.2), omega (arith, h, c.loop-word.invariant.0))
 
 pub set_committed-done-requires : goal.set_committed-done-requires
 set_committed-done-requires c =
-    let l = c.loop-i in
-    let h : get_or c.args.order.now l.i 0 < length c.args.certs.now = c.requires.3 l.i (omega arith) in
-    let k = marks_small c.args.order.now c.args.marks.now c.args.low c.args.certs.now l.i _ h (c.requires.4 l.i (omega arith)) in
-    rw (c.slot-q.ensures, l.invariant.3) k
+    let a = c.args in
+    let l = c.loop-word in
+    let i = a.low + l.word-index in
+    let lt : i < a.high = omega (arith, length-take {A = ℕ}) in
+    let at = cell a.order.now a.low a.high l.word-index c.slot-q.result c.loop-word-test.true c.slot-q.ensures in
+    let small = marks_small a.order.now a.marks.now a.low a.certs.now i _ (c.requires.3 i lt) (c.requires.4 i lt) in
+    rw (at, l.invariant.1) small
 
-pub offset_bounds-certs-q-then-is_uncommitted : goal.offset_bounds-certs-q-then-is_uncommitted
-offset_bounds-certs-q-then-is_uncommitted c =
-    let l = c.loop-i in
-    let h : get_or c.args.order.now l.i 0 < length c.args.certs.now = c.requires.3 l.i (omega arith) in
-    search rules
-
-pub bounds-certs-q-then-is_uncommitted : goal.bounds-certs-q-then-is_uncommitted
-bounds-certs-q-then-is_uncommitted c =
-    let l = c.loop-i in
-    let h : get_or c.args.order.now l.i 0 < length c.args.certs.now = c.requires.3 l.i (omega arith) in
-    omega (arith, h, c.slot-q.ensures, l.invariant.2)
-
-pub loop-i-preserved : goal.loop-i-preserved
+pub loop-word-preserved : goal.loop-word-preserved
 unfolding committed_word
-loop-i-preserved c =
-    let l = c.loop-i in
+loop-word-preserved c =
+    let a = c.args in
+    let l = c.loop-word in
     let is = c.is_uncommitted.ensures in
-    let x = c.slot-q.ensures in
-    elim c.if-is_uncommitted.branch [ then-is_uncommitted w ↦ (omega arith, omega arith, ap length w.certs-is ∙ (length-set l.certs _ _ ∙ l.invariant.2), marks-yes _ _ _ _ _ _ l.i _ l.invariant.3 x l.invariant.0 (sym is ∙ w.if-is_uncommitted.true) _ w.set_committed-done.ensures w.certs-is) | else-is_uncommitted w ↦ (omega arith, omega arith, ap length w.certs-is ∙ l.invariant.2, marks_no _ _ _ _ _ _ l.i _ l.invariant.3 x (sym is ∙ w.if-is_uncommitted.false) w.certs-is) ]
+    let at = cell a.order.now a.low a.high l.word-index c.slot-q.result c.loop-word-test.true c.slot-q.ensures in
+    let next : a.low + (l.word-index + 1) ≡ a.low + l.word-index + 1 = omega arith in
+    elim c.if-is_uncommitted.branch [ then-is_uncommitted w ↦ (ap length w.certs-is ∙ (length-set l.certs _ _ ∙ l.invariant.0), rw next (marks-yes _ _ _ _ _ _ (a.low + l.word-index) _ l.invariant.1 at (omega arith) (sym is ∙ w.if-is_uncommitted.true) _ w.set_committed-done.ensures w.certs-is)) | else-is_uncommitted w ↦ (ap length w.certs-is ∙ l.invariant.0, rw next (marks_no _ _ _ _ _ _ (a.low + l.word-index) _ l.invariant.1 at (sym is ∙ w.if-is_uncommitted.false) w.certs-is)) ]
 
 pub returns : goal.returns
 returns c =
-    let l = c.loop-i in
+    let l = c.loop-word in
     let a = c.args in
-    let e : l.i ≡ a.high = omega arith in
-    rw e at l.invariant.3
+    let e : a.low + l.word-index ≡ a.high = omega (arith, length-take {A = ℕ}, length-drop {A = ℕ}) in
+    rw e at l.invariant.1

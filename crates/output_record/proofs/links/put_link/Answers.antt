@@ -3,7 +3,6 @@ use lib.ListN.{length}
 use native.Mathlib.Omega.{arith}
 use Rattle.laws.specs.Bytes.{written-length}
 use Rattle.output_record.specs.Links.{link-own, link_near, link_far}
-use borrow.Author.Rules.{rules}
 use Rattle.output_record.proofs.links.put_link.Goals as goal
 
 pub put_id-next-requires : goal.put_id-next-requires

@@ -1,5 +1,4 @@
 use Rattle.output_record.specs.Model.{first_no, first-yes}
-use borrow.Author.Rules.{rules}
 use Rattle.output_record.proofs.record.is_first_executable.Goals as goal
 
 pub returns-then-s-le1 : goal.returns-then-s-le1

@@ -1,5 +1,4 @@
 use Rattle.output_record.specs.Model.{previous-genesis, previous-first, previous_is}
-use borrow.Author.Rules.{rules}
 use Rattle.output_record.proofs.record.previous_anchor.Goals as goal
 
 pub returns-then-below-genesis : goal.returns-then-below-genesis

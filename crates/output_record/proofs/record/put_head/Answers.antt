@@ -2,7 +2,6 @@ use native.Mathlib.Omega.{arith}
 use Rattle.laws.specs.Bytes.{be-length, and_then}
 use Rattle.spec.specs.Records.{id-length}
 use Rattle.output_record.specs.Model.{head_of}
-use borrow.Author.Rules.{rules}
 use Rattle.output_record.proofs.record.put_head.Goals as goal
 
 pub returns : goal.returns

@@ -1,7 +1,6 @@
 use mathlib.Core.Path.{refl, ap, ◌∙◌}
 use native.Mathlib.Omega.{arith}
 use lib.ListN.{length}
-use borrow.Author.Rules.{rules}
 use Rattle.laws.specs.Bytes.{written-length}
 use Rattle.output_record.specs.Model.{wrote_none, wrote_one}
 use Rattle.output_record.specs.Listed.{new_no, new-yes}

@@ -1,7 +1,6 @@
 use mathlib.Core.Path.{ap, ◌∙◌}
 use native.Mathlib.Omega.{arith}
 use lib.ListN.{length}
-use borrow.Author.Rules.{rules}
 use Rattle.laws.specs.Bytes.{written-length}
 use Rattle.output_record.specs.Model.{record_then}
 use Rattle.output_record.proofs.record.put_record.Goals as goal

@@ -1,7 +1,6 @@
 use native.Mathlib.Omega.{arith}
 use Rattle.laws.specs.Bytes.{be-length, and_then}
 use Rattle.output_record.specs.Sums.{sums_of}
-use borrow.Author.Rules.{rules}
 use Rattle.output_record.proofs.sums.put_sums.Goals as goal
 
 pub returns : goal.returns

@@ -1,15 +1,14 @@
-use Rattle.std.proofs.Common.{◌≡◌, ◌-◌, ◌≤◌, length, refl, ◌∙◌, length-set, rules}
-use Rattle.play_input.specs.Fed.{Moving, moving_more, moving_end}
+use Rattle.std.proofs.Common.{◌≡◌, ℕ, List, ◌-◌, ◌≤◌, length, take, drop, sym, ap, ◌∙◌, zero-add, length-drop, arith}
+use Rattle.std.proofs.Math.Seq.{paste}
+use Rattle.std.proofs.lemmas.List.Edits.{take-paste}
 use Rattle.play_input.proofs.input.move_down.Goals as goal
 
-pub loop-i-init : goal.loop-i-init
-loop-i-init c = (search rules, refl, c.requires.0, c.requires.1, (refl, refl))
-
-pub loop-i-preserved : goal.loop-i-preserved
-loop-i-preserved c =
-    let l = c.loop-i in
-    let i = l.invariant in
-    (search rules, length-set l.input _ _ ∙ i.1, i.2, i.3, moving_more _ _ _ _ _ i.1 i.4 c.loop-i-test.true i.3)
+-- what stands at the front after the copy
+front : (b d : List ℕ) (from n : ℕ) → n ≤ length b → d ≡ paste b 0 (drop from b) (n - from) → take (n - from) d ≡ take (n - from) (drop from b)
+front b d from n l e =
+    ap (take (n - from)) e
+    ∙ (ap (λ (k : ℕ). take k (paste b 0 (drop from b) (n - from))) (sym (zero-add (n - from)))
+    ∙ take-paste b 0 (drop from b) (n - from) (omega arith) (omega (arith, length-drop from b)))
 
 pub returns : goal.returns
-returns c = let i = c.loop-i.invariant in moving_end _ _ _ _ _ i.4 i.0 c.loop-i-test.false
+returns c = front _ _ _ _ c.requires.1 c.copy_within.ensures.after
