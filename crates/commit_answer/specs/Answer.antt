@@ -127,7 +127,7 @@ module _ (counted : Bool) (t : Check) (r : Bool) (e : r ≡ counted) where
   unfolding tested
   tested_by h u f = rw (sym e ∙ not-false r h) f
 
--- one that no_refusal
+-- one that passed
 pub tested-yes : (b : Bool) (t : Check) → tested b t ≡ no_refusal → (b ≡ true) × (t ≡ no_refusal)
 unfolding tested
 tested-yes true t e = (refl, e)

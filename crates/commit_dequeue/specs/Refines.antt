@@ -127,7 +127,7 @@ module _ (s : State) (ks ls cs os : List ℕ) (fk : Fit ks) (fl : Fit ls) (h : c
     pub marked-view : view (after_state s (round_at ks e.anchor) (round_at ks e.proof) (author_at ks e.anchor)) ks ls (marks_all os t.marks t.low cs t.high) os ≡ dequeued v e
     marked-view = committed-view s ks ls cs os fk fl h e anchor_used proof_used t.marks t.low t.high high_le picks long
 
-    -- they count as started, if it no_refusal
+    -- they count as started, if it passed
     pub marked-counts : Tested v e.anchor → counts_as_started (view (after_state s (round_at ks e.anchor) (round_at ks e.proof) (author_at ks e.anchor)) ks ls (marks_all os t.marks t.low cs t.high) os) ≡ true
     marked-counts = committed-counts s ks ls cs os fk fl h e anchor_used proof_used t.marks t.low t.high high_le picks long x
 

@@ -69,7 +69,7 @@ module _ (v : Store) (left : ℕ) (e : chain.EnqueuedAnchor) (es : List chain.En
   taken-stop : c ≡ no_refusal → (y : chain.Refusal) → outlook_all (dequeued v e) (left - look_size v e.anchor) es ≡ bad y → outlook_all v left (e ∷ es) ≡ bad y
   taken-stop z y p = all-taken z ∙ rw p refl
 
-  -- one that passes has no_refusal its tests, with room for its bytes
+  -- one that passes has passed its tests, with room for its bytes
   passed-good : c ≡ no_refusal → Tested v e.anchor × (look_size v e.anchor ≤ left)
   unfolding unless_failed
   passed-good z = let ((x, t), l) = look-good v left e.anchor (sym o ∙ rw z refl) in (tested-good v e.anchor x t, l)
@@ -118,7 +118,7 @@ module _ (s : State) (ks ls cs os : List ℕ) (l : List EnqueuedAnchor) where
         → unless_failed c (good (get_or l (k - 1) no_enqueued).anchor) ≡ look_at w.store left (get_or l (k - 1) no_enqueued).anchor
     standing-outcome left c d = ap (λ (y : Check). unless_failed y (good e.anchor)) d ∙ supposed-outcome s ks ls cs os fk fl tk w.store w.supposed w.started e rises.1 left
 
-    -- it has no_refusal, and its places are taken
+    -- it has passed, and its places are taken
     standing-next : Tested w.store (get_or l (k - 1) no_enqueued).anchor → (tk' : List Bool) → Took cs os tk (gathered_of s ks ls (supposing tk cs) os (get_or l (k - 1) no_enqueued).anchor) tk' → Standing s ks ls cs os l tk' (k - 1)
     standing-next c tk' y = record {
       store = dequeued w.store e;

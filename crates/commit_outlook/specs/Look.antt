@@ -151,7 +151,7 @@ module _ (s : State) (ks ls cs os : List ℕ) (t : Started s ks ls cs os) (a : �
 unfoldable pub look_at : Store → ℕ → ℕ → Out ℕ
 look_at v left a = then (tested v a) (λ x. refuse (ltb left (look_size v a)) 21 (good a))
 
--- an anchor that passes has no_refusal its tests, and has room for its bytes
+-- an anchor that passes has passed its tests, and has room for its bytes
 pub look-good : (v : Store) (left a : ℕ) → look_at v left a ≡ good a → ((b : ℕ) × (tested v a ≡ good b)) × (look_size v a ≤ left)
 unfolding look_at
 look-good v left a h =

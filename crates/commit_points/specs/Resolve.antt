@@ -49,7 +49,7 @@ module _ (i : PointId) (info : PointInfo) (rs : List ℕ) (d : Tables) (fk : Fit
   abbrev check : Check
   check = tested (counts_as_started (view_of d)) (numbered code)
 
-  -- the tests that an accepted one no_refusal
+  -- the tests that an accepted one passed
   passes : code ≡ 0 → (point_code d.state d.keys d.order i ≡ 0) × Accepted d.state d.keys d.order q info rs
   unfolding resolve_code
   passes e = let (a, b) = else_zero _ _ e in (a, info_accepted d.state d.keys d.order q info rs b)

@@ -1,7 +1,6 @@
 // Origin: dag/commit/back.rs (DagBack).
 // The state and the lent tables, as the functions take them that only read. That the words of keys and links are words of 64 bits is said
 // here once.
-ghost use Rattle.std.specs.Prelude.{◌≡◌};
 ghost use Rattle.models.specs.Digest.{Fit};
 
 use crate::state::State;

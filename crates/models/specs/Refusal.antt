@@ -41,7 +41,7 @@ module _ (w : Refusal) where
   unfolding number_of refusal_of
   number_13 r e = rw e refl
 
--- a test: no_refusal, or what it refuses with
+-- a test: passed, or what it refuses with
 abbrev pub Check : Type 0
 Check = Result (Unit {0}) Refusal
 
@@ -62,7 +62,7 @@ unfoldable pub numbered : ℕ → Check
 numbered zero = no_refusal
 numbered (suc n) = failed (suc n)
 
--- a test that no_refusal didn't fail
+-- a test that passed didn't fail
 pub not_failed : (r : Refusal) → Err r ≡ no_refusal → ⊥
 not_failed r e = let z : ◌≡◌ {A = ℕ} 0 1 = cc in omega arith
 
