@@ -9,7 +9,6 @@ ghost use Rattle.back_history.specs.Model.{Range};
 ghost use Rattle.back_behind.specs.Model.{goes_before, note_at, note_links, note_down, sources, Sourced};
 
 use back_history::is_uncommitted;
-use commit_state::dag::Dag;
 use models::parts::Round;
 use models::place::{live_links, round_word, target};
 use models::tables::{PLACES_MAX, PLACES_MAX_WORD};
@@ -55,21 +54,24 @@ fn note_links(by: &mut [u16; PLACES_MAX], keys: &[u64], links: &[u64], q: usize,
 // From position `high` down to `low`: a place of the history is noted for the places that its live links lead to.
 fn note_down(
     by: &mut [u16; PLACES_MAX],
-    dag: &Dag,
+    keys: &[u64],
+    links: &[u64],
+    certs: &[u64],
+    order: &[u64],
     bottom: Round,
     low: usize,
     high: usize,
     marks: &[bool; PLACES_MAX],
 )
-    requires range { Range dag.now.certs.now dag.now.order.now low high }
-    requires keys_len { (length dag.now.keys.now ≡ length dag.now.order.now * 8) × (length dag.now.links.now ≡ length dag.now.order.now * 328) × Sourced (length dag.now.keys.now) by.old }
-    ensures { (by.new ≡ note_down bottom.0 dag.now.keys.now dag.now.links.now dag.now.certs.now dag.now.order.now marks.now
-        by.old high (high - low)) × Sourced (length dag.now.keys.now) by.new }
+    requires range { Range certs.now order.now low high }
+    requires keys_len { (length keys.now ≡ length order.now * 8) × (length links.now ≡ length order.now * 328) × Sourced (length keys.now) by.old }
+    ensures { (by.new ≡ note_down bottom.0 keys.now links.now certs.now order.now marks.now
+        by.old high (high - low)) × Sourced (length keys.now) by.new }
 {
     for p in (low..high).rev() {
-        let q = dag_round_keys::place(dag.order, high, p);
-        if is_uncommitted(marks, dag.certs, q) {
-            note_links(by, dag.keys, dag.links, q, live_links(dag.keys, bottom, q));
+        let q = dag_round_keys::place(order, high, p);
+        if is_uncommitted(marks, certs, q) {
+            note_links(by, keys, links, q, live_links(keys, bottom, q));
         }
     }
 }
@@ -77,18 +79,21 @@ fn note_down(
 // For each place of the history, which `marks` and `certs` say in the positions from `low` to `high`, the place of the point that is told
 // for it, plus 1; 0 where none links to it.
 pub fn link_sources(
-    dag: &Dag,
+    keys: &[u64],
+    links: &[u64],
+    certs: &[u64],
+    order: &[u64],
     bottom: Round,
     low: usize,
     high: usize,
     marks: &[bool; PLACES_MAX],
 ) -> [u16; PLACES_MAX]
-    requires range { Range dag.now.certs.now dag.now.order.now low high }
-    requires keys_len { (length dag.now.keys.now ≡ length dag.now.order.now * 8) × (length dag.now.links.now ≡ length dag.now.order.now * 328) }
-    ensures { (result ≡ sources bottom.0 dag.now.keys.now dag.now.links.now dag.now.certs.now dag.now.order.now marks.now low high)
-        × Sourced (length dag.now.keys.now) result }
+    requires range { Range certs.now order.now low high }
+    requires keys_len { (length keys.now ≡ length order.now * 8) × (length links.now ≡ length order.now * 328) }
+    ensures { (result ≡ sources bottom.0 keys.now links.now certs.now order.now marks.now low high)
+        × Sourced (length keys.now) result }
 {
     let mut by = [0u16; PLACES_MAX];
-    note_down(&mut by, dag, bottom, low, high, marks);
+    note_down(&mut by, keys, links, certs, order, bottom, low, high, marks);
     by
 }

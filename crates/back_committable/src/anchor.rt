@@ -92,7 +92,7 @@ fn anchor_code(
     }
     let low = span.low;
     let high = span.high;
-    history_fault(marks, dag, low, high)?;
+    history_fault(marks, dag.keys, dag.certs, dag.order, low, high)?;
     let full = dag.state.full_history_bottom;
     let limit = span.limit;
     let bottom = dag.state.bottom;
@@ -116,7 +116,9 @@ pub fn gather_history(dag: &Dag, taken: &[bool; PLACES_MAX], anchor: usize) -> G
     let low = span.low;
     let high = span.high;
     let bottom = dag.state.bottom;
-    let marks = gather_uncommitted(dag, taken, bottom, low, high, anchor);
+    let marks = gather_uncommitted(
+        dag.keys, dag.links, dag.certs, taken, dag.order, bottom, low, high, anchor,
+    );
     let count = count_points(&marks, dag, taken, low, high);
     Gathered {
         span: span,

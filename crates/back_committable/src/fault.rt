@@ -6,7 +6,6 @@ ghost use Rattle.back_history.specs.Model.{Range};
 ghost use Rattle.back_committable.specs.Scan.{sooner_of};
 ghost use Rattle.back_committable.specs.ModelPoints.{fault_at, faulty, round_of, first_fault, found_fault, Rounds};
 
-use commit_state::dag::Dag;
 use dag_round_keys::look::{Look, look_place};
 use models::cert::Cert;
 use models::dag_point::DagPoint;
@@ -70,16 +69,23 @@ fn sooner(keys: &[u64], order: &[u64], none: usize, found: usize, p: usize) -> u
 }
 
 // The position from `low` to `high` of the first point that isn't usable, or `high`.
-pub fn first_fault(marks: &[bool; PLACES_MAX], dag: &Dag, low: usize, high: usize) -> usize
-    requires range { Range dag.now.certs.now dag.now.order.now low high }
-    requires keys_len { (length dag.now.keys.now ≡ length dag.now.order.now * 8) × Rounds dag.now.keys.now dag.now.order.now high }
-    ensures { result ≡ first_fault dag.now.keys.now dag.now.certs.now dag.now.order.now marks.now low high }
+pub fn first_fault(
+    marks: &[bool; PLACES_MAX],
+    keys: &[u64],
+    certs: &[u64],
+    order: &[u64],
+    low: usize,
+    high: usize,
+) -> usize
+    requires range { Range certs.now order.now low high }
+    requires keys_len { (length keys.now ≡ length order.now * 8) × Rounds keys.now order.now high }
+    ensures { result ≡ first_fault keys.now certs.now order.now marks.now low high }
 {
     let mut found = high;
     for p in (low..high).rev() {
-        let q = dag_round_keys::place(dag.order, high, p);
-        if is_faulty(marks, dag.keys, dag.certs, q) {
-            found = sooner(dag.keys, dag.order, high, found, p);
+        let q = dag_round_keys::place(order, high, p);
+        if is_faulty(marks, keys, certs, q) {
+            found = sooner(keys, order, high, found, p);
         }
     }
     found
@@ -88,18 +94,20 @@ pub fn first_fault(marks: &[bool; PLACES_MAX], dag: &Dag, low: usize, high: usiz
 // What the history is refused with for its points.
 pub fn history_fault(
     marks: &[bool; PLACES_MAX],
-    dag: &Dag,
+    keys: &[u64],
+    certs: &[u64],
+    order: &[u64],
     low: usize,
     high: usize,
 ) -> Result<(), Refusal>
-    requires range { Range dag.now.certs.now dag.now.order.now low high }
-    requires keys_len { (length dag.now.keys.now ≡ length dag.now.order.now * 8) × Rounds dag.now.keys.now dag.now.order.now high }
-    ensures { result ≡ found_fault dag.now.keys.now dag.now.certs.now dag.now.order.now marks.now low high }
+    requires range { Range certs.now order.now low high }
+    requires keys_len { (length keys.now ≡ length order.now * 8) × Rounds keys.now order.now high }
+    ensures { result ≡ found_fault keys.now certs.now order.now marks.now low high }
 {
-    let p = first_fault(marks, dag, low, high);
+    let p = first_fault(marks, keys, certs, order, low, high);
     if high <= p {
         return Ok(());
     }
-    let q = dag_round_keys::place(dag.order, high, p);
-    committable_point(dag.keys, dag.certs, q)
+    let q = dag_round_keys::place(order, high, p);
+    committable_point(keys, certs, q)
 }

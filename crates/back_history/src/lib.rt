@@ -89,46 +89,49 @@ pub fn is_fresh(
 // From position `high` down to `low`: a marked place that is neither committed nor taken marks the places that its live links lead to.
 fn sweep(
     marks: &mut [bool; PLACES_MAX],
-    dag: &Dag,
+    keys: &[u64],
+    links: &[u64],
+    certs: &[u64],
     taken: &[bool; PLACES_MAX],
+    order: &[u64],
     bottom: Round,
     low: usize,
     high: usize,
 )
-    requires range { Range dag.now.certs.now dag.now.order.now low high }
-    requires keys_len { (length dag.now.keys.now ≡ length dag.now.order.now * 8) × (length dag.now.links.now ≡ length dag.now.order.now * 328) }
-    ensures { marks.new ≡ swept bottom.0 dag.now.keys.now dag.now.links.now
-        (supposing taken.now dag.now.certs.now) dag.now.order.now marks.old high (high - low) }
+    requires range { Range certs.now order.now low high }
+    requires keys_len { (length keys.now ≡ length order.now * 8) × (length links.now ≡ length order.now * 328) }
+    ensures { marks.new ≡ swept bottom.0 keys.now links.now
+        (supposing taken.now certs.now) order.now marks.old high (high - low) }
 {
     for p in (low..high).rev() {
-        let q = dag_round_keys::place(dag.order, high, p);
-        if is_fresh(marks, dag.certs, taken, q) {
-            mark_links(
-                marks,
-                dag.links,
-                q,
-                models::place::live_links(dag.keys, bottom, q),
-            );
+        let q = dag_round_keys::place(order, high, p);
+        if is_fresh(marks, certs, taken, q) {
+            mark_links(marks, links, q, models::place::live_links(keys, bottom, q));
         }
     }
 }
 
 // The places that the anchor needs, of the positions from `low` to `high`; those committed or taken hand on no links.
 pub fn gather_uncommitted(
-    dag: &Dag,
+    keys: &[u64],
+    links: &[u64],
+    certs: &[u64],
     taken: &[bool; PLACES_MAX],
+    order: &[u64],
     bottom: Round,
     low: usize,
     high: usize,
     anchor: usize,
 ) -> [bool; PLACES_MAX]
-    requires range { Range dag.now.certs.now dag.now.order.now low high }
-    requires keys_len { (length dag.now.keys.now ≡ length dag.now.order.now * 8) × (length dag.now.links.now ≡ length dag.now.order.now * 328) × (anchor < length dag.now.order.now) }
-    ensures { result ≡ marks bottom.0 dag.now.keys.now dag.now.links.now (supposing taken.now dag.now.certs.now) dag.now.order.now low high anchor }
+    requires range { Range certs.now order.now low high }
+    requires keys_len { (length keys.now ≡ length order.now * 8) × (length links.now ≡ length order.now * 328) × (anchor < length order.now) }
+    ensures { result ≡ marks bottom.0 keys.now links.now (supposing taken.now certs.now) order.now low high anchor }
 {
     let mut marks = [false; PLACES_MAX];
     marks[anchor] = true;
-    sweep(&mut marks, dag, taken, bottom, low, high);
+    sweep(
+        &mut marks, keys, links, certs, taken, order, bottom, low, high,
+    );
     marks
 }
 

@@ -119,8 +119,8 @@ fn put_anchor(
     let before = previous_anchor(dag.state, round, prev_proof_round);
     let n = dag.state.count;
     put_record(
-        b, at, dag, by, marks, n, lists, lists_end, round, lowest, anchor, proof, x, before, count,
-        sums,
+        b, at, dag.keys, by, marks, dag.order, dag.certs, n, lists, lists_end, round, lowest,
+        anchor, proof, x, before, count, sums,
     )
 }
 
@@ -183,7 +183,9 @@ pub fn dequeue_anchor(
     }
     let sums = payload_sums(&marks, &dag, t.low, t.high);
     let bottom = s.bottom;
-    let by = link_sources(&dag, bottom, t.low, t.high, &marks);
+    let by = link_sources(
+        dag.keys, dag.links, dag.certs, dag.order, bottom, t.low, t.high, &marks,
+    );
     let lists_end = listed.end;
     let end = put_anchor(
         &dag, lists, lists_end, b, at, e, &by, &marks, t.lowest, t.count, sums,

@@ -6,7 +6,6 @@ ghost use Rattle.back_history.specs.Model.{Range};
 ghost use Rattle.inspector_counters.specs.Counts.{Few, no_counts, counting, Counted};
 
 use crate::tests::{Passed, version_at};
-use commit_state::dag::Dag;
 use models::tables::PEERS_MAX;
 
 #[derive(Clone, Copy)]
@@ -58,17 +57,23 @@ impl PointCounts {
 }
 
 // The counts of authors 0 to 31, of the points at positions `low` to `high`.
-pub fn round_counts(dag: &Dag, low: usize, high: usize) -> [PointCounts; PEERS_MAX]
-    requires range { Range dag.now.certs.now dag.now.order.now low high }
-    requires keys_len { length dag.now.keys.now ≡ length dag.now.order.now * 8 }
-    ensures { Counted dag.now.keys.now dag.now.certs.now dag.now.order.now low (high - low) result }
+pub fn round_counts(
+    keys: &[u64],
+    certs: &[u64],
+    order: &[u64],
+    low: usize,
+    high: usize,
+) -> [PointCounts; PEERS_MAX]
+    requires range { Range certs.now order.now low high }
+    requires keys_len { length keys.now ≡ length order.now * 8 }
+    ensures { Counted keys.now certs.now order.now low (high - low) result }
 {
     let mut counts = [PointCounts::new(); PEERS_MAX];
-    for &point in &dag.order[low..high] {
+    for &point in &order[low..high] {
         let q = laws::slot(point);
-        let author = laws::slot(models::place::author(dag.keys, q));
+        let author = laws::slot(models::place::author(keys, q));
         if author < PEERS_MAX {
-            let version = version_at(dag.keys, dag.certs, q);
+            let version = version_at(keys, certs, q);
             let passed = version.inspect();
             let cell = counts[author];
             counts[author] = cell.add(passed);

@@ -12,7 +12,6 @@ ghost use Rattle.inspector_events.specs.Author.{singles_of, digests_of, fork_of}
 
 use crate::emitted::Emitted;
 use answer_bytes::{emit_digest, emit_id, emit_number};
-use commit_state::dag::Dag;
 use inspector_counters::tests::{PointTest, passes};
 use models::parts::Round;
 use models::tables::{KEY_DIGEST, KEY_WORDS};
@@ -39,7 +38,9 @@ pub fn emit_single(
 
 // Those of the author's points from position `low` to `high` that pass the test.
 pub fn emit_singles(
-    dag: &Dag,
+    keys: &[u64],
+    certs: &[u64],
+    order: &[u64],
     low: usize,
     high: usize,
     b: &mut [u8],
@@ -49,15 +50,15 @@ pub fn emit_singles(
     kind: u64,
     test: PointTest,
 ) -> Emitted
-    requires range { Range dag.now.certs.now dag.now.order.now low high × (length dag.now.keys.now ≡ length dag.now.order.now * 8) }
-    requires ready { Ready event_bytes write b.old e (singles_of dag.now.keys.now dag.now.certs.now dag.now.order.now low (high - low) kind test author) }
-    ensures { Told event_bytes write b.old e (singles_of dag.now.keys.now dag.now.certs.now dag.now.order.now low (high - low) kind test author) result b.new }
+    requires range { Range certs.now order.now low high × (length keys.now ≡ length order.now * 8) }
+    requires ready { Ready event_bytes write b.old e (singles_of keys.now certs.now order.now low (high - low) kind test author) }
+    ensures { Told event_bytes write b.old e (singles_of keys.now certs.now order.now low (high - low) kind test author) result b.new }
 {
     let mut out = e;
-    for &point in &dag.order[low..high] {
+    for &point in &order[low..high] {
         let q = laws::slot(point);
-        if passes(dag.keys, dag.certs, q, author, test) {
-            out = emit_single(b, out, write, kind, dag.keys, q);
+        if passes(keys, certs, q, author, test) {
+            out = emit_single(b, out, write, kind, keys, q);
         }
     }
     out
@@ -65,7 +66,9 @@ pub fn emit_singles(
 
 // The digests of the author's points there that are found.
 fn emit_digests(
-    dag: &Dag,
+    keys: &[u64],
+    certs: &[u64],
+    order: &[u64],
     low: usize,
     high: usize,
     b: &mut [u8],
@@ -73,15 +76,15 @@ fn emit_digests(
     write: bool,
     author: u32,
 ) -> Emitted
-    requires range { Range dag.now.certs.now dag.now.order.now low high × (length dag.now.keys.now ≡ length dag.now.order.now * 8) }
-    requires ready { Ready (be 32) write b.old e (digests_of dag.now.keys.now dag.now.certs.now dag.now.order.now low (high - low) author) }
-    ensures { Told (be 32) write b.old e (digests_of dag.now.keys.now dag.now.certs.now dag.now.order.now low (high - low) author) result b.new }
+    requires range { Range certs.now order.now low high × (length keys.now ≡ length order.now * 8) }
+    requires ready { Ready (be 32) write b.old e (digests_of keys.now certs.now order.now low (high - low) author) }
+    ensures { Told (be 32) write b.old e (digests_of keys.now certs.now order.now low (high - low) author) result b.new }
 {
     let mut out = e;
-    for &point in &dag.order[low..high] {
+    for &point in &order[low..high] {
         let q = laws::slot(point);
-        if passes(dag.keys, dag.certs, q, author, PointTest::Found) {
-            let at = emit_digest(b, out.at, write, dag.keys, q * KEY_WORDS + KEY_DIGEST);
+        if passes(keys, certs, q, author, PointTest::Found) {
+            let at = emit_digest(b, out.at, write, keys, q * KEY_WORDS + KEY_DIGEST);
             out = Emitted {
                 at,
                 count: out.count + 1,
@@ -93,7 +96,9 @@ fn emit_digests(
 
 // The equivocation of an author of whose points there so many are found: none for a single one.
 pub fn emit_fork(
-    dag: &Dag,
+    keys: &[u64],
+    certs: &[u64],
+    order: &[u64],
     low: usize,
     high: usize,
     b: &mut [u8],
@@ -103,11 +108,11 @@ pub fn emit_fork(
     round: Round,
     found: u16,
 ) -> Emitted
-    requires range { Range dag.now.certs.now dag.now.order.now low high × (length dag.now.keys.now ≡ length dag.now.order.now * 8) }
-    requires found_value { found ≡ count_of dag.now.keys.now dag.now.certs.now dag.now.order.now low high author Found }
-    requires ready { Ready event_bytes write b.old e (fork_of author round.0 (digests_of dag.now.keys.now dag.now.certs.now dag.now.order.now low (high - low) author)) }
+    requires range { Range certs.now order.now low high × (length keys.now ≡ length order.now * 8) }
+    requires found_value { found ≡ count_of keys.now certs.now order.now low high author Found }
+    requires ready { Ready event_bytes write b.old e (fork_of author round.0 (digests_of keys.now certs.now order.now low (high - low) author)) }
     ensures { Told event_bytes write b.old e
-        (fork_of author round.0 (digests_of dag.now.keys.now dag.now.certs.now dag.now.order.now low (high - low) author)) result b.new }
+        (fork_of author round.0 (digests_of keys.now certs.now order.now low (high - low) author)) result b.new }
 {
     if 1 < found {
         let a1 = emit_number(b, e.at, write, 1, 4);
@@ -115,7 +120,7 @@ pub fn emit_fork(
         let a3 = emit_number(b, a2, write, 4, round.0 as u64);
         let a4 = emit_number(b, a3, write, 4, found as u64);
         let from = Emitted { at: a4, count: 0 };
-        let digests = emit_digests(dag, low, high, b, from, write, author);
+        let digests = emit_digests(keys, certs, order, low, high, b, from, write, author);
         return Emitted {
             at: digests.at,
             count: e.count + 1,

@@ -69,7 +69,9 @@ impl Fault {
 
 // The events of this fault of an author of whose points there so many pass its test.
 fn emit_fault(
-    dag: &Dag,
+    keys: &[u64],
+    certs: &[u64],
+    order: &[u64],
     low: usize,
     high: usize,
     b: &mut [u8],
@@ -80,27 +82,33 @@ fn emit_fault(
     fault: Fault,
     n: u16,
 ) -> Emitted
-    requires range { Range dag.now.certs.now dag.now.order.now low high × (length dag.now.keys.now ≡ length dag.now.order.now * 8) }
-    requires n_value { n ≡ count_of dag.now.keys.now dag.now.certs.now dag.now.order.now low high author (test_for fault) }
-    requires ready { Ready event_bytes write b.old e (fault_of dag.now.keys.now dag.now.certs.now dag.now.order.now low (high - low) round.0 fault author) }
-    ensures { Told event_bytes write b.old e (fault_of dag.now.keys.now dag.now.certs.now dag.now.order.now low (high - low) round.0 fault author) result b.new }
+    requires range { Range certs.now order.now low high × (length keys.now ≡ length order.now * 8) }
+    requires n_value { n ≡ count_of keys.now certs.now order.now low high author (test_for fault) }
+    requires ready { Ready event_bytes write b.old e (fault_of keys.now certs.now order.now low (high - low) round.0 fault author) }
+    ensures { Told event_bytes write b.old e (fault_of keys.now certs.now order.now low (high - low) round.0 fault author) result b.new }
 {
     if n == 0 {
         return e;
     }
     match fault {
-        Fault::Equivocated => emit_fork(dag, low, high, b, e, write, author, round, n),
+        Fault::Equivocated => emit_fork(
+            keys, certs, order, low, high, b, e, write, author, round, n,
+        ),
         _ => {
             let kind = fault.kind();
             let test = fault.test();
-            emit_singles(dag, low, high, b, e, write, author, kind, test)
+            emit_singles(
+                keys, certs, order, low, high, b, e, write, author, kind, test,
+            )
         }
     }
 }
 
 // The events of this fault of the points of a round, from position `low` to `high`, by rising author, then by rising digest.
 pub fn emit_faults(
-    dag: &Dag,
+    keys: &[u64],
+    certs: &[u64],
+    order: &[u64],
     low: usize,
     high: usize,
     b: &mut [u8],
@@ -109,16 +117,18 @@ pub fn emit_faults(
     round: Round,
     fault: Fault,
 ) -> Emitted
-    requires range { Range dag.now.certs.now dag.now.order.now low high × (length dag.now.keys.now ≡ length dag.now.order.now * 8) }
-    requires ready { Ready event_bytes write b.old e (up_to 32 (fault_of dag.now.keys.now dag.now.certs.now dag.now.order.now low (high - low) round.0 fault)) }
-    ensures { Told event_bytes write b.old e (up_to 32 (fault_of dag.now.keys.now dag.now.certs.now dag.now.order.now low (high - low) round.0 fault)) result b.new }
+    requires range { Range certs.now order.now low high × (length keys.now ≡ length order.now * 8) }
+    requires ready { Ready event_bytes write b.old e (up_to 32 (fault_of keys.now certs.now order.now low (high - low) round.0 fault)) }
+    ensures { Told event_bytes write b.old e (up_to 32 (fault_of keys.now certs.now order.now low (high - low) round.0 fault)) result b.new }
 {
-    let counts = round_counts(dag, low, high);
+    let counts = round_counts(keys, certs, order, low, high);
     let mut out = e;
     for (author, &found) in counts.iter().enumerate() {
         let n = fault.count(found);
         let author = author as u32;
-        out = emit_fault(dag, low, high, b, out, write, author, round, fault, n);
+        out = emit_fault(
+            keys, certs, order, low, high, b, out, write, author, round, fault, n,
+        );
     }
     out
 }
@@ -145,7 +155,9 @@ pub fn emit_fault_rounds(
     for k in 0..rounds {
         let round = first.plus(k);
         let span = span_at(dag.keys, dag.order, n, round);
-        out = emit_faults(dag, span.low, span.high, b, out, write, round, fault);
+        out = emit_faults(
+            dag.keys, dag.certs, dag.order, span.low, span.high, b, out, write, round, fault,
+        );
     }
     out
 }

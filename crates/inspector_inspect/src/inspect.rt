@@ -70,7 +70,7 @@ fn round_counters(
     ensures { CountersAre dag.now.state.now dag.now.keys.now dag.now.links.now dag.now.certs.now dag.now.order.now round.0 result }
 {
     let span = span_at(dag.keys, dag.order, dag.state.count, round);
-    let counts = round_counts(dag, span.low, span.high);
+    let counts = round_counts(dag.keys, dag.certs, dag.order, span.low, span.high);
     let record = dag.state.rounds[(round.0 % ROUND_SLOTS) as usize];
     counters_of(counts, record.used_anchor_proof, sets, n, signers)
 }

@@ -16,7 +16,6 @@ use crate::links::put_link;
 use crate::sums::{PayloadSums, put_sums};
 use answer_bytes::{put_id, put_number};
 use back_order::{byte_at, count_linked, ranked};
-use commit_state::dag::Dag;
 use commit_state::state::State;
 use dag_round_order::span::span_at;
 use models::cert::Cert;
@@ -56,27 +55,29 @@ fn put_round(
     ids: usize,
     told: usize,
     k: usize,
-    dag: &Dag,
+    keys: &[u64],
+    certs: &[u64],
     by: &[u16; PLACES_MAX],
     marks: &[bool; PLACES_MAX],
+    order: &[u64],
     lists: &[u8],
     from: usize,
     low: usize,
     high: usize,
     n: usize,
 ) -> usize
-    requires n_in_bounds { (from + n ≤ length lists.now) × (each_once n (take n (drop from lists.now)) ≡ true) × (length dag.now.certs.now * 8 ≤ length dag.now.keys.now)
-        × (length dag.now.certs.now ≡ length dag.now.order.now) × (length dag.now.order.now ≤ 4096) × Sourced (length dag.now.keys.now) by.now }
-    requires run { Run dag.now.order.now low high × (n ≡ length (linked_by dag.now.order.now marks.now low (high - low))) }
-    requires room { Room ids told k (length (out_by dag.now.certs.now (linked_by dag.now.order.now marks.now low (high - low)) (take n (drop from lists.now)))) (length b.old) }
-    ensures { Wrote dag.now.keys.now by.now ids told b.old k
-        (out_by dag.now.certs.now (linked_by dag.now.order.now marks.now low (high - low)) (take n (drop from lists.now))) b.new result }
+    requires n_in_bounds { (from + n ≤ length lists.now) × (each_once n (take n (drop from lists.now)) ≡ true) × (length certs.now * 8 ≤ length keys.now)
+        × (length certs.now ≡ length order.now) × (length order.now ≤ 4096) × Sourced (length keys.now) by.now }
+    requires run { Run order.now low high × (n ≡ length (linked_by order.now marks.now low (high - low))) }
+    requires room { Room ids told k (length (out_by certs.now (linked_by order.now marks.now low (high - low)) (take n (drop from lists.now)))) (length b.old) }
+    ensures { Wrote keys.now by.now ids told b.old k
+        (out_by certs.now (linked_by order.now marks.now low (high - low)) (take n (drop from lists.now))) b.new result }
 {
     let mut end = k;
     for i in (0..n).rev() {
         let v = byte_at(lists, from + i);
-        let q = ranked(marks, dag.order, low, high, v);
-        end = put_new(b, ids, told, end, dag.keys, dag.certs, by, q);
+        let q = ranked(marks, order, low, high, v);
+        end = put_new(b, ids, told, end, keys, certs, by, q);
     }
     end
 }
@@ -94,25 +95,27 @@ fn put_one(
     ids: usize,
     told: usize,
     k: usize,
-    dag: &Dag,
+    keys: &[u64],
     by: &[u16; PLACES_MAX],
     marks: &[bool; PLACES_MAX],
+    order: &[u64],
+    certs: &[u64],
     n: usize,
     lists: &[u8],
     end: usize,
     round: Round,
 ) -> Done
-    requires round_listed { RoundListed dag.now.keys.now dag.now.order.now n dag.now.certs.now marks.now lists.now end round.0 × Sourced (length dag.now.keys.now) by.now }
-    requires room { Room ids told k (length (round_by dag.now.keys.now dag.now.order.now n dag.now.certs.now marks.now lists.now end round.0)) (length b.old) }
-    ensures { (result.end ≡ end - count_by dag.now.keys.now dag.now.order.now n marks.now round.0) × Wrote dag.now.keys.now by.now ids told
-        b.old k (round_by dag.now.keys.now dag.now.order.now n dag.now.certs.now marks.now lists.now end round.0) b.new
+    requires round_listed { RoundListed keys.now order.now n certs.now marks.now lists.now end round.0 × Sourced (length keys.now) by.now }
+    requires room { Room ids told k (length (round_by keys.now order.now n certs.now marks.now lists.now end round.0)) (length b.old) }
+    ensures { (result.end ≡ end - count_by keys.now order.now n marks.now round.0) × Wrote keys.now by.now ids told
+        b.old k (round_by keys.now order.now n certs.now marks.now lists.now end round.0) b.new
         result.points }
 {
-    let span = span_at(dag.keys, dag.order, n, round);
-    let count = count_linked(marks, dag.order, span.low, span.high);
+    let span = span_at(keys, order, n, round);
+    let count = count_linked(marks, order, span.low, span.high);
     let from = end - count;
     let points = put_round(
-        b, ids, told, k, dag, by, marks, lists, from, span.low, span.high, count,
+        b, ids, told, k, keys, certs, by, marks, order, lists, from, span.low, span.high, count,
     );
     Done { points, end: from }
 }
@@ -123,21 +126,23 @@ pub fn put_points(
     b: &mut [u8],
     ids: usize,
     told: usize,
-    dag: &Dag,
+    keys: &[u64],
     by: &[u16; PLACES_MAX],
     marks: &[bool; PLACES_MAX],
+    order: &[u64],
+    certs: &[u64],
     n: usize,
     lists: &[u8],
     end: usize,
     round: Round,
     lowest: Round,
 )
-    requires listable { Listable dag.now.keys.now dag.now.order.now n dag.now.certs.now marks.now lists.now end round.0 lowest.0 × Sourced (length dag.now.keys.now) by.now }
-    requires room { Room ids told 0 (length (history_by dag.now.keys.now dag.now.order.now n dag.now.certs.now marks.now lists.now end round.0 lowest.0)) (length b.old) }
-    ensures { b.new ≡ written (written b.old ids (points_of dag.now.keys.now
-        (history_by dag.now.keys.now dag.now.order.now n dag.now.certs.now marks.now lists.now end round.0 lowest.0))) told
-        (links_of dag.now.keys.now by.now
-        (history_by dag.now.keys.now dag.now.order.now n dag.now.certs.now marks.now lists.now end round.0 lowest.0)) }
+    requires listable { Listable keys.now order.now n certs.now marks.now lists.now end round.0 lowest.0 × Sourced (length keys.now) by.now }
+    requires room { Room ids told 0 (length (history_by keys.now order.now n certs.now marks.now lists.now end round.0 lowest.0)) (length b.old) }
+    ensures { b.new ≡ written (written b.old ids (points_of keys.now
+        (history_by keys.now order.now n certs.now marks.now lists.now end round.0 lowest.0))) told
+        (links_of keys.now by.now
+        (history_by keys.now order.now n certs.now marks.now lists.now end round.0 lowest.0)) }
 {
     let above = round.plus(1);
     let rounds = above.minus(lowest.0);
@@ -146,7 +151,9 @@ pub fn put_points(
     let mut from = end;
     for k in 0..total {
         let r = lowest.plus(k);
-        let done = put_one(b, ids, told, points, dag, by, marks, n, lists, from, r);
+        let done = put_one(
+            b, ids, told, points, keys, by, marks, order, certs, n, lists, from, r,
+        );
         points = done.points;
         from = done.end;
     }
@@ -189,9 +196,11 @@ pub fn put_head(
 pub fn put_record(
     b: &mut [u8],
     at: usize,
-    dag: &Dag,
+    keys: &[u64],
     by: &[u16; PLACES_MAX],
     marks: &[bool; PLACES_MAX],
+    order: &[u64],
+    certs: &[u64],
     n: usize,
     lists: &[u8],
     end: usize,
@@ -204,15 +213,17 @@ pub fn put_record(
     count: usize,
     sums: PayloadSums,
 ) -> usize
-    requires listable { Listable dag.now.keys.now dag.now.order.now n dag.now.certs.now marks.now lists.now end round.0 lowest.0 × Sourced (length dag.now.keys.now) by.now }
-    requires anchor_in_bounds { (anchor < length dag.now.certs.now) × (proof < length dag.now.certs.now) × (count ≡ length
-        (history_by dag.now.keys.now dag.now.order.now n dag.now.certs.now marks.now lists.now end round.0 lowest.0)) × (at + 99 + count * 82 ≤ length b.old) }
-    ensures { (result ≡ at + 99 + count * 82) × (b.new ≡ written b.old at (record_of dag.now.keys.now by.now anchor proof executable previous.0
-        (history_by dag.now.keys.now dag.now.order.now n dag.now.certs.now marks.now lists.now end round.0 lowest.0) sums.len sums.bytes)) }
+    requires listable { Listable keys.now order.now n certs.now marks.now lists.now end round.0 lowest.0 × Sourced (length keys.now) by.now }
+    requires anchor_in_bounds { (anchor < length certs.now) × (proof < length certs.now) × (count ≡ length
+        (history_by keys.now order.now n certs.now marks.now lists.now end round.0 lowest.0)) × (at + 99 + count * 82 ≤ length b.old) }
+    ensures { (result ≡ at + 99 + count * 82) × (b.new ≡ written b.old at (record_of keys.now by.now anchor proof executable previous.0
+        (history_by keys.now order.now n certs.now marks.now lists.now end round.0 lowest.0) sums.len sums.bytes)) }
 {
-    let ids = put_head(b, at, dag.keys, anchor, proof, executable, previous, count);
+    let ids = put_head(b, at, keys, anchor, proof, executable, previous, count);
     let told = ids + count * ID_BYTES;
-    put_points(b, ids, told, dag, by, marks, n, lists, end, round, lowest);
+    put_points(
+        b, ids, told, keys, by, marks, order, certs, n, lists, end, round, lowest,
+    );
     put_sums(b, told + count * LINK_BYTES, sums)
 }
 

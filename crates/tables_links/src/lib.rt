@@ -65,7 +65,9 @@ fn link_right(
     fits_link(keys, links, q, k, p)
 }
 
-// The first m links of place q, all live.
+// The first m links of place q, all live. A function of its own as built too: inlined into the table test, its loop reads the tables' addresses
+// from the stack at every link.
+#[inline(never)]
 fn links_right(
     keys: &[u64],
     links: &[u64],

@@ -26,7 +26,7 @@ loop-p-preserved-then-is_uncommitted c =
     let l = c.loop-p.invariant in (
       omega arith,
       down_hit _ _ _ _ _ _ _ _ _ _ _ _ _ _ l.1 (omega arith) (omega arith) q.value c.is_uncommitted.ensures c.if-is_uncommitted.true c.live_links.ensures.value c.note_links.ensures,
-      subst (Sourced (length c.args.dag.now.keys.now)) (sym c.note_links.ensures) (links_sourced _ _ _ (omega (arith, q, s.range, s.keys_len.0)) _ _ _ l.2),
+      subst (Sourced (length c.args.keys.now)) (sym c.note_links.ensures) (links_sourced _ _ _ (omega (arith, q, s.range, s.keys_len.0)) _ _ _ l.2),
     )
 
 pub loop-p-preserved : goal.loop-p-preserved

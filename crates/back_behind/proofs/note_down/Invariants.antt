@@ -5,4 +5,4 @@ use Rattle.back_behind.specs.Model.{Sourced, note_down}
 use Rattle.back_behind.proofs.note_down.Given as goal
 
 abbrev pub invariant-loop-p : goal.invariant-loop-p
-invariant-loop-p l = (l.low ≤ l.p) × (l.by ≡ note_down l.bottom.0 l.dag.keys.now l.dag.links.now l.dag.certs.now l.dag.order.now l.marks l.initial.by l.high (l.high - l.p)) × Sourced (length l.dag.keys.now) l.by
+invariant-loop-p l = (l.low ≤ l.p) × (l.by ≡ note_down l.bottom.0 l.keys l.links l.certs l.order l.marks l.initial.by l.high (l.high - l.p)) × Sourced (length l.keys) l.by

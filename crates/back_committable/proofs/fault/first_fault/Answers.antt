@@ -15,7 +15,7 @@ place-q-requires c = record { i_lt_n = search rules; inside = c.requires.range.4
 pub is_faulty-requires : goal.is_faulty-requires
 is_faulty-requires c =
     let a = c.args in
-    (search rules, search rules, round-fits a.dag.now.keys.now a.dag.now.order.now a.high _ _ c.requires.keys_len.1 (omega arith) c.place-q.ensures.value, search rules)
+    (search rules, search rules, round-fits a.keys.now a.order.now a.high _ _ c.requires.keys_len.1 (omega arith) c.place-q.ensures.value, search rules)
 
 pub sooner-found-requires : goal.sooner-found-requires
 sooner-found-requires c = (search rules, scanned_most _ _ _ _ _ c.loop-p.invariant.1, search rules, search rules, c.requires.range.4)

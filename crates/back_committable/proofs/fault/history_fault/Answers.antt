@@ -10,7 +10,7 @@ returns-then-high-p c = found_none _ _ _ _ _ _ _ c.first_fault-p.ensures c.if-hi
 pub committable_point-requires : goal.committable_point-requires
 committable_point-requires c =
     let a = c.args in
-    (search rules, round-fits a.dag.now.keys.now a.dag.now.order.now a.high _ _ c.requires.keys_len.1 c.if-high-p.false c.place-q.ensures.value, search rules)
+    (search rules, round-fits a.keys.now a.order.now a.high _ _ c.requires.keys_len.1 c.if-high-p.false c.place-q.ensures.value, search rules)
 
 -- src/fault.rt:111:1
 pub returns : goal.returns

@@ -21,6 +21,6 @@ add-requires c =
 pub loop-point-preserved : goal.loop-point-preserved
 loop-point-preserved c =
     let inv = c.loop-point.invariant in
-    let at : c.slot-q.result ≡ place_at c.args.dag.now.order.now (c.args.low + c.loop-point.point-index) = c.slot-q.ensures ∙ item _ c.args.low (c.args.high - c.args.low) c.loop-point.point-index (omega arith) in
+    let at : c.slot-q.result ≡ place_at c.args.order.now (c.args.low + c.loop-point.point-index) = c.slot-q.ensures ∙ item _ c.args.low (c.args.high - c.args.low) c.loop-point.point-index (omega arith) in
     let is = c.slot-author.ensures ∙ c.author.ensures in
     elim c.if-author-lt-PEERS_MAX.branch [ then-author-lt-PEERS_MAX w ↦ counted-yes _ _ _ _ _ _ at _ _ inv _ _ _ _ is w.if-author-lt-PEERS_MAX.true w.version_at-version.ensures w.inspect-passed.ensures w.add.ensures w.counts-is | else-author-lt-PEERS_MAX w ↦ counted_no _ _ _ _ _ _ at _ _ inv _ is w.if-author-lt-PEERS_MAX.false w.counts-is ]

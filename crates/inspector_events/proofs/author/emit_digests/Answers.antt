@@ -18,20 +18,20 @@ loop-point-init c = passing-none _ _ _ _ _ _ _
 pub emit_digest-at-requires : goal.emit_digest-at-requires
 emit_digest-at-requires c =
     let l = c.loop-point in
-    let at : c.slot-q.result ≡ place_at c.args.dag.now.order.now (c.args.low + l.point-index) = c.slot-q.ensures ∙ item _ c.args.low (c.args.high - c.args.low) l.point-index (omega arith) in
+    let at : c.slot-q.result ≡ place_at c.args.order.now (c.args.low + l.point-index) = c.slot-q.ensures ∙ item _ c.args.low (c.args.high - c.args.low) l.point-index (omega arith) in
     (digest_room _ _ _ _ (passing_ready _ _ _ _ _ _ _ l.point-index _ _ l.invariant _ at _ c.passes.ensures _ (omega arith) c.if-passes.true c.requires.ready), search rules)
 
 pub overflow_add-out : goal.overflow_add-out
 overflow_add-out c =
     let l = c.loop-point in
-    let at : c.slot-q.result ≡ place_at c.args.dag.now.order.now (c.args.low + l.point-index) = c.slot-q.ensures ∙ item _ c.args.low (c.args.high - c.args.low) l.point-index (omega arith) in
+    let at : c.slot-q.result ≡ place_at c.args.order.now (c.args.low + l.point-index) = c.slot-q.ensures ∙ item _ c.args.low (c.args.high - c.args.low) l.point-index (omega arith) in
     let h = (ready_one _ _ _ _ _ (passing_ready _ _ _ _ _ _ _ l.point-index _ _ l.invariant _ at _ c.passes.ensures _ (omega arith) c.if-passes.true c.requires.ready)).1 in
     omega (arith, h)
 
 pub loop-point-preserved : goal.loop-point-preserved
 loop-point-preserved c =
     let l = c.loop-point in
-    let at : c.slot-q.result ≡ place_at c.args.dag.now.order.now (c.args.low + l.point-index) = c.slot-q.ensures ∙ item _ c.args.low (c.args.high - c.args.low) l.point-index (omega arith) in
+    let at : c.slot-q.result ≡ place_at c.args.order.now (c.args.low + l.point-index) = c.slot-q.ensures ∙ item _ c.args.low (c.args.high - c.args.low) l.point-index (omega arith) in
     let is = c.passes.ensures in
     elim c.if-passes.branch [ then-passes w ↦ passing-yes _ _ _ _ _ _ _ _ _ _ l.invariant _ at _ is _ _ _ _ w.if-passes.true (told-one _ _ _ _ _ _ _ w.emit_digest-at.ensures refl) w.out-is w.b-is | else-passes w ↦ passing_no _ _ _ _ _ _ _ _ _ _ l.invariant _ at _ is _ _ w.if-passes.false w.out-is w.b-is ]
 

@@ -16,13 +16,13 @@ loop-point-init c = passing-none _ _ _ _ _ _ _
 pub emit_single-out-requires : goal.emit_single-out-requires
 emit_single-out-requires c =
     let l = c.loop-point in
-    let at : c.slot-q.result ≡ place_at c.args.dag.now.order.now (c.args.low + l.point-index) = c.slot-q.ensures ∙ item _ c.args.low (c.args.high - c.args.low) l.point-index (omega arith) in
+    let at : c.slot-q.result ≡ place_at c.args.order.now (c.args.low + l.point-index) = c.slot-q.ensures ∙ item _ c.args.low (c.args.high - c.args.low) l.point-index (omega arith) in
     (passing_ready _ _ _ _ _ _ _ l.point-index _ _ l.invariant _ at _ c.passes.ensures _ (omega arith) c.if-passes.true c.requires.ready, search rules)
 
 pub loop-point-preserved : goal.loop-point-preserved
 loop-point-preserved c =
     let l = c.loop-point in
-    let at : c.slot-q.result ≡ place_at c.args.dag.now.order.now (c.args.low + l.point-index) = c.slot-q.ensures ∙ item _ c.args.low (c.args.high - c.args.low) l.point-index (omega arith) in
+    let at : c.slot-q.result ≡ place_at c.args.order.now (c.args.low + l.point-index) = c.slot-q.ensures ∙ item _ c.args.low (c.args.high - c.args.low) l.point-index (omega arith) in
     let is = c.passes.ensures in
     elim c.if-passes.branch [ then-passes w ↦ passing-yes _ _ _ _ _ _ _ _ _ _ l.invariant _ at _ is _ _ _ _ w.if-passes.true w.emit_single-out.ensures w.out-is w.b-is | else-passes w ↦ passing_no _ _ _ _ _ _ _ _ _ _ l.invariant _ at _ is _ _ w.if-passes.false w.out-is w.b-is ]
 

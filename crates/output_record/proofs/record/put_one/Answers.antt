@@ -17,7 +17,7 @@ pub overflow_sub-from : goal.overflow_sub-from
 overflow_sub-from c =
     let a = c.args in
     let h = c.requires.round_listed.0 in
-    omega (arith, counted a.dag.now.keys.now a.dag.now.order.now a.n a.dag.now.certs.now a.marks.now a.lists.now a.end a.round.0 h _ c.span_at-span.ensures _ c.count_linked-count.ensures, h.long)
+    omega (arith, counted a.keys.now a.order.now a.n a.certs.now a.marks.now a.lists.now a.end a.round.0 h _ c.span_at-span.ensures _ c.count_linked-count.ensures, h.long)
 
 pub put_round-points-requires : goal.put_round-points-requires
 put_round-points-requires c =
@@ -26,8 +26,8 @@ put_round-points-requires c =
     let h = p.round_listed.0 in
     let is = c.span_at-span.ensures in
     let e = c.count_linked-count.ensures in
-    let k = counted a.dag.now.keys.now a.dag.now.order.now a.n a.dag.now.certs.now a.marks.now a.lists.now a.end a.round.0 h _ is _ e in
-    let out = ap length (counted_out a.dag.now.keys.now a.dag.now.order.now a.n a.dag.now.certs.now a.marks.now a.lists.now a.end a.round.0 h _ is _ e) in record { n_in_bounds = (omega (arith, k, h.long, h.within), counted_list _ _ _ _ _ _ _ _ h _ is _ e, omega (arith, h.tables.words, h.tables.keys), h.tables.words, h.tables.places, p.round_listed.1); run = (span_run _ _ _ _ _ _ _ _ h _ is, e); room = (omega (arith, out, p.room.0), omega (arith, out, p.room.1)) }
+    let k = counted a.keys.now a.order.now a.n a.certs.now a.marks.now a.lists.now a.end a.round.0 h _ is _ e in
+    let out = ap length (counted_out a.keys.now a.order.now a.n a.certs.now a.marks.now a.lists.now a.end a.round.0 h _ is _ e) in record { n_in_bounds = (omega (arith, k, h.long, h.within), counted_list _ _ _ _ _ _ _ _ h _ is _ e, omega (arith, h.tables.words, h.tables.keys), h.tables.words, h.tables.places, p.round_listed.1); run = (span_run _ _ _ _ _ _ _ _ h _ is, e); room = (omega (arith, out, p.room.0), omega (arith, out, p.room.1)) }
 
 pub returns : goal.returns
 returns c =

@@ -28,7 +28,7 @@ put_new-end-requires c =
     let p = c.requires in
     let q = c.ranked-q.ensures in
     let l = c.loop-i.invariant in
-    let room = last_room a.lists.now a.from a.n p.n_in_bounds.1 a.dag.now.certs.now _ (a.n - c.loop-i.i) _ _ (omega arith) (turned a.lists.now a.from a.n c.loop-i.i _ (omega arith) (omega arith) c.byte_at-v.ensures.0) q.value _ _ _ _ _ l.1.0 p.room in
+    let room = last_room a.lists.now a.from a.n p.n_in_bounds.1 a.certs.now _ (a.n - c.loop-i.i) _ _ (omega arith) (turned a.lists.now a.from a.n c.loop-i.i _ (omega arith) (omega arith) c.byte_at-v.ensures.0) q.value _ _ _ _ _ l.1.0 p.room in
     record { q_bound = (omega (arith, q.upper_bound, p.n_in_bounds.4), omega (arith, q.upper_bound, p.n_in_bounds.3), p.n_in_bounds.2, p.n_in_bounds.5); room = (room.0, omega (arith, room.1, l.0)) }
 
 pub loop-i-preserved : goal.loop-i-preserved
@@ -39,7 +39,7 @@ loop-i-preserved c =
     let l = c.loop-i.invariant in
     let w = c.put_new-end.ensures in
     let is = turned a.lists.now a.from a.n c.loop-i.i _ (omega arith) (omega arith) c.byte_at-v.ensures.0 in
-    let room = last_room a.lists.now a.from a.n p.n_in_bounds.1 a.dag.now.certs.now _ (a.n - c.loop-i.i) _ _ (omega arith) is q.value _ _ _ _ _ l.1.0 p.room in
+    let room = last_room a.lists.now a.from a.n p.n_in_bounds.1 a.certs.now _ (a.n - c.loop-i.i) _ _ (omega arith) is q.value _ _ _ _ _ l.1.0 p.room in
     let next : a.n - (c.loop-i.i - 1) ≡ a.n - c.loop-i.i + 1 = omega arith in (
       ap length w.1 ∙ (written-length _ _ _ ∙ (written-length _ _ _ ∙ l.0)),
       rw next (wrote-more _ _ _ _ _ _ _ _ _ _ _ _ _ room.0 l.1 w (last_more _ a.from a.n p.n_in_bounds.1 _ _ (a.n - c.loop-i.i) _ _ (omega arith) is q.value)),
@@ -48,4 +48,4 @@ loop-i-preserved c =
 pub returns : goal.returns
 returns c =
     let a = c.args in
-    wrote_is _ _ _ _ _ _ _ _ _ _ (last_all a.lists.now a.from a.n c.requires.n_in_bounds.1 a.dag.now.certs.now _ _ (omega arith)) c.loop-i.invariant.1
+    wrote_is _ _ _ _ _ _ _ _ _ _ (last_all a.lists.now a.from a.n c.requires.n_in_bounds.1 a.certs.now _ _ (omega arith)) c.loop-i.invariant.1

@@ -7,4 +7,4 @@ use Rattle.output_record.specs.Listed.{last_by}
 use Rattle.output_record.proofs.record.put_round.Given as goal
 
 abbrev pub invariant-loop-i : goal.invariant-loop-i
-invariant-loop-i l = (length l.b ≡ length l.initial.b) × Wrote l.dag.keys.now l.by l.ids l.told l.initial.b l.k (last_by l.dag.certs.now (linked_by l.dag.order.now l.marks l.low (l.high - l.low)) l.lists l.from l.n (l.n - l.i)) l.b l.end
+invariant-loop-i l = (length l.b ≡ length l.initial.b) × Wrote l.keys l.by l.ids l.told l.initial.b l.k (last_by l.certs (linked_by l.order l.marks l.low (l.high - l.low)) l.lists l.from l.n (l.n - l.i)) l.b l.end
